@@ -1,0 +1,149 @@
+// Document 01 as definitions: they stand in specs/, in the order in which a person reads them.
+// Here are the types that definitions and code share. A number in brackets is a word of the sheet; "id" is a name's place.
+
+// "55 unary(0, 1)": the Rust's order.
+pub enum UnaryOp {
+    Not,
+    Neg,
+}
+
+// "56 binary(0 to 19, the Rust's order)".
+pub enum BinOp {
+    And,
+    Or,
+    Xor,
+    Implies,
+    Eq,
+    Neq,
+    Lt,
+    Le,
+    Gt,
+    Ge,
+    Add,
+    Sub,
+    Mul,
+    Div,
+    Mod,
+    BitAnd,
+    BitOr,
+    BitXor,
+    Shl,
+    Shr,
+}
+
+// "20 to 31 the types Bool to Char in the Rust's order".
+pub enum Primitive {
+    Bool,
+    Int8,
+    Int16,
+    Int32,
+    Int64,
+    Uint8,
+    Uint16,
+    Uint32,
+    Uint64,
+    Float32,
+    Float64,
+    Char,
+}
+
+// "50 bool(0/1), 51 int(low), 52 float(low), 53 char(0 to 255)": of an int and a float, the high word is the next token.
+pub enum Literal {
+    Bool(u32),
+    Int(u32),
+    Float(u32),
+    Char(u32),
+}
+
+// "41 kind(0 function, 1 operator, 2 imported)".
+pub enum NodeKind {
+    Function,
+    Operator,
+    Imported,
+}
+
+// The first token of a type: "20 to 31 the types Bool to Char, 32 array(length), 33 named(id)".
+pub enum TypeToken {
+    Basic(Primitive),
+    Array(u32),
+    Named(u32),
+}
+
+// The first token of a type's definition: "10 enum(id), 11 record(id), 12 alias(id)".
+pub enum DefinitionToken {
+    Enum(u32),
+    Record(u32),
+    Alias(u32),
+}
+
+// The first token of an expression: tags 50 to 71.
+pub enum ExprToken {
+    Const(Literal),
+    Var(u32),
+    Unary(UnaryOp),
+    Binary(BinOp),
+    If,
+    Pre,
+    Arrow,
+    Call(u32),
+    Field(u32),
+    Index,
+    Tuple,
+    Array,
+    Struct(u32),
+    Cast,
+    When(u32),
+    WhenNot(u32),
+    Merge(u32),
+    Map(u32),
+    Fold(u32),
+}
+
+// A token of a sheet.
+pub enum Token {
+    Types(u32),
+    Nodes(u32),
+    Count(u32),
+    Name(u32),
+    High(u32),
+    Definition(DefinitionToken),
+    Type(TypeToken),
+    Node(u32),
+    Kind(NodeKind),
+    Expression(ExprToken),
+}
+
+// The test of a condition: its name is true, or is not.
+pub enum Test {
+    On,
+    Not,
+}
+
+// "a condition (name, on or not)".
+pub struct Condition {
+    pub name: u32,
+    pub test: Test,
+}
+
+// "A fault record holds node, fault and equation."
+pub struct FaultRecord {
+    pub node: u32,
+    pub fault: u32,
+    pub equation: u32,
+}
+
+// Why a sheet is turned down, in checking order, with its place; `Faulty` with the count of all faulty nodes.
+pub enum Refusal {
+    Short,
+    Size(usize),
+    Length,
+    Name(usize),
+    Token(usize),
+    Limit(usize),
+    Cycle(usize),
+    Missing,
+    Deep(usize),
+    Faulty(usize),
+    Large,
+    Lent(usize),
+}

@@ -1,0 +1,2 @@
+-- Laws on names that the functions' proofs cite.
+pub mod Laws

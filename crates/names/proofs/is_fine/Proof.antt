@@ -1,0 +1,59 @@
+-- `names::is_fine` meets its contract. Assumes nothing.
+use Prim.Native.Nat.{_+_}
+use mathlib.Core.Path.{sym, ap, _∙_}
+use native.Mathlib.Omega.{arith}
+use borrow.Author.Needs.{needs}
+use borrow.Author.Tests.{not-true, not-false}
+use denote.Ref.{now}
+use Rattle.names.specs.Places.{before}
+use Rattle.definitions.specs.Bytes.{wellFormed}
+use Rattle.names.proofs.Laws.{end-within, part-name, fine, fine-ill, fine-else}
+use Rattle.names.proofs.is_fine.Statement.{statement}
+use Rattle.names.proofs.is_fine.Tie as tie
+
+shared-slice-read-wide : tie.Need-shared-slice-read-wide
+shared-slice-read-wide c = search needs
+
+wide-requires : tie.Need-wide-requires
+wide-requires c κs = search needs
+
+add-end : tie.Need-add-end
+add-end c = omega (arith, end-within (now (c .before .before .before .before .args .lengths)) (now (c .before .before .before .before .args .letters)) (c .before .before .before .before .args .i) (c .before .before .before .before .pre .1 .1), c .before .before .before .before .pre .1 .0, c .wide .ensures)
+
+sub-well-formed : tie.Need-sub-well-formed
+sub-well-formed c = search needs
+
+part-well-formed-start : tie.Need-part-well-formed-start
+part-well-formed-start c = search needs
+
+part-well-formed-end : tie.Need-part-well-formed-end
+part-well-formed-end c = omega (arith, end-within (now (c .before .before .before .before .args .lengths)) (now (c .before .before .before .before .args .letters)) (c .before .before .before .before .args .i) (c .before .before .before .before .pre .1 .1), c .before .before .before .before .pre .1 .0, c .wide .ensures)
+
+well-formed-requires : tie.Need-well-formed-requires
+well-formed-requires c κs = search needs
+
+returns : tie.Need-returns
+unfolding fine
+returns c = sym (fine-ill (now (c .before .before .before .before .before .before .before .args .lengths)) (now (c .before .before .before .before .before .before .before .args .letters)) (c .before .before .before .before .before .before .before .args .i) (sym (ap wellFormed (part-name (now (c .before .before .before .before .before .before .before .args .lengths)) (now (c .before .before .before .before .before .before .before .args .letters)) (c .before .before .before .before .before .before .before .args .i) (c .before .before .before .before .before .before .before .args .at) _ (c .before .before .before .before .before .before .before .pre .1 .0) (ap (λ n. c .before .before .before .before .before .before .before .args .at + n) (c .before .before .before .wide .ensures)))) ∙ (sym (c .before .well-formed .ensures) ∙ not-true _ (c .if1 .taken))))
+
+repeats-requires : tie.Need-repeats-requires
+repeats-requires c κs = search needs
+
+returns-2 : tie.Need-returns-2
+unfolding fine
+returns-2 c = fine-else (now (c .before .before .before .before .before .before .before .before .args .lengths)) (now (c .before .before .before .before .before .before .before .before .args .letters)) (c .before .before .before .before .before .before .before .before .args .i) _ (sym (ap wellFormed (part-name (now (c .before .before .before .before .before .before .before .before .args .lengths)) (now (c .before .before .before .before .before .before .before .before .args .letters)) (c .before .before .before .before .before .before .before .before .args .i) (c .before .before .before .before .before .before .before .before .args .at) _ (c .before .before .before .before .before .before .before .before .pre .1 .0) (ap (λ n. c .before .before .before .before .before .before .before .before .args .at + n) (c .before .before .before .before .wide .ensures)))) ∙ (sym (c .before .before .well-formed .ensures) ∙ not-false _ (c .before .if1 .left))) (c .repeats .ensures)
+
+pub is-fine-spec : {M : Type 1} → statement M
+is-fine-spec =
+    tie.close
+    (tie.spec
+    shared-slice-read-wide
+    wide-requires
+    add-end
+    sub-well-formed
+    part-well-formed-start
+    part-well-formed-end
+    well-formed-requires
+    returns
+    repeats-requires
+    returns-2)

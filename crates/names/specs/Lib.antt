@@ -1,0 +1,2 @@
+-- Where the names of a sheet stand.
+pub mod Places

@@ -1,0 +1,21 @@
+-- `tokens::as_kind` meets its contract: what was found is wrapped.
+-- Assumes nothing.
+use borrow.Author.Tests.{eq-eqb, ne-eqb, lt-ltb, le-ltb}
+use borrow.Author.Needs.{needs}
+use Rattle.tokens.proofs.as_kind.Statement.{statement}
+use Rattle.tokens.proofs.as_kind.Tie as tie
+
+enum-known-f : tie.Need-enum-known-f
+enum-known-f c = search needs
+
+enum-told : tie.Need-enum-told
+enum-told c = search needs
+
+returns : tie.Need-returns
+returns c = rw (c .before .f .given .1)
+
+returns-2 : tie.Need-returns-2
+returns-2 c = search needs
+
+pub as-kind-spec : {M : Type 1} → statement M
+as-kind-spec = tie.close (tie.spec enum-known-f enum-told returns returns-2)

@@ -96,7 +96,7 @@ module _ (x y : List ℕ) (i : ℕ) where
   same-end h k = rw (drop-of-length-le x h, drop-of-length-le y k)
 
 -- ---- places
-sum-drop : (l : List ℕ) (i : ℕ) → sum (drop i l) ≡ getD l i 0 + sum (drop (suc i) l)
+pub sum-drop : (l : List ℕ) (i : ℕ) → sum (drop i l) ≡ getD l i 0 + sum (drop (suc i) l)
 sum-drop [] zero = refl
 sum-drop [] (suc i) = refl
 sum-drop (n ∷ l) zero = refl

@@ -4,6 +4,7 @@ use mathlib.Core.Path.{_≡_, refl, sym, ap, _∙_}
 use native.Mathlib.Omega.{arith}
 use borrow.Author.Needs.{needs}
 use denote.Ref.{now}
+use mathlib.Core.Bool.{_||_}
 use Rattle.definitions.specs.Lists.{any, sameLetters}
 use Rattle.names.specs.Places.{start, nameAt, before}
 use Rattle.names.proofs.Laws.{start-sum, end-within, start-last, repeat-at}
@@ -16,6 +17,10 @@ Inv-loop lengths letters i at end j₀ to₀ j to =
 
 abbrev μ-loop : tie.MeasureT-loop
 μ-loop lengths letters i at end j₀ to₀ j to = j
+
+-- where one more earlier name is compared
+looked : (c : tie.After-same Inv-loop μ-loop) → any (sameLetters (nameAt (now (c .before .before .before .before .before .before .before .before .before .before .before .args .lengths)) (now (c .before .before .before .before .before .before .before .before .before .before .before .args .letters)) (c .before .before .before .before .before .before .before .before .before .before .before .args .i))) (before (now (c .before .before .before .before .before .before .before .before .before .before .before .args .lengths)) (now (c .before .before .before .before .before .before .before .before .before .before .before .args .letters)) (c .before .before .before .before .before .before .before .before .before .before .before .args .i)) ≡ (c .same .result || any (sameLetters (nameAt (now (c .before .before .before .before .before .before .before .before .before .before .before .args .lengths)) (now (c .before .before .before .before .before .before .before .before .before .before .before .args .letters)) (c .before .before .before .before .before .before .before .before .before .before .before .args .i))) (before (now (c .before .before .before .before .before .before .before .before .before .before .before .args .lengths)) (now (c .before .before .before .before .before .before .before .before .before .before .before .args .letters)) (c .before .before .before .before .before .before .loop .j - 1)))
+looked c = c .before .before .before .before .before .before .loop .inv .2 ∙ repeat-at (now (c .before .before .before .before .before .before .before .before .before .before .before .args .lengths)) (now (c .before .before .before .before .before .before .before .before .before .before .before .args .letters)) (c .before .before .before .before .before .before .before .before .before .before .before .args .i) (c .before .before .before .before .before .before .before .before .before .before .before .args .at) _ (c .before .before .before .before .before .before .before .before .before .before .before .pre .1 .0) (ap (λ n. c .before .before .before .before .before .before .before .before .before .before .before .args .at + n) (c .before .before .before .before .before .before .before .wide .ensures)) (c .before .before .before .before .before .before .loop .j) (c .before .before .before .before .before .before .loop .to) _ (omega (arith, c .before .before .before .before .before .loop-test .taken)) (c .before .before .before .before .before .before .loop .inv .1) (ap (λ n. c .before .before .before .before .before .before .loop .to - n) (c .before .before .before .wide2 .ensures)) _ (c .same .ensures)
 
 shared-slice-read-wide : tie.Need-shared-slice-read-wide Inv-loop μ-loop
 shared-slice-read-wide c = search needs
@@ -63,13 +68,13 @@ same-requires : tie.Need-same-requires Inv-loop μ-loop
 same-requires c κs = search needs
 
 returns : tie.Need-returns Inv-loop μ-loop
-returns c = sym (c .before .before .before .before .before .before .before .loop .inv .2 ∙ (repeat-at (now (c .before .before .before .before .before .before .before .before .before .before .before .before .args .lengths)) (now (c .before .before .before .before .before .before .before .before .before .before .before .before .args .letters)) (c .before .before .before .before .before .before .before .before .before .before .before .before .args .i) (c .before .before .before .before .before .before .before .before .before .before .before .before .args .at) _ (c .before .before .before .before .before .before .before .before .before .before .before .before .pre .1 .0) (ap (λ n. c .before .before .before .before .before .before .before .before .before .before .before .before .args .at + n) (c .before .before .before .before .before .before .before .before .wide .ensures)) (c .before .before .before .before .before .before .before .loop .j) (c .before .before .before .before .before .before .before .loop .to) _ (omega (arith, c .before .before .before .before .before .before .loop-test .taken)) (c .before .before .before .before .before .before .before .loop .inv .1) (ap (λ n. c .before .before .before .before .before .before .before .loop .to - n) (c .before .before .before .before .wide2 .ensures)) _ (c .before .same .ensures) ∙ rw (c .if1 .taken)))
+returns c = sym (looked (c .before) ∙ rw (c .if1 .taken))
 
 loop-less : tie.Need-loop-less Inv-loop μ-loop
 loop-less c = search needs
 
 loop-again : tie.Need-loop-again Inv-loop μ-loop
-loop-again c = (omega arith, omega (arith, start-last (now (c .before .before .before .before .before .before .before .before .before .before .before .before .args .lengths)) (now (c .before .before .before .before .before .before .before .before .before .before .before .before .args .letters)) (c .before .before .before .before .before .before .before .loop .j) (omega (arith, c .before .before .before .before .before .before .loop-test .taken)), c .before .before .before .before .wide2 .ensures, c .before .before .before .before .before .before .before .loop .inv .1), c .before .before .before .before .before .before .before .loop .inv .2 ∙ (repeat-at (now (c .before .before .before .before .before .before .before .before .before .before .before .before .args .lengths)) (now (c .before .before .before .before .before .before .before .before .before .before .before .before .args .letters)) (c .before .before .before .before .before .before .before .before .before .before .before .before .args .i) (c .before .before .before .before .before .before .before .before .before .before .before .before .args .at) _ (c .before .before .before .before .before .before .before .before .before .before .before .before .pre .1 .0) (ap (λ n. c .before .before .before .before .before .before .before .before .before .before .before .before .args .at + n) (c .before .before .before .before .before .before .before .before .wide .ensures)) (c .before .before .before .before .before .before .before .loop .j) (c .before .before .before .before .before .before .before .loop .to) _ (omega (arith, c .before .before .before .before .before .before .loop-test .taken)) (c .before .before .before .before .before .before .before .loop .inv .1) (ap (λ n. c .before .before .before .before .before .before .before .loop .to - n) (c .before .before .before .before .wide2 .ensures)) _ (c .before .same .ensures) ∙ rw (c .if1 .left)))
+loop-again c = (omega arith, omega (arith, start-last (now (c .before .before .before .before .before .before .before .before .before .before .before .before .args .lengths)) (now (c .before .before .before .before .before .before .before .before .before .before .before .before .args .letters)) (c .before .before .before .before .before .before .before .loop .j) (omega (arith, c .before .before .before .before .before .before .loop-test .taken)), c .before .before .before .before .wide2 .ensures, c .before .before .before .before .before .before .before .loop .inv .1), looked (c .before) ∙ rw (c .if1 .left))
 
 returns-2 : tie.Need-returns-2 Inv-loop μ-loop
 unfolding before

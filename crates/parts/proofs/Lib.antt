@@ -1,0 +1,3 @@
+-- Laws on a sheet's bytes.
+pub mod Words
+pub mod Laws

@@ -1,0 +1,92 @@
+-- `parts::read_sizes` meets its contract. Assumes nothing.
+use native.Mathlib.Omega.{arith}
+use borrow.Author.Needs.{needs}
+use denote.Ref.{now}
+use Rattle.parts.specs.Answers.{SizesTold}
+use Rattle.parts.proofs.Laws.{SizesRead, short, sizes-read, many-names, many-letters, few-tokens, many-tokens, other-length, sized}
+use Rattle.parts.proofs.read_sizes.Statement.{statement}
+use Rattle.parts.proofs.read_sizes.Tie as tie
+
+-- where the three sizes are read
+sizes : (c : tie.After-wide-word3) → SizesRead (now (c .before .before .before .before .before .before .before .before .args .sheet)) (c .before .before .before .before .wide-word .result) (c .before .before .wide-word2 .result) (c .wide-word3 .result)
+sizes c = sizes-read (now (c .before .before .before .before .before .before .before .before .args .sheet)) (c .before .before .before .before .before .before .if1 .left) _ _ _ _ _ _ (c .before .before .before .before .before .read-word .ensures) (c .before .before .before .read-word2 .ensures) (c .before .read-word3 .ensures) (c .before .before .before .before .wide-word .ensures) (c .before .before .wide-word2 .ensures) (c .wide-word3 .ensures)
+
+returns : tie.Need-returns
+unfolding SizesTold
+returns c = short (now (c .before .before .args .sheet)) (c .if1 .taken)
+
+read-word-requires : tie.Need-read-word-requires
+read-word-requires c κs = search needs
+
+wide-word-requires : tie.Need-wide-word-requires
+wide-word-requires c κs = search needs
+
+read-word-requires-2 : tie.Need-read-word-requires-2
+read-word-requires-2 c κs = search needs
+
+wide-word-requires-2 : tie.Need-wide-word-requires-2
+wide-word-requires-2 c κs = search needs
+
+read-word-requires-3 : tie.Need-read-word-requires-3
+read-word-requires-3 c κs = search needs
+
+wide-word-requires-3 : tie.Need-wide-word-requires-3
+wide-word-requires-3 c κs = search needs
+
+returns-2 : tie.Need-returns-2
+unfolding SizesTold
+returns-2 c = many-names (now (c .before .before .before .before .before .before .before .before .before .args .sheet)) (c .before .before .before .before .before .before .before .if1 .left) (omega (arith, c .if2 .taken, sizes (c .before) .names))
+
+returns-3 : tie.Need-returns-3
+unfolding SizesTold
+returns-3 c = many-letters (now (c .before .before .before .before .before .before .before .before .before .before .args .sheet)) (c .before .before .before .before .before .before .before .before .if1 .left) (omega (arith, c .before .if2 .left, sizes (c .before .before) .names)) (omega (arith, c .if3 .taken, sizes (c .before .before) .letters))
+
+returns-4 : tie.Need-returns-4
+unfolding SizesTold
+returns-4 c = few-tokens (now (c .before .before .before .before .before .before .before .before .before .before .before .args .sheet)) (c .before .before .before .before .before .before .before .before .before .if1 .left) (omega (arith, c .before .before .if2 .left, sizes (c .before .before .before) .names)) (omega (arith, c .before .if3 .left, sizes (c .before .before .before) .letters)) (omega (arith, c .if4 .taken, sizes (c .before .before .before) .tokens))
+
+returns-5 : tie.Need-returns-5
+unfolding SizesTold
+returns-5 c = many-tokens (now (c .before .before .before .before .before .before .before .before .before .before .before .before .args .sheet)) (c .before .before .before .before .before .before .before .before .before .before .if1 .left) (omega (arith, c .before .before .before .if2 .left, sizes (c .before .before .before .before) .names)) (omega (arith, c .before .before .if3 .left, sizes (c .before .before .before .before) .letters)) (omega (arith, c .before .if4 .left, sizes (c .before .before .before .before) .tokens)) (omega (arith, c .if5 .taken, sizes (c .before .before .before .before) .tokens))
+
+add-if6 : tie.Need-add-if6
+add-if6 c = search needs
+
+add-if6-2 : tie.Need-add-if6-2
+add-if6-2 c = search needs
+
+mul-if6 : tie.Need-mul-if6
+mul-if6 c = search needs
+
+add-if6-3 : tie.Need-add-if6-3
+add-if6-3 c = search needs
+
+returns-6 : tie.Need-returns-6
+unfolding SizesTold
+returns-6 c = other-length (now (c .before .before .before .before .before .before .before .before .before .before .before .before .before .args .sheet)) (c .before .before .before .before .before .before .before .before .before .before .before .if1 .left) (omega (arith, c .before .before .before .before .if2 .left, sizes (c .before .before .before .before .before) .names)) (omega (arith, c .before .before .before .if3 .left, sizes (c .before .before .before .before .before) .letters)) (omega (arith, c .before .before .if4 .left, sizes (c .before .before .before .before .before) .tokens)) (omega (arith, c .before .if5 .left, sizes (c .before .before .before .before .before) .tokens)) (λ e. c .if6 .taken (omega (arith, e, sizes (c .before .before .before .before .before) .names, sizes (c .before .before .before .before .before) .letters, sizes (c .before .before .before .before .before) .tokens)))
+
+returns-7 : tie.Need-returns-7
+unfolding SizesTold
+returns-7 c = sized (now (c .before .before .before .before .before .before .before .before .before .before .before .before .before .args .sheet)) _ _ _ (sizes (c .before .before .before .before .before)) (c .before .before .before .before .before .before .before .before .before .before .before .if1 .left) (c .before .before .before .before .if2 .left) (c .before .before .before .if3 .left) (c .before .before .if4 .left) (c .before .if5 .left) (c .if6 .left)
+
+pub read-sizes-spec : {M : Type 1} → statement M
+read-sizes-spec =
+    tie.close
+    (tie.spec
+    returns
+    read-word-requires
+    wide-word-requires
+    read-word-requires-2
+    wide-word-requires-2
+    read-word-requires-3
+    wide-word-requires-3
+    returns-2
+    returns-3
+    returns-4
+    returns-5
+    add-if6
+    add-if6-2
+    mul-if6
+    add-if6-3
+    returns-6
+    returns-7)

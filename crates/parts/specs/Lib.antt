@@ -1,0 +1,2 @@
+-- The answers of `parts`, and what stands in the working arrays.
+pub mod Answers

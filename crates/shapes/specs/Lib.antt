@@ -1,0 +1,2 @@
+-- What trees the sheet format can say.
+pub mod Shape

@@ -39,7 +39,7 @@ input bytes =
     accepted (record { names = p .names; sheet = s })
 
 -- each node with its clocks, from node i on; 9: "A clock of more than eight conditions is formed, in any pass or check of a node that
--- uses clocks; the place is the first such node." (One that uses no clocks forms none: `clockless` in proofs/.)
+-- uses clocks; the place is the first such node." (One that uses no clocks forms none: `clockless` in crate shapes.)
 unfoldable pub clockings : ℕ → List Node → Answer (List ClockedNode)
 unfolding clocking
 clockings i [] = accepted []

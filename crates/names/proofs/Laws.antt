@@ -24,6 +24,12 @@ or-second x y z r s p q u v = rw (← p, q, ← u, v)
 pub or-last : (x y z r s : Bool) → r ≡ x → r ≡ false → s ≡ y → s ≡ false → z ≡ (x || y || z)
 or-last x y z r s p q u v = rw (← p, q, ← u, v)
 
+pub or-found : (y r x : Bool) → y ≡ (r || x) → r ≡ true → y ≡ true
+or-found y r x e h = e ∙ rw h
+
+pub or-passed : (y r x : Bool) → y ≡ (r || x) → r ≡ false → y ≡ x
+or-passed y r x e h = e ∙ rw h
+
 and-false : (x : Bool) → (x && false) ≡ false
 and-false true = refl
 and-false false = refl

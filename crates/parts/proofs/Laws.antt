@@ -11,11 +11,11 @@ use borrow.Author.Tests.{le-leb, lt-leb, eq-eqb, ne-eqb, eqb-true, eqb-false}
 use Rattle.definitions.specs.declared.Refusal.{Refusal}
 use Rattle.definitions.specs.declared.FaultRecord.{FaultRecord}
 use Rattle.definitions.specs.Lists.{sum, over}
-use Rattle.definitions.specs.Refusals.{Answer, accepted, refused, faulty, must, _>>=_}
+use Rattle.definitions.specs.Refusals.{Answer, accepted, refused, faulty, told, must, _>>=_}
 use Rattle.definitions.specs.Bytes.{Parts, size, M, L, T, lengths, letters, tags, values, tokens, fourByteWords, cut, badName, parts}
 use Rattle.parts.specs.declared.Sizes.{Sizes}
 use Rattle.parts.specs.declared.PartsAnswer.{PartsAnswer}
-use Rattle.parts.specs.Answers.{wordAt, sizesOf, partsOf, answered, partsAnswer, tagsAfter, valuesAfter, Sized, Accepted}
+use Rattle.parts.specs.Answers.{wordAt, sizesOf, partsOf, answered, toldOf, partsAnswer, tagsAfter, valuesAfter, Sized, Accepted}
 use Rattle.parts.proofs.Words.{word-of, word-take, words-length}
 
 -- the sizes that the code reads are the sheet's
@@ -248,6 +248,15 @@ module _ (b : List ℕ) where
       other-fault f = let z : _≡_ {A = ℕ} 0 1 = cc in omega arith
 
   -- the code's answer tells the definition's
+  pub answer-told : toldOf (partsAnswer b) ≡ told (parts b)
+  unfolding partsAnswer
+  answer-told = go (parts b)
+    where
+      go : (a : Answer Parts) → toldOf (answered a b) ≡ told a
+      go (accepted p) = refl
+      go (refused r) = refl
+      go (faulty l) = refl
+
   pub answer-refused : (r : Refusal) → PartsAnswer.Refused r ≡ partsAnswer b → parts b ≡ refused r
   unfolding partsAnswer
   answer-refused r e = go (parts b) refl e

@@ -5,7 +5,7 @@ use mathlib.Core.List.{List, []}
 use lib.ListN.{length, getD}
 use Rattle.definitions.specs.declared.Refusal.{Refusal}
 use Rattle.definitions.specs.Lists.{sum, over}
-use Rattle.definitions.specs.Refusals.{Answer, accepted, refused, faulty}
+use Rattle.definitions.specs.Refusals.{Answer, accepted, refused, faulty, Told, fine, down}
 use Rattle.definitions.specs.Bytes.{Parts, M, L, T, lengths, letters, tags, values, tokens, cut, badName, parts, mostNames, mostLetters, fewestTokens, mostTokens}
 use Rattle.parts.specs.declared.Sizes.{Sizes}
 use Rattle.parts.specs.declared.PartsAnswer.{PartsAnswer}
@@ -28,6 +28,12 @@ answered (accepted p) bytes = PartsAnswer.Parts (sizesOf bytes)
 answered (refused r) bytes = PartsAnswer.Refused r
 answered (faulty l) bytes = PartsAnswer.Refused (Refusal.Faulty (length l))
 
+-- the refusal that the code's answer tells, where it does
+abbrev pub toldOf : PartsAnswer → Told
+toldOf (PartsAnswer.Parts s) = fine
+toldOf (PartsAnswer.Refused r) = down r
+
+-- the code's answer for a sheet
 unfoldable pub partsAnswer : List ℕ → PartsAnswer
 partsAnswer bytes = answered (parts bytes) bytes
 

@@ -1,7 +1,6 @@
 -- The clocks of a shaped node are made of its names, so their conditions' ids are below the same bound.
-use mathlib.Core.Path.{_≡_, refl}
 use mathlib.Core.Bool.{Bool, true, false}
-use mathlib.Core.List.{List, List·Memᴰ}
+use mathlib.Core.List.{List·Memᴰ}
 use mathlib.Core.Option.{none, some}
 use Prim.Native.Nat.{ℕ, _<_}
 use lib.Dec.{ltb}
@@ -9,7 +8,7 @@ use Rattle.definitions.specs.declared.Condition.{Condition}
 use Rattle.definitions.specs.Lists.{choose, any, join, numbered}
 use Rattle.definitions.specs.Tree.{Expr, Exprs, Equation, Node}
 use Rattle.definitions.specs.Clock.{Clock, base, _/_, depth, deepest}
-use Rattle.definitions.specs.InferClocks.{Formed, deep, formed, Clocks, clockOf, Natural, natural, naturals, _or_, conditionOver, parentOf, Clocked, Clocking, clocking, inferred, clockedBy, checkEquation, isTooDeep}
+use Rattle.definitions.specs.InferClocks.{deep, formed, Clocks, clockOf, Natural, natural, naturals, _or_, conditionOver, parentOf, Clocked, Clocking, clocking, inferred, clockedBy, checkEquation, isTooDeep}
 use Rattle.shapes.proofs.Facts.{All}
 use Rattle.shapes.proofs.Inference.{Forms, forms-after, SomeClock, Known, clockOf-known, inferred-known, clockedBy-known, KnownEquation}
 use Rattle.shapes.specs.Shape.{Shaped, Shapeds, ShapedEquation}

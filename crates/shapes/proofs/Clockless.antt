@@ -1,15 +1,15 @@
 -- A node that uses no clocks is on base throughout: no clock is too deep, nothing is found but ticks on base, and rewriting leaves it as it is.
-use mathlib.Core.Path.{_≡_, refl, sym, ap, ap₂, _∙_, subst, subst⁻¹}
-use mathlib.Core.Bool.{Bool, true, false, _||_, true≢false}
-use mathlib.Core.List.{List, [], _∷_, _++_, map, append-nil, List·Memᴰ, List·Memᴰ·head, List·Memᴰ·tail}
+use mathlib.Core.Path.{_≡_, refl, sym, ap, _∙_, subst, subst⁻¹}
+use mathlib.Core.Bool.{Bool, true, false, true≢false}
+use mathlib.Core.List.{List, [], _∷_, map, append-nil, List·Memᴰ·head, List·Memᴰ·tail}
 use mathlib.Core.Option.{Option, none, some}
 use Prim.Native.Nat.{ℕ, suc}
-use Rattle.definitions.specs.Lists.{choose, any, join, numbered, Letters, bytes}
+use Rattle.definitions.specs.Lists.{choose, any, join, numbered, Letters}
 use Rattle.definitions.specs.Tree.{TypeDef, Expr, Exprs, Equation, Node, Sheet}
 use Rattle.definitions.specs.Clock.{Clock, base, isBase, sameClock}
-use Rattle.definitions.specs.InferClocks.{Formed, deep, formed, Clocks, clockOf, Natural, natural, naturals, _or_, Inferred, inferred, isPort, Fault, Finding, found, site, tooDeep, mustBeOn, check, checks, checkLeft, Clocked, orBase, clockedBy, checkEquation, Clocking, isTooDeep, clocking, NodeFault, clockFaults, sites, samples, sampled, usesClocks}
+use Rattle.definitions.specs.InferClocks.{Formed, deep, formed, Clocks, clockOf, Natural, natural, naturals, _or_, Inferred, inferred, Fault, Finding, found, site, tooDeep, mustBeOn, check, checks, checkLeft, Clocked, orBase, clockedBy, checkEquation, Clocking, isTooDeep, clocking, NodeFault, clockFaults, sites, samples, sampled, usesClocks}
 use Rattle.definitions.specs.Declock.{State, nothingNeeded, Stem, Rewritten, done, Rewriter, after, Shape, bare, other, calls, shapeOf, preOn, heldPre, rewrite, rewrites, rightSide, oldEquations, newLocals, withNew}
-use Rattle.definitions.specs.Output.{newLetters, newId, condactId, ClockedNode, rewritten, nodeFaults}
+use Rattle.definitions.specs.Output.{newId, condactId, ClockedNode, rewritten, stoppedAt, nodeFaults, outputNode}
 use Rattle.shapes.proofs.Facts.{All, all-nil, all-cons, all-app, or-left, or-right}
 use Rattle.shapes.proofs.Inference.{Forms, SomeClock, Known, clockOf-known, inferred-known}
 
@@ -213,3 +213,47 @@ clockless n f =
     let flat = unsampled (n .equations) f in
     let r = is-formed (λ r. Known IsBase (r .clocks)) (inferred n) (inferred-known ⊥ IsBase refl n (λ e m cl k. natural-flat cl k (e .right) (flat e m))) in
     (whole n (r .0), from-inferred n flat (r .0) (r .1) (r .2))
+
+formed-eq : {A : Type 0} (a b : A) → formed a ≡ formed b → a ≡ b
+formed-eq {A} a b e = ap un e
+  where
+    un : Formed A → A
+    un deep = a
+    un (formed c) = c
+
+-- the same of the clocks that such a node has
+pub clockless-as : (n : Node) (k : Clocking) → usesClocks n ≡ false → clocking n ≡ formed k → Clockless n k
+clockless-as n k f e = let r = clockless n f in subst (Clockless n) (formed-eq (r .0) k (sym (r .1 .clocks) ∙ e)) (r .1)
+
+-- where nothing was needed, the rewritten node is the node as it came
+pub as-came : (letters : ℕ → Letters) (new : Stem → ℕ → ℕ) (n : Node) → withNew new n (newLocals letters new nothingNeeded) (n .equations) ≡ n
+unfolding withNew newLocals
+as-came letters new n = λ i. record { name = n .name; kind = n .kind; inputs = n .inputs; outputs = n .outputs; locals = append-nil (n .locals) i; equations = n .equations; probes = n .probes }
+
+-- so the output has such a node as it came, with or without looking whether it uses clocks
+pub output-as-came : (names : List Letters) (sheet : Sheet) (all : List Letters) (n : ClockedNode) → usesClocks (n .node) ≡ false → outputNode names sheet all n ≡ n .node
+unfolding outputNode
+output-as-came names sheet all n f = rw f
+
+-- and has no fault
+pub no-node-faults : (names : List Letters) (sheet : Sheet) (n : ClockedNode) → usesClocks (n .node) ≡ false → clocking (n .node) ≡ formed (n .clocking) → nodeFaults names sheet n ≡ []
+unfolding nodeFaults
+no-node-faults names sheet n f e = go (clockFaults (n .clocking .findings)) (usesClocks (n .node)) (clockless-as (n .node) (n .clocking) f e .no-faults) f
+  where
+    go : (l : List NodeFault) (u : Bool) → l ≡ [] → u ≡ false
+        → _≡_ {A = List NodeFault} (elim l as (λ x. List NodeFault) [ g ∷ rest ↦ g ∷ rest | [] ↦ (elim (choose u (stoppedAt names sheet (rewritten names sheet names n)) none) as (λ x. List NodeFault) [ none ↦ [] | some g ↦ g ∷ [] ]) ]) []
+    go [] false p q = refl
+    go [] true p q = absurd (true≢false q)
+    go (g ∷ l) u p q = p
+
+-- 9 is "of a node that uses clocks"
+pub deep-uses-clocks : (n : Node) → clocking n ≡ deep → usesClocks n ≡ true
+deep-uses-clocks n e = go (usesClocks n) refl
+  where
+    is-deep : Formed Clocking → Type 0
+    is-deep deep = Unit {0}
+    is-deep (formed k) = ⊥
+
+    go : (u : Bool) → usesClocks n ≡ u → u ≡ true
+    go true f = refl
+    go false f = let r = clockless n f in absurd (subst is-deep (sym e ∙ r .1 .clocks) tt)

@@ -1,10 +1,9 @@
 -- A token is known by its tag and value: `tokenOf` is the way back from `codeOf`.
 use mathlib.Core.Path.{_≡_, refl, sym, ap, ap₂, _∙_}
 use mathlib.Core.List.{List, [], _∷_, map}
-use mathlib.Core.Option.{Option, none, some, Option·some-injective}
+use mathlib.Core.Option.{some, Option·some-injective}
 use Prim.Native.Nat.{ℕ, _<_}
 use native.Mathlib.Omega.{arith}
-use lib.Dec.{ltb}
 use Rattle.definitions.specs.declared.UnaryOp.{UnaryOp}
 use Rattle.definitions.specs.declared.BinOp.{BinOp}
 use Rattle.definitions.specs.declared.Primitive.{Primitive}

@@ -1,5 +1,5 @@
 -- What the decoders allow: a token whose code is the tag and value that were read, and whose numbers are proper.
-use mathlib.Core.Path.{_≡_, refl, sym, ap, ap₂, _∙_}
+use mathlib.Core.Path.{_≡_, refl, sym, ap, ap₂}
 use mathlib.Core.Bool.{Bool, true, false}
 use mathlib.Core.Option.{Option, none, some}
 use Prim.Native.Nat.{ℕ, _<_, _≤_}
@@ -15,7 +15,7 @@ use Rattle.definitions.specs.declared.DefinitionToken.{DefinitionToken}
 use Rattle.definitions.specs.declared.ExprToken.{ExprToken}
 use Rattle.definitions.specs.declared.Token.{Token}
 use Rattle.definitions.specs.Lists.{choose}
-use Rattle.definitions.specs.Tokens.{TagValue, tagValue, given, mapped, words, unaryOf, binaryOf, primitiveOf, kindOf, typeTokenOf, definitionTokenOf, exprTokenOf, unaryValue, binaryValue, primitiveTag, codeOf}
+use Rattle.definitions.specs.Tokens.{tagValue, given, mapped, unaryOf, binaryOf, primitiveOf, kindOf, typeTokenOf, definitionTokenOf, exprTokenOf, unaryValue, binaryValue, primitiveTag, codeOf}
 use Rattle.definitions.specs.Grammar.{valueAt, kindAt}
 use Rattle.shapes.proofs.Facts.{eqb-eq, ltb-lt}
 use Rattle.shapes.proofs.Coded.{ProperType, ProperDefinition, ProperExpr}

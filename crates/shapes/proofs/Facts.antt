@@ -4,7 +4,7 @@ use mathlib.Core.Bool.{Bool, true, false, _&&_, _||_, true≢false, false≢true
 use mathlib.Core.List.{List, [], _∷_, _++_, append-assoc, append-nil, List·Memᴰ, List·Memᴰ·head, List·Memᴰ·tail, List·Memᴰ·not-nil, List·Memᴰ·append-cases}
 use mathlib.Core.Logic.{_⊎_, inl, inr}
 use Prim.Native.Nat.{ℕ, _<_, _≤_}
-use lib.Dec.{eqb, ltb, leb, T, eqb→eq, eqb-refl, ltb→lt, leb→le, lt→ltb}
+use lib.Dec.{eqb, ltb, leb, T, eqb→eq, ltb→lt, leb→le, lt→ltb}
 pub use Rattle.shapes.specs.Shape.{All}
 
 -- a test that passes

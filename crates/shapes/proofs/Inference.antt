@@ -1,15 +1,15 @@
 -- What inference keeps of clocks: P of every clock, if P of base and of each equation's natural clock.
-use mathlib.Core.Path.{_≡_, refl}
+use mathlib.Core.Path.{refl}
 use mathlib.Core.Bool.{Bool, true, false, _||_}
-use mathlib.Core.List.{List, [], _∷_, _++_, map, List·Memᴰ, List·Memᴰ·head, List·Memᴰ·tail}
+use mathlib.Core.List.{List, [], _∷_, map, List·Memᴰ, List·Memᴰ·head, List·Memᴰ·tail}
 use mathlib.Core.Option.{Option, none, some}
 use Prim.Native.Nat.{ℕ, zero, suc}
-use lib.Dec.{eqb, ltb}
+use lib.Dec.{eqb}
 use lib.ListN.{length}
 use Rattle.definitions.specs.Lists.{choose}
-use Rattle.definitions.specs.Tree.{Expr, Exprs, Equation, Node}
+use Rattle.definitions.specs.Tree.{Equation, Node}
 use Rattle.definitions.specs.Clock.{Clock, base}
-use Rattle.definitions.specs.InferClocks.{Formed, deep, formed, _>>=_, NameClock, Clocks, clockOf, Natural, natural, ports, isPort, hasClock, Pass, give, giveNatural, pass, Inferred, passesFrom, inferred, Clocked, orBase, clockedBy}
+use Rattle.definitions.specs.InferClocks.{Formed, deep, formed, _>>=_, Clocks, clockOf, natural, ports, isPort, hasClock, Pass, give, giveNatural, pass, passesFrom, inferred, Clocked, orBase, clockedBy}
 use Rattle.shapes.proofs.Facts.{All, all-nil, all-cons}
 
 -- Q of what is formed; D, if too deep a clock is

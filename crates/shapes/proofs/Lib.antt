@@ -23,5 +23,7 @@ pub mod RewriteShape
 -- The output: its names, and that its tree is shaped.
 pub mod Names
 pub mod OutputShape
+pub mod OutputBytes
+pub mod Answered
 -- Nodes that use no clocks.
 pub mod Clockless

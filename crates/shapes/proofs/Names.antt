@@ -5,7 +5,7 @@ use mathlib.Core.List.{List, [], _∷_, _++_, map}
 use Prim.Native.Nat.{ℕ, suc, _<_, _≤_}
 use native.Mathlib.Omega.{arith}
 use lib.ListN.{length, getD, List·getD-append}
-use Rattle.definitions.specs.Lists.{choose, any, placeBy, Letters, sameLetters, bytes}
+use Rattle.definitions.specs.Lists.{choose, any, Letters, sameLetters, bytes}
 use Rattle.definitions.specs.Tree.{Equation, Node, Sheet}
 use Rattle.definitions.specs.InferClocks.{usesClocks}
 use Rattle.definitions.specs.Declock.{State, Rewritten, stopped, done, newLocals}

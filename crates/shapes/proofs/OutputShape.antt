@@ -1,5 +1,5 @@
 -- The rewritten sheet is a tree that the format can say: `out-shaped`.
-use mathlib.Core.Path.{_≡_, refl, subst, subst⁻¹}
+use mathlib.Core.Path.{_≡_, refl, subst}
 use mathlib.Core.Bool.{Bool, true, false, _&&_}
 use mathlib.Core.List.{List, [], _∷_, _++_, map, List·Memᴰ·head, List·Memᴰ·tail, Memᴰ·of-map}
 use Prim.Native.Nat.{ℕ, suc, _<_, _≤_}
@@ -14,7 +14,7 @@ use Rattle.definitions.specs.Refusals.{Answer, accepted, refused, _>>=_}
 use Rattle.definitions.specs.Bytes.{mostNames, mostLetters}
 use Rattle.definitions.specs.InferClocks.{Formed, deep, formed, Clocking, clocking, usesClocks}
 use Rattle.definitions.specs.Declock.{State, nothingNeeded, Stem, Rewritten, stopped, done, declared, newLocals, withNew}
-use Rattle.definitions.specs.Output.{idOf, condactId, lettersOf, newLetters, newId, ClockedNode, rewritten, outputNode, namesOut, sheetOut, sheetTokens, mostTokensOut, withinLimits}
+use Rattle.definitions.specs.Output.{condactId, lettersOf, newLetters, newId, ClockedNode, rewritten, outputNode, namesOut, sheetOut, sheetTokens, mostTokensOut, withinLimits}
 use Rattle.definitions.specs.Answer.{Input, input, clockings}
 use Rattle.shapes.proofs.Facts.{All, all-nil, all-cons, all-app, and-left, and-right, leb-le}
 use Rattle.shapes.proofs.Accepts.{Accepts, accepts, no-refused, accepts-after, is-accepted}
@@ -23,7 +23,7 @@ use Rattle.shapes.proofs.Inference.{Forms}
 use Rattle.shapes.proofs.ClockNames.{NamedEquation, clocking-named}
 use Rattle.shapes.proofs.RewriteShape.{yielded, ShapedState, oldEquations-shape, withNew-shape}
 use Rattle.shapes.proofs.Names.{id-below}
-use Rattle.shapes.specs.Shape.{Bytes, ShapedDeclared, ShapedEquation, ShapedDefinition, ShapedNode, ShapedSheet, Sized}
+use Rattle.shapes.specs.Shape.{Bytes, ShapedDeclared, ShapedDefinition, ShapedNode, ShapedSheet, Sized}
 
 -- a shaped node whose equations' clocks are made of names
 abbrev ShapedClocked : ClockedNode → Type 0

@@ -1,15 +1,14 @@
 -- Names and tokens that were cut from bytes are written back as those bytes.
-use mathlib.Core.Path.{_≡_, refl, sym, ap, ap₂, _∙_, subst, subst⁻¹}
-use mathlib.Core.Bool.{Bool, true, false, _&&_}
-use mathlib.Core.List.{List, [], _∷_, _++_, map, List·Memᴰ, List·Memᴰ·head, List·Memᴰ·tail, List·Memᴰ·not-nil}
-use Prim.Native.Nat.{ℕ, zero, suc, _+_, _*_, _-_, _/_, _%_, _^_, _<_, _≤_}
+use mathlib.Core.Path.{_≡_, refl, sym, ap, ap₂, _∙_, subst⁻¹}
+use mathlib.Core.Bool.{_&&_}
+use mathlib.Core.List.{List, [], _∷_, _++_, map, List·Memᴰ·head, List·Memᴰ·tail}
+use Prim.Native.Nat.{ℕ, zero, suc, _+_, _*_, _/_, _%_, _^_, _<_, _≤_}
 use native.Mathlib.Omega.{arith}
 use lib.Dec.{eqb, leb}
-use lib.ListN.{length, take, drop, getD, length-take, length-drop, length-append, length-map, take-append-drop}
+use lib.ListN.{length, take, drop, getD, length-take, length-drop, length-map, take-append-drop}
 use Rattle.definitions.specs.declared.Refusal.{Refusal}
 use Rattle.definitions.specs.Lists.{sum, join, Letters}
-use Rattle.definitions.specs.Tokens.{TagValue, words}
-use Rattle.definitions.specs.Refusals.{accepted}
+use Rattle.definitions.specs.Tokens.{TagValue}
 use Rattle.definitions.specs.Bytes.{mostNames, mostLetters, fewestTokens, mostTokens, fourByteWords, size, M, L, T, lengths, letters, tags, values, cut, tokens, badName, Parts, parts}
 use Rattle.definitions.specs.Output.{wordBytes, sheetBytes}
 use Rattle.shapes.proofs.Facts.{All, all-nil, all-cons, eqb-eq, leb-le, and-right}

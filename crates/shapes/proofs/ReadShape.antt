@@ -16,16 +16,16 @@ use Rattle.definitions.specs.declared.Token.{Token}
 use Rattle.definitions.specs.declared.Refusal.{Refusal}
 use Rattle.definitions.specs.Lists.{choose, join}
 use Rattle.definitions.specs.Tokens.{TagValue, tagValue, codeOf, typeTokenOf, definitionTokenOf, exprTokenOf}
-use Rattle.definitions.specs.Tree.{Ty, Declared, Body, TypeDef, Head, Expr, Exprs, Equation, Probe, Node, Sheet}
-use Rattle.definitions.specs.Reading.{Got, got, rejected, Reader, after, token, limited, times}
-use Rattle.definitions.specs.Grammar.{mostDeclared, mostLeft, mostCounted, mostTypes, mostNodes, deepestType, deepestExpr, noArray, shortEnough, typed, append, tagged, counted, name, count, high, ty, declaration, definition, typeDef, kindAt, exprs, fields, constant, form, expr, equation, probe, declarations, node, sheet}
+use Rattle.definitions.specs.Tree.{Ty, TypeDef, Head, Expr, Exprs, Node}
+use Rattle.definitions.specs.Reading.{Got, got, rejected, Reader, after, token, times}
+use Rattle.definitions.specs.Grammar.{mostDeclared, mostLeft, mostCounted, mostTypes, mostNodes, deepestType, deepestExpr, noArray, shortEnough, typed, append, counted, name, count, ty, declaration, definition, typeDef, kindAt, exprs, fields, constant, form, expr, equation, probe, declarations, node, sheet}
 use Rattle.definitions.specs.Output.{tyTokens, nameTokens, declaredTokens, countedTokens, fieldTokens, iterationTokens, formTokens, exprTokens, operandTokens, definitionTokens, equationTokens, probeTokens, nodeTokens, sheetTokens}
 use Rattle.shapes.proofs.Facts.{All, all-nil, all-cons, eqb-eq}
 use Rattle.shapes.proofs.Coded.{ProperType, ProperDefinition, ProperExpr}
 use Rattle.shapes.proofs.Decoded.{Maybe, type-decoded, definition-decoded, expr-decoded, kind-decoded}
 use Rattle.shapes.proofs.Gives.{Gives, gives, refuses, gives-after, gives-limited, Stands, stands-nil, _then_, token-gives, tagged-gives, counted-gives, count-gives, high-gives, times-gives, items-gives}
 use Rattle.shapes.proofs.Written.{many-operands}
-use Rattle.shapes.specs.Shape.{Word, ShapedTy, ShapedDeclared, many, ShapedIteration, ShapedHead, NamedHead, Shaped, Shapeds, ShapedEquation, ShapedProbe, ShapedBody, ShapedDefinition, ShapedNode, ShapedBelow}
+use Rattle.shapes.specs.Shape.{Word, ShapedTy, ShapedDeclared, many, ShapedIteration, ShapedHead, NamedHead, Shaped, Shapeds, ShapedEquation, ShapedProbe, ShapedDefinition, ShapedNode, ShapedBelow}
 
 -- ids are below M, and so below N; the values are words
 module _ (M N : ℕ) (small : M ≤ N) (ts : List TagValue) (wide : All (λ k. Word (k .value)) ts) where

@@ -1,12 +1,11 @@
 -- What rewriting makes of shaped trees is shaped.
 use mathlib.Core.Path.{_≡_, refl, ap, subst, subst⁻¹}
 use mathlib.Core.Bool.{Bool, true, false}
-use mathlib.Core.List.{List, [], _∷_, _++_, map, List·Memᴰ, List·Memᴰ·head, List·Memᴰ·tail, List·Memᴰ·eq-of-singleton, Memᴰ·of-map}
+use mathlib.Core.List.{List, [], _∷_, _++_, map, List·Memᴰ, List·Memᴰ·head, List·Memᴰ·tail, Memᴰ·of-map}
 use mathlib.Core.Option.{Option, none, some}
 use Prim.Native.Nat.{ℕ, suc, _<_, Ordering, Ordering·lt, Ordering·eq, Ordering·gt}
 use native.Mathlib.Omega.{arith}
 use lib.Dec.{eqb}
-use lib.ListN.{length}
 use Rattle.definitions.specs.declared.Test.{Test}
 use Rattle.definitions.specs.declared.Condition.{Condition}
 use Rattle.definitions.specs.Lists.{choose, any, numbered, Letters}
@@ -14,7 +13,7 @@ use Rattle.definitions.specs.Tree.{Ty, Declared, TypeDef, Expr, Exprs, Equation
 use Rattle.definitions.specs.Clock.{Clock, base, _/_, parent, isOn, isNot, sameClock, isBase, chainOrder, insert, inChainOrder}
 use Rattle.definitions.specs.Types.{default}
 use Rattle.definitions.specs.InferClocks.{Fault, notSingleCall, preUntyped, NodeFault, Clocked}
-use Rattle.definitions.specs.Declock.{State, Hold, Rewritten, stopped, done, Rewriter, after, need, stop, clockPlace, add, addWithParents, Stem, ck, first, hold, flag, firstFlag, newHold, gated, declared, lastType, operandType, operatorOutputs, outputDefaults, leftDefault, leftDefaults, callOn, heldPre, preOn, arrowOn, rewrite, rewrites, gateSeveral, underFlag, rightSide, oldEquations, Shape, bare, other, calls, shapeOf, trueOf, ifOf, andOf, notOf, New, conditionExpr, flagOf, activation, firstTick, newLocals, withNew}
+use Rattle.definitions.specs.Declock.{State, Hold, Rewritten, stopped, done, Rewriter, after, need, stop, add, addWithParents, Stem, ck, first, hold, flag, firstFlag, newHold, gated, declared, lastType, operandType, operatorOutputs, outputDefaults, leftDefault, leftDefaults, callOn, heldPre, preOn, arrowOn, rewrite, rewrites, gateSeveral, underFlag, rightSide, oldEquations, Shape, bare, other, calls, shapeOf, trueOf, ifOf, andOf, notOf, New, conditionExpr, flagOf, activation, firstTick, newLocals, withNew}
 use Rattle.shapes.proofs.Facts.{All, all-nil, all-cons, all-app}
 use Rattle.shapes.proofs.Decoded.{Maybe}
 use Rattle.shapes.proofs.ClockNames.{NamedClock, NamedEquation}

@@ -1,4 +1,4 @@
--- What was read is a tree that the format can say, and is written back as it came: `read-shaped`, `read-written`, `round-trip`.
+-- What was read is a tree that the format can say, and is written back as it came: `read-shaped`, `read-written`, `round-trip`, `read-once`.
 use mathlib.Core.Path.{_≡_, sym, ap, _∙_, subst}
 use mathlib.Core.List.{List, [], map}
 use Prim.Native.Nat.{ℕ, _≤_}
@@ -6,18 +6,19 @@ use native.Mathlib.Omega.{arith}
 use lib.Dec.{eqb}
 use lib.ListN.{length, length-map}
 use Rattle.definitions.specs.declared.Refusal.{Refusal}
-use Rattle.definitions.specs.Lists.{join, Letters}
+use Rattle.definitions.specs.Lists.{Letters}
 use Rattle.definitions.specs.Tokens.{TagValue, words, codeOf}
 use Rattle.definitions.specs.Tree.{Sheet}
 use Rattle.definitions.specs.Reading.{Got}
 use Rattle.definitions.specs.Grammar.{sheet}
 use Rattle.definitions.specs.Refusals.{Answer, accepted}
-use Rattle.definitions.specs.Bytes.{mostNames, mostLetters, mostTokens, badName, Parts, parts}
+use Rattle.definitions.specs.Bytes.{mostNames, mostTokens, badName, Parts}
 use Rattle.definitions.specs.Types.{firstCycle}
 use Rattle.definitions.specs.Output.{sheetTokens, sheetBytes, written}
 use Rattle.definitions.specs.Answer.{Input, input, answered}
 use Rattle.shapes.proofs.Facts.{All}
 use Rattle.shapes.proofs.Accepts.{Accepts, accepts, no-refused, accepts-after, accepts-must, is-accepted}
+use Rattle.shapes.proofs.Once.{written-once}
 use Rattle.shapes.proofs.Gives.{Gives}
 use Rattle.shapes.proofs.ReadShape.{sheet-read}
 use Rattle.shapes.proofs.ReadBytes.{PartsFacts, parts-facts}
@@ -82,3 +83,7 @@ read-written bytes h r e = read-facts bytes h r e .back
 -- what was read is read again from its written bytes
 pub round-trip : (bytes : List ℕ) → Bytes bytes → (names : List Letters) (s : Sheet) → input bytes ≡ accepted (record { names = names; sheet = s }) → input (written names s) ≡ accepted (record { names = names; sheet = s })
 round-trip bytes h names s e = ap input (read-written bytes h (record { names = names; sheet = s }) e) ∙ e
+
+-- and it is the only tree that the format can say with these bytes
+pub read-once : (bytes : List ℕ) → Bytes bytes → (r : Input) → input bytes ≡ accepted r → (names : List Letters) (s : Sheet) → ShapedSheet s → Sized names s → written names s ≡ bytes → (names ≡ r .names) × (s ≡ r .sheet)
+read-once bytes h r e names s a b q = let f = read-facts bytes h r e in written-once names (r .names) s (r .sheet) a b (f .shaped) (f .sized) (q ∙ sym (f .back))

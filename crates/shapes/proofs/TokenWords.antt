@@ -12,7 +12,7 @@ use Rattle.definitions.specs.declared.Token.{Token}
 use Rattle.definitions.specs.declared.Test.{Test}
 use Rattle.definitions.specs.Lists.{join}
 use Rattle.definitions.specs.Tokens.{words}
-use Rattle.definitions.specs.Tree.{Ty, Declared, Body, TypeDef, Head, Expr, Exprs, Equation, Probe, Node, Sheet}
+use Rattle.definitions.specs.Tree.{Ty, Declared, Body, TypeDef, Head, Expr, Exprs, Equation, Node, Sheet}
 use Rattle.definitions.specs.Output.{literalTokens, tyTokens, nameTokens, declaredTokens, countedTokens, fieldTokens, iterationTokens, formTokens, whenToken, exprTokens, operandTokens, definitionTokens, equationTokens, probeTokens, nodeTokens, sheetTokens}
 use Rattle.shapes.proofs.Facts.{All, all-nil, all-cons, all-app}
 use Rattle.shapes.proofs.Coded.{Proper}

@@ -1,5 +1,4 @@
--- The trees that the sheet format can say: forms have their numbers of operands, and every id, literal, length and count is a word of
--- four bytes. The limits on an input (how many, how long, how deep) are not among these: the output keeps only some of them.
+-- The trees that the sheet format can say, whatever the limits on an input (how many, how long, how deep): an output may pass some of these.
 use mathlib.Core.Path.{_≡_}
 use mathlib.Core.List.{List, List·Memᴰ}
 use Prim.Native.Nat.{ℕ, zero, suc, _<_}
@@ -18,7 +17,7 @@ All {A} P l = (a : A) → List·Memᴰ a l → P a
 abbrev pub Word : ℕ → Type 0
 Word v = v < words
 
--- every byte of a list is one
+-- every number of a list is a byte
 abbrev pub Bytes : List ℕ → Type 0
 Bytes l = All (λ b. b < 256) l
 
@@ -41,13 +40,15 @@ ShapedIteration (suc zero) zero = ⊥
 ShapedIteration (suc zero) (suc n) = Unit {0}
 ShapedIteration (suc (suc k)) n = ⊥
 
--- trees whose ids are below M
+-- trees whose ids are below M: the number of names for a sheet that was read, else all words
 module _ (M : ℕ) where
+  -- a type: an array's length is a word
   abbrev pub ShapedTy : Ty → Type 0
   ShapedTy (Ty.primitive p) = Unit {0}
   ShapedTy (Ty.array n a) = ShapedTy a × Word n
   ShapedTy (Ty.named x) = x < M
 
+  -- a name with its type
   abbrev pub ShapedDeclared : Declared → Type 0
   ShapedDeclared d = ShapedTy (d .type) × (d .name < M)
 
@@ -79,6 +80,7 @@ module _ (M : ℕ) where
   NamedHead (Head.map f k) = f < M
   NamedHead (Head.fold f k) = f < M
 
+  -- an expression, and operands
   unfoldable mutual
     pub Shaped : Expr → Type 0
     Shaped (Expr.const l w) = ShapedLiteral l w
@@ -94,12 +96,15 @@ module _ (M : ℕ) where
     Shapeds Exprs.end = Unit {0}
     Shapeds (Exprs.and e es) = Shaped e × Shapeds es
 
+  -- left names and a right side
   abbrev pub ShapedEquation : Equation → Type 0
   ShapedEquation e = Shaped (e .right) × All (λ x. x < M) (e .left)
 
+  -- a label and a name
   abbrev pub ShapedProbe : Probe → Type 0
   ShapedProbe p = (p .label < M) × (p .name < M)
 
+  -- what a type is defined as, and its definition
   abbrev pub ShapedBody : Body → Type 0
   ShapedBody (Body.enum vs) = All (λ x. x < M) vs
   ShapedBody (Body.fields fs) = All ShapedDeclared fs
@@ -108,6 +113,7 @@ module _ (M : ℕ) where
   abbrev pub ShapedDefinition : TypeDef → Type 0
   ShapedDefinition d = ShapedBody (d .body) × (d .name < M)
 
+  -- a node
   pub record ShapedNode (n : Node) : Type 0 where
     pub name : n .name < M
     pub inputs : All ShapedDeclared (n .inputs)
@@ -116,11 +122,12 @@ module _ (M : ℕ) where
     pub equations : All ShapedEquation (n .equations)
     pub probes : All ShapedProbe (n .probes)
 
+  -- a sheet
   pub record ShapedBelow (s : Sheet) : Type 0 where
     pub types : All ShapedDefinition (s .types)
     pub nodes : All ShapedNode (s .nodes)
 
--- a tree that the format can say: its ids are words
+-- a sheet that the format can say: every id, literal, length and count is a word
 abbrev pub ShapedSheet : Sheet → Type 0
 ShapedSheet s = ShapedBelow words s
 

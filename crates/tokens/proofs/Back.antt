@@ -2,9 +2,8 @@
 -- Assumes nothing.
 use Prim.Native.Nat.{ℕ}
 use mathlib.Core.Path.{_≡_, refl, ap, _∙_}
-use mathlib.Core.Bool.{Bool, true, false, _&&_}
-use mathlib.Core.Option.{Option, none, some}
-use lib.Dec.{leb}
+use mathlib.Core.Bool.{Bool, true, false}
+use mathlib.Core.Option.{some}
 use Rattle.definitions.specs.declared.UnaryOp.{UnaryOp}
 use Rattle.definitions.specs.declared.BinOp.{BinOp}
 use Rattle.definitions.specs.declared.Primitive.{Primitive}

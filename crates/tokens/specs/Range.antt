@@ -1,6 +1,6 @@
 -- The tokens whose values are in range: an id is below M, a Bool's constant 0 or 1, a Char's below 256.
 use Prim.Native.Nat.{ℕ}
-use mathlib.Core.Bool.{Bool, true, false}
+use mathlib.Core.Bool.{Bool, true}
 use lib.Dec.{ltb}
 use Rattle.definitions.specs.declared.Literal.{Literal}
 use Rattle.definitions.specs.declared.TypeToken.{TypeToken}

@@ -38,7 +38,7 @@ wide-requires : tie.Need-wide-requires Inv-loop μ-loop
 wide-requires c κs = search needs
 
 add-at : tie.Need-add-at Inv-loop μ-loop
-add-at c = omega (arith, end-within (now (c .before .before .before .before .before .before .before .before .args .lengths)) (now (c .before .before .before .before .before .before .before .before .args .letters)) (c .before .before .before .before .before .loop .i) (c .before .before .before .before .before .before .before .before .pre), c .before .before .before .before .before .loop .inv .1, c .wide .ensures)
+add-at c = let s = c .before .before .before .before .before .before .before .before in omega (arith, end-within (now (s .args .lengths)) (now (s .args .letters)) (c .before .before .before .before .before .loop .i) (s .pre), c .before .before .before .before .before .loop .inv .1, c .wide .ensures)
 
 add-i : tie.Need-add-i Inv-loop μ-loop
 add-i c = search needs
@@ -48,7 +48,7 @@ loop-less c = search needs
 
 loop-again : tie.Need-loop-again Inv-loop μ-loop
 unfolding fine
-loop-again c = (omega arith, omega (arith, start-next (now (c .before .before .before .before .before .before .before .before .args .lengths)) (now (c .before .before .before .before .before .before .before .before .args .letters)) (c .before .before .before .before .before .loop .i), c .before .before .before .before .before .loop .inv .1, c .wide .ensures), omega (arith, c .before .before .before .before .before .loop .inv .2, rest-step (now (c .before .before .before .before .before .before .before .before .args .lengths)) (now (c .before .before .before .before .before .before .before .before .args .letters)) (c .before .before .before .before .before .loop .i) (c .before .before .before .before .loop-test .taken) (sym (c .before .before .before .is-fine .ensures) ∙ not-false _ (c .before .before .if1 .left))))
+loop-again c = let s = c .before .before .before .before .before .before .before .before in let l = c .before .before .before .before .before .loop in (omega arith, omega (arith, start-next (now (s .args .lengths)) (now (s .args .letters)) (l .i), l .inv .1, c .wide .ensures), omega (arith, l .inv .2, rest-step (now (s .args .lengths)) (now (s .args .letters)) (l .i) (c .before .before .before .before .loop-test .taken) (sym (c .before .before .before .is-fine .ensures) ∙ not-false _ (c .before .before .if1 .left))))
 
 returns-2 : tie.Need-returns-2 Inv-loop μ-loop
 returns-2 c = omega (arith, c .before .loop .inv .2, rest-end (now (c .before .before .before .before .args .lengths)) (now (c .before .before .before .before .args .letters)) (c .before .loop .i) (c .loop-test .left))

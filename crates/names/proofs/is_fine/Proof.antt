@@ -18,7 +18,7 @@ wide-requires : tie.Need-wide-requires
 wide-requires c κs = search needs
 
 add-end : tie.Need-add-end
-add-end c = omega (arith, end-within (now (c .before .before .before .before .args .lengths)) (now (c .before .before .before .before .args .letters)) (c .before .before .before .before .args .i) (c .before .before .before .before .pre .1 .1), c .before .before .before .before .pre .1 .0, c .wide .ensures)
+add-end c = let s = c .before .before .before .before in omega (arith, end-within (now (s .args .lengths)) (now (s .args .letters)) (s .args .i) (s .pre .1 .1), s .pre .1 .0, c .wide .ensures)
 
 sub-well-formed : tie.Need-sub-well-formed
 sub-well-formed c = search needs
@@ -27,21 +27,21 @@ part-well-formed-start : tie.Need-part-well-formed-start
 part-well-formed-start c = search needs
 
 part-well-formed-end : tie.Need-part-well-formed-end
-part-well-formed-end c = omega (arith, end-within (now (c .before .before .before .before .args .lengths)) (now (c .before .before .before .before .args .letters)) (c .before .before .before .before .args .i) (c .before .before .before .before .pre .1 .1), c .before .before .before .before .pre .1 .0, c .wide .ensures)
+part-well-formed-end c = let s = c .before .before .before .before in omega (arith, end-within (now (s .args .lengths)) (now (s .args .letters)) (s .args .i) (s .pre .1 .1), s .pre .1 .0, c .wide .ensures)
 
 well-formed-requires : tie.Need-well-formed-requires
 well-formed-requires c κs = search needs
 
 returns : tie.Need-returns
 unfolding fine
-returns c = sym (fine-ill (now (c .before .before .before .before .before .before .before .args .lengths)) (now (c .before .before .before .before .before .before .before .args .letters)) (c .before .before .before .before .before .before .before .args .i) (sym (ap wellFormed (part-name (now (c .before .before .before .before .before .before .before .args .lengths)) (now (c .before .before .before .before .before .before .before .args .letters)) (c .before .before .before .before .before .before .before .args .i) (c .before .before .before .before .before .before .before .args .at) _ (c .before .before .before .before .before .before .before .pre .1 .0) (ap (λ n. c .before .before .before .before .before .before .before .args .at + n) (c .before .before .before .wide .ensures)))) ∙ (sym (c .before .well-formed .ensures) ∙ not-true _ (c .if1 .taken))))
+returns c = let s = c .before .before .before .before .before .before .before in sym (fine-ill (now (s .args .lengths)) (now (s .args .letters)) (s .args .i) (sym (ap wellFormed (part-name (now (s .args .lengths)) (now (s .args .letters)) (s .args .i) (s .args .at) _ (s .pre .1 .0) (ap (λ n. s .args .at + n) (c .before .before .before .wide .ensures)))) ∙ (sym (c .before .well-formed .ensures) ∙ not-true _ (c .if1 .taken))))
 
 repeats-requires : tie.Need-repeats-requires
 repeats-requires c κs = search needs
 
 returns-2 : tie.Need-returns-2
 unfolding fine
-returns-2 c = fine-else (now (c .before .before .before .before .before .before .before .before .args .lengths)) (now (c .before .before .before .before .before .before .before .before .args .letters)) (c .before .before .before .before .before .before .before .before .args .i) _ (sym (ap wellFormed (part-name (now (c .before .before .before .before .before .before .before .before .args .lengths)) (now (c .before .before .before .before .before .before .before .before .args .letters)) (c .before .before .before .before .before .before .before .before .args .i) (c .before .before .before .before .before .before .before .before .args .at) _ (c .before .before .before .before .before .before .before .before .pre .1 .0) (ap (λ n. c .before .before .before .before .before .before .before .before .args .at + n) (c .before .before .before .before .wide .ensures)))) ∙ (sym (c .before .before .well-formed .ensures) ∙ not-false _ (c .before .if1 .left))) (c .repeats .ensures)
+returns-2 c = let s = c .before .before .before .before .before .before .before .before in fine-else (now (s .args .lengths)) (now (s .args .letters)) (s .args .i) _ (sym (ap wellFormed (part-name (now (s .args .lengths)) (now (s .args .letters)) (s .args .i) (s .args .at) _ (s .pre .1 .0) (ap (λ n. s .args .at + n) (c .before .before .before .before .wide .ensures)))) ∙ (sym (c .before .before .well-formed .ensures) ∙ not-false _ (c .before .if1 .left))) (c .repeats .ensures)
 
 pub is-fine-spec : {M : Type 1} → statement M
 is-fine-spec =

@@ -4,10 +4,11 @@ use mathlib.Core.Path.{_≡_, refl, sym, ap, _∙_}
 use native.Mathlib.Omega.{arith}
 use borrow.Author.Needs.{needs}
 use denote.Ref.{now}
-use mathlib.Core.Bool.{_||_}
+use Prim.Native.Nat.{ℕ}
+use mathlib.Core.Bool.{Bool, _||_}
 use Rattle.definitions.specs.Lists.{any, sameLetters}
 use Rattle.names.specs.Places.{start, nameAt, before}
-use Rattle.names.proofs.Laws.{start-sum, end-within, start-last, repeat-at}
+use Rattle.names.proofs.Laws.{or-found, or-passed, start-sum, end-within, start-last, repeat-at}
 use Rattle.names.proofs.repeats.Statement.{statement}
 use Rattle.names.proofs.repeats.Tie as tie
 
@@ -18,9 +19,17 @@ Inv-loop lengths letters i at end j₀ to₀ j to =
 abbrev μ-loop : tie.MeasureT-loop
 μ-loop lengths letters i at end j₀ to₀ j to = j
 
--- where one more earlier name is compared
-looked : (c : tie.After-same Inv-loop μ-loop) → any (sameLetters (nameAt (now (c .before .before .before .before .before .before .before .before .before .before .before .args .lengths)) (now (c .before .before .before .before .before .before .before .before .before .before .before .args .letters)) (c .before .before .before .before .before .before .before .before .before .before .before .args .i))) (before (now (c .before .before .before .before .before .before .before .before .before .before .before .args .lengths)) (now (c .before .before .before .before .before .before .before .before .before .before .before .args .letters)) (c .before .before .before .before .before .before .before .before .before .before .before .args .i)) ≡ (c .same .result || any (sameLetters (nameAt (now (c .before .before .before .before .before .before .before .before .before .before .before .args .lengths)) (now (c .before .before .before .before .before .before .before .before .before .before .before .args .letters)) (c .before .before .before .before .before .before .before .before .before .before .before .args .i))) (before (now (c .before .before .before .before .before .before .before .before .before .before .before .args .lengths)) (now (c .before .before .before .before .before .before .before .before .before .before .before .args .letters)) (c .before .before .before .before .before .before .loop .j - 1)))
-looked c = c .before .before .before .before .before .before .loop .inv .2 ∙ repeat-at (now (c .before .before .before .before .before .before .before .before .before .before .before .args .lengths)) (now (c .before .before .before .before .before .before .before .before .before .before .before .args .letters)) (c .before .before .before .before .before .before .before .before .before .before .before .args .i) (c .before .before .before .before .before .before .before .before .before .before .before .args .at) _ (c .before .before .before .before .before .before .before .before .before .before .before .pre .1 .0) (ap (λ n. c .before .before .before .before .before .before .before .before .before .before .before .args .at + n) (c .before .before .before .before .before .before .before .wide .ensures)) (c .before .before .before .before .before .before .loop .j) (c .before .before .before .before .before .before .loop .to) _ (omega (arith, c .before .before .before .before .before .loop-test .taken)) (c .before .before .before .before .before .before .loop .inv .1) (ap (λ n. c .before .before .before .before .before .before .loop .to - n) (c .before .before .before .wide2 .ensures)) _ (c .same .ensures)
+-- from where one more earlier name is compared back to the start
+abbrev start-of : tie.After-same Inv-loop μ-loop → tie.Start Inv-loop μ-loop
+start-of c = c .before .before .before .before .before .before .before .before .before .before .before
+
+-- does name i repeat one before name j?
+abbrev among : tie.After-same Inv-loop μ-loop → ℕ → Bool
+among c j =
+    let s = start-of c in any (sameLetters (nameAt (now (s .args .lengths)) (now (s .args .letters)) (s .args .i))) (before (now (s .args .lengths)) (now (s .args .letters)) j)
+
+looked : (c : tie.After-same Inv-loop μ-loop) → among c (start-of c .args .i) ≡ (c .same .result || among c (c .before .before .before .before .before .before .loop .j - 1))
+looked c = let s = c .before .before .before .before .before .before .before .before .before .before .before in let l = c .before .before .before .before .before .before .loop in l .inv .2 ∙ repeat-at (now (s .args .lengths)) (now (s .args .letters)) (s .args .i) (s .args .at) _ (s .pre .1 .0) (ap (λ n. s .args .at + n) (c .before .before .before .before .before .before .before .wide .ensures)) (l .j) (l .to) _ (omega (arith, c .before .before .before .before .before .loop-test .taken)) (l .inv .1) (ap (λ n. l .to - n) (c .before .before .before .wide2 .ensures)) _ (c .same .ensures)
 
 shared-slice-read-wide : tie.Need-shared-slice-read-wide Inv-loop μ-loop
 shared-slice-read-wide c = search needs
@@ -29,7 +38,7 @@ wide-requires : tie.Need-wide-requires Inv-loop μ-loop
 wide-requires c κs = search needs
 
 add-end : tie.Need-add-end Inv-loop μ-loop
-add-end c = omega (arith, end-within (now (c .before .before .before .before .args .lengths)) (now (c .before .before .before .before .args .letters)) (c .before .before .before .before .args .i) (c .before .before .before .before .pre .1 .1), c .before .before .before .before .pre .1 .0, c .wide .ensures)
+add-end c = let s = c .before .before .before .before in omega (arith, end-within (now (s .args .lengths)) (now (s .args .letters)) (s .args .i) (s .pre .1 .1), s .pre .1 .0, c .wide .ensures)
 
 loop-holds : tie.Need-loop-holds Inv-loop μ-loop
 loop-holds c = (omega arith, c .before .before .before .before .pre .1 .0, refl)
@@ -53,7 +62,7 @@ part-same-start : tie.Need-part-same-start Inv-loop μ-loop
 part-same-start c = search needs
 
 part-same-end : tie.Need-part-same-end Inv-loop μ-loop
-part-same-end c = omega (arith, end-within (now (c .before .before .before .before .before .before .before .before .args .lengths)) (now (c .before .before .before .before .before .before .before .before .args .letters)) (c .before .before .before .before .before .before .before .before .args .i) (c .before .before .before .before .before .before .before .before .pre .1 .1), c .before .before .before .before .before .before .before .before .pre .1 .0, c .before .before .before .before .wide .ensures)
+part-same-end c = let s = c .before .before .before .before .before .before .before .before in omega (arith, end-within (now (s .args .lengths)) (now (s .args .letters)) (s .args .i) (s .pre .1 .1), s .pre .1 .0, c .before .before .before .before .wide .ensures)
 
 sub-same-2 : tie.Need-sub-same-2 Inv-loop μ-loop
 sub-same-2 c = search needs
@@ -68,13 +77,13 @@ same-requires : tie.Need-same-requires Inv-loop μ-loop
 same-requires c κs = search needs
 
 returns : tie.Need-returns Inv-loop μ-loop
-returns c = sym (looked (c .before) ∙ rw (c .if1 .taken))
+returns c = sym (or-found _ _ _ (looked (c .before)) (c .if1 .taken))
 
 loop-less : tie.Need-loop-less Inv-loop μ-loop
 loop-less c = search needs
 
 loop-again : tie.Need-loop-again Inv-loop μ-loop
-loop-again c = (omega arith, omega (arith, start-last (now (c .before .before .before .before .before .before .before .before .before .before .before .before .args .lengths)) (now (c .before .before .before .before .before .before .before .before .before .before .before .before .args .letters)) (c .before .before .before .before .before .before .before .loop .j) (omega (arith, c .before .before .before .before .before .before .loop-test .taken)), c .before .before .before .before .wide2 .ensures, c .before .before .before .before .before .before .before .loop .inv .1), looked (c .before) ∙ rw (c .if1 .left))
+loop-again c = (omega arith, omega (arith, start-last (now (c .before .before .before .before .before .before .before .before .before .before .before .before .args .lengths)) (now (c .before .before .before .before .before .before .before .before .before .before .before .before .args .letters)) (c .before .before .before .before .before .before .before .loop .j) (omega (arith, c .before .before .before .before .before .before .loop-test .taken)), c .before .before .before .before .wide2 .ensures, c .before .before .before .before .before .before .before .loop .inv .1), or-passed _ _ _ (looked (c .before)) (c .if1 .left))
 
 returns-2 : tie.Need-returns-2 Inv-loop μ-loop
 unfolding before

@@ -22,10 +22,10 @@ part-total-end : tie.Need-part-total-end
 part-total-end c = omega (arith, fit (now (c .before .args .sheet)) (c .before .args .sizes) (c .before .pre))
 
 total-requires : tie.Need-total-requires
-total-requires c κs = few-lengths (now (c .before .before .args .sheet)) (c .before .before .args .sizes) (c .before .before .pre)
+total-requires c κs = let s = c .before .before in few-lengths (now (s .args .sheet)) (s .args .sizes) (s .pre)
 
 returns : tie.Need-returns
-returns c = sum-answer (now (c .before .before .before .before .args .sheet)) (c .before .before .before .before .args .sizes) (c .before .before .before .before .pre) _ (c .before .total .ensures) (c .if1 .taken)
+returns c = let s = c .before .before .before .before in sum-answer (now (s .args .sheet)) (s .args .sizes) (s .pre) _ (c .before .total .ensures) (c .if1 .taken)
 
 sub-first-bad : tie.Need-sub-first-bad
 sub-first-bad c = search needs
@@ -34,7 +34,7 @@ part-first-bad-start : tie.Need-part-first-bad-start
 part-first-bad-start c = search needs
 
 part-first-bad-end : tie.Need-part-first-bad-end
-part-first-bad-end c = omega (arith, fit (now (c .before .before .before .before .args .sheet)) (c .before .before .before .before .args .sizes) (c .before .before .before .before .pre))
+part-first-bad-end c = let s = c .before .before .before .before in omega (arith, fit (now (s .args .sheet)) (s .args .sizes) (s .pre))
 
 sub-first-bad-2 : tie.Need-sub-first-bad-2
 sub-first-bad-2 c = search needs
@@ -43,16 +43,16 @@ part-first-bad-start-2 : tie.Need-part-first-bad-start-2
 part-first-bad-start-2 c = search needs
 
 part-first-bad-end-2 : tie.Need-part-first-bad-end-2
-part-first-bad-end-2 c = omega (arith, fit (now (c .before .before .before .before .before .args .sheet)) (c .before .before .before .before .before .args .sizes) (c .before .before .before .before .before .pre))
+part-first-bad-end-2 c = let s = c .before .before .before .before .before in omega (arith, fit (now (s .args .sheet)) (s .args .sizes) (s .pre))
 
 first-bad-requires : tie.Need-first-bad-requires
 first-bad-requires c κs = search needs
 
 returns-2 : tie.Need-returns-2
-returns-2 c = bad-answer (now (c .before .before .before .before .before .before .before .before .args .sheet)) (c .before .before .before .before .before .before .before .before .args .sizes) (c .before .before .before .before .before .before .before .before .pre) _ (c .before .before .before .before .before .total .ensures) (c .before .before .before .before .if1 .left) _ (c .before .first-bad .ensures) (c .if2 .taken)
+returns-2 c = let s = c .before .before .before .before .before .before .before .before in bad-answer (now (s .args .sheet)) (s .args .sizes) (s .pre) _ (c .before .before .before .before .before .total .ensures) (c .before .before .before .before .if1 .left) _ (c .before .first-bad .ensures) (c .if2 .taken)
 
 returns-3 : tie.Need-returns-3
-returns-3 c = good-answer (now (c .before .before .before .before .before .before .before .before .args .sheet)) (c .before .before .before .before .before .before .before .before .args .sizes) (c .before .before .before .before .before .before .before .before .pre) _ (c .before .before .before .before .before .total .ensures) (c .before .before .before .before .if1 .left) _ (c .before .first-bad .ensures) (c .if2 .left)
+returns-3 c = let s = c .before .before .before .before .before .before .before .before in good-answer (now (s .args .sheet)) (s .args .sizes) (s .pre) _ (c .before .before .before .before .before .total .ensures) (c .before .before .before .before .if1 .left) _ (c .before .first-bad .ensures) (c .if2 .left)
 
 pub check-names-spec : {M : Type 1} → statement M
 check-names-spec =

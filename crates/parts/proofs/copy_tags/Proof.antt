@@ -36,10 +36,10 @@ loop-less : tie.Need-loop-less Inv-loop μ-loop
 loop-less c = search needs
 
 loop-again : tie.Need-loop-again Inv-loop μ-loop
-loop-again c = (omega arith, tags-step (now (c .before .before .before .args .sheet)) (now (c .before .before .before .args .tags)) (c .before .before .loop .tags) (c .before .before .before .args .at) (c .before .before .before .args .n) (c .before .before .loop .k) (c .before .before .before .pre .0) (c .before .loop-test .taken) (c .before .before .loop .inv .1))
+loop-again c = let s = c .before .before .before in let l = c .before .before .loop in (omega arith, tags-step (now (s .args .sheet)) (now (s .args .tags)) (l .tags) (s .args .at) (s .args .n) (l .k) (s .pre .0) (c .before .loop-test .taken) (l .inv .1))
 
 returns : tie.Need-returns Inv-loop μ-loop
-returns c = c .before .loop .inv .1 ∙ tags-all (now (c .before .before .args .sheet)) (now (c .before .before .args .tags)) (c .before .before .args .at) (c .before .before .args .n) (c .before .loop .k) (c .before .before .pre .0) (c .loop-test .left)
+returns c = let s = c .before .before in c .before .loop .inv .1 ∙ tags-all (now (s .args .sheet)) (now (s .args .tags)) (s .args .at) (s .args .n) (c .before .loop .k) (s .pre .0) (c .loop-test .left)
 
 pub copy-tags-spec : {M : Type 1} → statement M
 copy-tags-spec =

@@ -43,10 +43,10 @@ loop-less : tie.Need-loop-less Inv-loop μ-loop
 loop-less c = search needs
 
 loop-again : tie.Need-loop-again Inv-loop μ-loop
-loop-again c = (omega arith, ap (set (c .before .before .loop .values) (c .before .before .loop .k)) (c .read-word .ensures) ∙ values-step (now (c .before .before .before .before .args .sheet)) (now (c .before .before .before .before .args .values)) (c .before .before .loop .values) (c .before .before .before .before .args .at) (c .before .before .before .before .args .n) (c .before .before .loop .k) (c .before .before .before .before .pre .0) (c .before .loop-test .taken) (c .before .before .loop .inv .1))
+loop-again c = let s = c .before .before .before .before in let l = c .before .before .loop in (omega arith, ap (set (l .values) (l .k)) (c .read-word .ensures) ∙ values-step (now (s .args .sheet)) (now (s .args .values)) (l .values) (s .args .at) (s .args .n) (l .k) (s .pre .0) (c .before .loop-test .taken) (l .inv .1))
 
 returns : tie.Need-returns Inv-loop μ-loop
-returns c = c .before .loop .inv .1 ∙ values-all (now (c .before .before .before .args .sheet)) (now (c .before .before .before .args .values)) (c .before .before .before .args .at) (c .before .before .before .args .n) (c .before .loop .k) (c .before .before .before .pre .0) (c .loop-test .left)
+returns c = let s = c .before .before .before in c .before .loop .inv .1 ∙ values-all (now (s .args .sheet)) (now (s .args .values)) (s .args .at) (s .args .n) (c .before .loop .k) (s .pre .0) (c .loop-test .left)
 
 pub copy-values-spec : {M : Type 1} → statement M
 copy-values-spec =

@@ -41,10 +41,10 @@ copy-values-requires : tie.Need-copy-values-requires
 copy-values-requires c κs = omega (arith, fits (c .before .before .before .before .before))
 
 returns : tie.Need-returns
-returns c = ((sym (c .before .a .given .1) ∙ c .before .before .before .check-parts .ensures), (tags-kept (now (c .before .before .before .before .before .args .sheet)) (c .before .a .given .0 .0) (sym (c .before .a .given .1) ∙ c .before .before .before .check-parts .ensures) (now (c .before .before .before .before .before .args .tags)), values-kept (now (c .before .before .before .before .before .args .sheet)) (c .before .a .given .0 .0) (sym (c .before .a .given .1) ∙ c .before .before .before .check-parts .ensures) (now (c .before .before .before .before .before .args .values))))
+returns c = let s = c .before .before .before .before .before in ((sym (c .before .a .given .1) ∙ c .before .before .before .check-parts .ensures), (tags-kept (now (s .args .sheet)) (c .before .a .given .0 .0) (sym (c .before .a .given .1) ∙ c .before .before .before .check-parts .ensures) (now (s .args .tags)), values-kept (now (s .args .sheet)) (c .before .a .given .0 .0) (sym (c .before .a .given .1) ∙ c .before .before .before .check-parts .ensures) (now (s .args .values))))
 
 returns-2 : tie.Need-returns-2
-returns-2 c = ((accepted (c .before .before .before .before .before .before)), (c .before .before .copy-tags .ensures ∙ tags-over (now (c .before .before .before .before .before .before .before .before .before .before .before .args .sheet)) _ (accepted (c .before .before .before .before .before .before)) (now (c .before .before .before .before .before .before .before .before .before .before .before .args .tags)), c .copy-values .ensures ∙ values-over (now (c .before .before .before .before .before .before .before .before .before .before .before .args .sheet)) _ (accepted (c .before .before .before .before .before .before)) (now (c .before .before .before .before .before .before .before .before .before .before .before .args .values))))
+returns-2 c = let s = c .before .before .before .before .before .before .before .before .before .before .before in ((accepted (c .before .before .before .before .before .before)), (c .before .before .copy-tags .ensures ∙ tags-over (now (s .args .sheet)) _ (accepted (c .before .before .before .before .before .before)) (now (s .args .tags)), c .copy-values .ensures ∙ values-over (now (s .args .sheet)) _ (accepted (c .before .before .before .before .before .before)) (now (s .args .values))))
 
 pub read-parts-spec : {M : Type 1} → statement M
 read-parts-spec =

@@ -35,19 +35,19 @@ wide-word-requires-3 c κs = search needs
 
 returns-2 : tie.Need-returns-2
 unfolding SizesTold
-returns-2 c = many-names (now (c .before .before .before .before .before .before .before .before .before .args .sheet)) (c .before .before .before .before .before .before .before .if1 .left) (omega (arith, c .if2 .taken, sizes (c .before) .names))
+returns-2 c = let r = sizes (c .before) in many-names (now (c .before .before .before .before .before .before .before .before .before .args .sheet)) (c .before .before .before .before .before .before .before .if1 .left) (omega (arith, c .if2 .taken, r .names))
 
 returns-3 : tie.Need-returns-3
 unfolding SizesTold
-returns-3 c = many-letters (now (c .before .before .before .before .before .before .before .before .before .before .args .sheet)) (c .before .before .before .before .before .before .before .before .if1 .left) (omega (arith, c .before .if2 .left, sizes (c .before .before) .names)) (omega (arith, c .if3 .taken, sizes (c .before .before) .letters))
+returns-3 c = let r = sizes (c .before .before) in many-letters (now (c .before .before .before .before .before .before .before .before .before .before .args .sheet)) (c .before .before .before .before .before .before .before .before .if1 .left) (omega (arith, c .before .if2 .left, r .names)) (omega (arith, c .if3 .taken, r .letters))
 
 returns-4 : tie.Need-returns-4
 unfolding SizesTold
-returns-4 c = few-tokens (now (c .before .before .before .before .before .before .before .before .before .before .before .args .sheet)) (c .before .before .before .before .before .before .before .before .before .if1 .left) (omega (arith, c .before .before .if2 .left, sizes (c .before .before .before) .names)) (omega (arith, c .before .if3 .left, sizes (c .before .before .before) .letters)) (omega (arith, c .if4 .taken, sizes (c .before .before .before) .tokens))
+returns-4 c = let r = sizes (c .before .before .before) in few-tokens (now (c .before .before .before .before .before .before .before .before .before .before .before .args .sheet)) (c .before .before .before .before .before .before .before .before .before .if1 .left) (omega (arith, c .before .before .if2 .left, r .names)) (omega (arith, c .before .if3 .left, r .letters)) (omega (arith, c .if4 .taken, r .tokens))
 
 returns-5 : tie.Need-returns-5
 unfolding SizesTold
-returns-5 c = many-tokens (now (c .before .before .before .before .before .before .before .before .before .before .before .before .args .sheet)) (c .before .before .before .before .before .before .before .before .before .before .if1 .left) (omega (arith, c .before .before .before .if2 .left, sizes (c .before .before .before .before) .names)) (omega (arith, c .before .before .if3 .left, sizes (c .before .before .before .before) .letters)) (omega (arith, c .before .if4 .left, sizes (c .before .before .before .before) .tokens)) (omega (arith, c .if5 .taken, sizes (c .before .before .before .before) .tokens))
+returns-5 c = let r = sizes (c .before .before .before .before) in many-tokens (now (c .before .before .before .before .before .before .before .before .before .before .before .before .args .sheet)) (c .before .before .before .before .before .before .before .before .before .before .if1 .left) (omega (arith, c .before .before .before .if2 .left, r .names)) (omega (arith, c .before .before .if3 .left, r .letters)) (omega (arith, c .before .if4 .left, r .tokens)) (omega (arith, c .if5 .taken, r .tokens))
 
 add-if6 : tie.Need-add-if6
 add-if6 c = search needs
@@ -63,11 +63,11 @@ add-if6-3 c = search needs
 
 returns-6 : tie.Need-returns-6
 unfolding SizesTold
-returns-6 c = other-length (now (c .before .before .before .before .before .before .before .before .before .before .before .before .before .args .sheet)) (c .before .before .before .before .before .before .before .before .before .before .before .if1 .left) (omega (arith, c .before .before .before .before .if2 .left, sizes (c .before .before .before .before .before) .names)) (omega (arith, c .before .before .before .if3 .left, sizes (c .before .before .before .before .before) .letters)) (omega (arith, c .before .before .if4 .left, sizes (c .before .before .before .before .before) .tokens)) (omega (arith, c .before .if5 .left, sizes (c .before .before .before .before .before) .tokens)) (λ e. c .if6 .taken (omega (arith, e, sizes (c .before .before .before .before .before) .names, sizes (c .before .before .before .before .before) .letters, sizes (c .before .before .before .before .before) .tokens)))
+returns-6 c = let r = sizes (c .before .before .before .before .before) in other-length (now (c .before .before .before .before .before .before .before .before .before .before .before .before .before .args .sheet)) (c .before .before .before .before .before .before .before .before .before .before .before .if1 .left) (omega (arith, c .before .before .before .before .if2 .left, r .names)) (omega (arith, c .before .before .before .if3 .left, r .letters)) (omega (arith, c .before .before .if4 .left, r .tokens)) (omega (arith, c .before .if5 .left, r .tokens)) (λ e. c .if6 .taken (omega (arith, e, r .names, r .letters, r .tokens)))
 
 returns-7 : tie.Need-returns-7
 unfolding SizesTold
-returns-7 c = sized (now (c .before .before .before .before .before .before .before .before .before .before .before .before .before .args .sheet)) _ _ _ (sizes (c .before .before .before .before .before)) (c .before .before .before .before .before .before .before .before .before .before .before .if1 .left) (c .before .before .before .before .if2 .left) (c .before .before .before .if3 .left) (c .before .before .if4 .left) (c .before .if5 .left) (c .if6 .left)
+returns-7 c = let r = sizes (c .before .before .before .before .before) in sized (now (c .before .before .before .before .before .before .before .before .before .before .before .before .before .args .sheet)) _ _ _ r (c .before .before .before .before .before .before .before .before .before .before .before .if1 .left) (c .before .before .before .before .if2 .left) (c .before .before .before .if3 .left) (c .before .before .if4 .left) (c .before .if5 .left) (c .if6 .left)
 
 pub read-sizes-spec : {M : Type 1} → statement M
 read-sizes-spec =

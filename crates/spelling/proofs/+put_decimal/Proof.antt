@@ -41,7 +41,9 @@ put-decimal-returns : (t : ℕ) → put-decimal-lts.Need-returns (put-reads.Aske
 put-decimal-returns t c = put-short _ (c .before .before .before .before .if1 .taken) (c .before .before .put .ensures)
 
 put-decimal-put-decimal-requires : (t : ℕ) → put-decimal-lts.Need-put-decimal-requires (put-reads.Asked, put-reads.Learnt, put-decimal-below t, put-decimal.Post) (put-decimal-at t) put-decimal.Post
-put-decimal-put-decimal-requires t c κs = (omega (arith, c .before .before .before .pre .0, c .before .if1 .left), c .before .before .before .pre .1)
+put-decimal-put-decimal-requires t c κs =
+    let s = c .before .before .before in
+    (omega (arith, s .pre .0, c .before .if1 .left), s .pre .1)
 
 put-decimal-add-put-2 : (t : ℕ) → put-decimal-lts.Need-add-put-2 (put-reads.Asked, put-reads.Learnt, put-decimal-below t, put-decimal.Post) (put-decimal-at t) put-decimal.Post
 put-decimal-add-put-2 t c = search needs

@@ -1,4 +1,5 @@
 -- `spelling::put` meets its contract. Assumes nothing.
+use Rattle.definitions.specs.Lists.{bytes}
 use Prim.Native.Nat.{_-_}
 use mathlib.Core.Path.{sym}
 use Rattle.spelling.proofs.Writing.{over-set, over-past}

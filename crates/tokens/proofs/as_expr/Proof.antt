@@ -1,6 +1,5 @@
 -- `tokens::as_expr` meets its contract: what was found is wrapped.
 -- Assumes nothing.
-use borrow.Author.Tests.{eq-eqb, ne-eqb, lt-ltb, le-ltb}
 use borrow.Author.Needs.{needs}
 use Rattle.tokens.proofs.as_expr.Statement.{statement}
 use Rattle.tokens.proofs.as_expr.Tie as tie

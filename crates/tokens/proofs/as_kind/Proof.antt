@@ -1,6 +1,5 @@
 -- `tokens::as_kind` meets its contract: what was found is wrapped.
 -- Assumes nothing.
-use borrow.Author.Tests.{eq-eqb, ne-eqb, lt-ltb, le-ltb}
 use borrow.Author.Needs.{needs}
 use Rattle.tokens.proofs.as_kind.Statement.{statement}
 use Rattle.tokens.proofs.as_kind.Tie as tie

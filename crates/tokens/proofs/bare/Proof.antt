@@ -1,6 +1,6 @@
 -- `tokens::bare` meets its contract: a test of the value.
 -- Assumes nothing.
-use borrow.Author.Tests.{eq-eqb, ne-eqb, lt-ltb, le-ltb}
+use borrow.Author.Tests.{eq-eqb, ne-eqb}
 use Rattle.tokens.proofs.bare.Statement.{statement}
 use Rattle.tokens.proofs.bare.Tie as tie
 

@@ -1,6 +1,6 @@
 -- `tokens::below` meets its contract: a test of the value.
 -- Assumes nothing.
-use borrow.Author.Tests.{eq-eqb, ne-eqb, lt-ltb, le-ltb}
+use borrow.Author.Tests.{lt-ltb, le-ltb}
 use Rattle.tokens.proofs.below.Statement.{statement}
 use Rattle.tokens.proofs.below.Tie as tie
 

@@ -1,6 +1,6 @@
 -- `tokens::binary_token` meets its contract: an arm for each value.
 -- Assumes nothing.
-use borrow.Author.Tests.{eq-eqb, ne-eqb, lt-ltb, le-ltb}
+use borrow.Author.Tests.{ne-eqb}
 use Rattle.definitions.specs.Tokens.{binaryOf}
 use Rattle.tokens.proofs.binary_token.Statement.{statement}
 use Rattle.tokens.proofs.binary_token.Tie as tie

@@ -1,6 +1,6 @@
 -- `tokens::definition_token` meets its contract: an arm for each tag.
 -- Assumes nothing.
-use borrow.Author.Tests.{eq-eqb, ne-eqb, lt-ltb, le-ltb}
+use borrow.Author.Tests.{ne-eqb, lt-ltb, le-ltb}
 use Rattle.definitions.specs.Tokens.{definitionTokenOf}
 use Rattle.tokens.proofs.definition_token.Statement.{statement}
 use Rattle.tokens.proofs.definition_token.Tie as tie

@@ -1,6 +1,6 @@
 -- `tokens::expr_token` meets its contract: an arm for each tag.
 -- Assumes nothing.
-use borrow.Author.Tests.{eq-eqb, ne-eqb, lt-ltb, le-ltb}
+use borrow.Author.Tests.{ne-eqb}
 use Rattle.definitions.specs.Tokens.{exprTokenOf}
 use borrow.Author.Needs.{needs}
 use Rattle.tokens.proofs.expr_token.Statement.{statement}

@@ -1,6 +1,6 @@
 -- `tokens::node_kind` meets its contract: an arm for each value.
 -- Assumes nothing.
-use borrow.Author.Tests.{eq-eqb, ne-eqb, lt-ltb, le-ltb}
+use borrow.Author.Tests.{ne-eqb}
 use Rattle.definitions.specs.Tokens.{kindOf}
 use Rattle.tokens.proofs.node_kind.Statement.{statement}
 use Rattle.tokens.proofs.node_kind.Tie as tie

@@ -1,6 +1,6 @@
 -- `tokens::primitive_token` meets its contract: an arm for each tag.
 -- Assumes nothing.
-use borrow.Author.Tests.{eq-eqb, ne-eqb, lt-ltb, le-ltb}
+use borrow.Author.Tests.{ne-eqb}
 use Rattle.definitions.specs.Tokens.{primitiveOf}
 use Rattle.tokens.proofs.primitive_token.Statement.{statement}
 use Rattle.tokens.proofs.primitive_token.Tie as tie

@@ -1,6 +1,5 @@
 -- `tokens::tag_of` meets its contract: an arm for each case.
 -- Assumes nothing.
-use Prim.Native.Nat.{ℕ}
 use mathlib.Core.Path.{_≡_, refl}
 use Rattle.definitions.specs.declared.NodeKind.{NodeKind}
 use Rattle.definitions.specs.Tokens.{codeOf, kindCode}

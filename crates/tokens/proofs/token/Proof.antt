@@ -1,6 +1,6 @@
 -- `tokens::token` meets its contract: an arm for each tag, and the ranges behind them.
 -- Assumes nothing.
-use borrow.Author.Tests.{eq-eqb, ne-eqb, lt-ltb, le-ltb}
+use borrow.Author.Tests.{ne-eqb}
 use Rattle.definitions.specs.Tokens.{tokenOf}
 use mathlib.Core.Path.{_≡_, ap, _∙_}
 use mathlib.Core.Bool.{_&&_}

@@ -1,6 +1,6 @@
 -- `tokens::with_id` meets its contract: a test of the value.
 -- Assumes nothing.
-use borrow.Author.Tests.{eq-eqb, ne-eqb, lt-ltb, le-ltb}
+use borrow.Author.Tests.{lt-ltb, le-ltb}
 use Rattle.tokens.proofs.with_id.Statement.{statement}
 use Rattle.tokens.proofs.with_id.Tie as tie
 

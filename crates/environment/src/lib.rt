@@ -1,0 +1,42 @@
+// The clock of each name: seventeen words a name, the first 0 where it has none.
+use clock::Clock;
+use clock::Natural;
+ghost use mathlib.Core.Path.{_≡_};
+ghost use Rattle.definitions.specs.InferClocks.{formed};
+ghost use Rattle.clock.specs.Value.{valueOf, naturalOf};
+ghost use Rattle.environment.specs.Environment.{envAt, Assigned, Cleared};
+
+// A name's clock.
+pub fn lookup(table: &[u32], x: u32) -> Natural
+    ensures { λ r. ⌜ naturalOf r ≡ formed (envAt (now (table .entry)) x) ⌝ }
+{
+    let b = 17 * (x as usize);
+    let w = flat::word_at(table, b);
+    if w == 0 {
+        return clock::free();
+    }
+    let c = flat::load(table, b);
+    clock::on(c)
+}
+
+// A name is on this clock from now on, if the table has room for it.
+pub fn assign(table: &mut [u32], x: u32, c: Clock)
+    ensures { λ r. ⌜ Assigned (now (table .entry)) (now (table .exit)) x (valueOf c) ⌝ }
+{
+    let b = 17 * (x as usize);
+    if table.len() < b + 17 {
+        return;
+    }
+    flat::store(table, b, c);
+}
+
+// No name has a clock.
+pub fn clear(table: &mut [u32])
+    ensures { λ r. ⌜ Cleared (now (table .entry)) (now (table .exit)) ⌝ }
+{
+    let mut x: usize = 0;
+    while 17 * x < table.len() {
+        table[17 * x] = 0;
+        x += 1;
+    }
+}

@@ -1,0 +1,95 @@
+use Prim.Native.Nat.{_≤_, _<_, _+_, _-_, _*_}
+use mathlib.Core.Path.{_≡_, refl, _∙_}
+use native.Mathlib.Omega.{arith}
+use borrow.Author.Needs.{needs}
+use denote.Ref.{now}
+use lib.ListN.{length, set, length-set}
+use Rattle.clock.specs.Value.{at}
+use Rattle.flat.proofs.Laws.{Stored, Within, store-more, within-more, stored}
+use Rattle.flat.proofs.store.Statement.{statement}
+use Rattle.flat.proofs.store.Tie as tie
+
+abbrev Inv-loop : tie.InvT-loop
+Inv-loop t₀ b c d w f i₀ t i = (i ≤ d) × (b + 17 ≤ length t) × (length t ≡ length t₀) × Stored t (b + 1) (c .conditions) i × Within t₀ t (b + 1) 16
+
+abbrev μ-loop : tie.MeasureT-loop
+μ-loop t₀ b c d w f i₀ t i = d - i
+
+depth-of-requires : tie.Need-depth-of-requires Inv-loop μ-loop
+depth-of-requires c κs = search needs
+
+add-w : tie.Need-add-w Inv-loop μ-loop
+add-w c = search needs
+
+cast-w : tie.Need-cast-w Inv-loop μ-loop
+cast-w c = search needs
+
+mul-t : tie.Need-mul-t Inv-loop μ-loop
+mul-t c = search needs
+
+slice-write-t : tie.Need-slice-write-t Inv-loop μ-loop
+slice-write-t c = search needs
+
+add-f : tie.Need-add-f Inv-loop μ-loop
+add-f c = search needs
+
+loop-holds : tie.Need-loop-holds Inv-loop μ-loop
+loop-holds c = (omega arith, simp length-set (c .before .before .pre), refl, λ j u. absurd (omega arith), λ j u. refl)
+
+mul-k : tie.Need-mul-k Inv-loop μ-loop
+mul-k c = search needs
+
+element-copy-out-k : tie.Need-element-copy-out-k Inv-loop μ-loop
+element-copy-out-k c = search needs
+
+mul-p : tie.Need-mul-p Inv-loop μ-loop
+mul-p c = search needs
+
+add-p : tie.Need-add-p Inv-loop μ-loop
+add-p c = search needs
+
+store-condition-requires : tie.Need-store-condition-requires Inv-loop μ-loop
+store-condition-requires c κs = omega (arith, c .before .before .before .loop .inv .1, c .before .before .before .loop .inv .0, c .before .before .loop-test .taken, c .before .before .before .before .depth-of .ensures .1 .1)
+
+add-i : tie.Need-add-i Inv-loop μ-loop
+add-i c = search needs
+
+loop-less : tie.Need-loop-less Inv-loop μ-loop
+loop-less c = search needs
+
+loop-again : tie.Need-loop-again Inv-loop μ-loop
+loop-again c =
+    let v = c .before .before .before .before .before .before .loop .inv in
+    let l : c .before .before .before .before .before .before .loop .i < 8 = omega (arith, c .before .before .before .before .before .before .before .depth-of .ensures .1 .1, c .before .before .before .before .before .loop-test .taken) in
+    let m : c .before .before .before .before .before .before .before .before .before .args .b + 1 + 2 * c .before .before .before .before .before .before .loop .i + 2 ≤ length (c .before .before .before .before .before .before .loop .t) = omega (arith, v .1) in
+    (omega arith, rw (c .before .before .store-condition .ensures) (simp length-set (v .1)), rw (c .before .before .store-condition .ensures) (simp length-set (simp length-set at (v .2))), rw (c .before .before .store-condition .ensures) (store-more (c .before .before .before .before .before .before .loop .t) (c .before .before .before .before .before .before .before .before .before .args .b + 1) (c .before .before .before .before .before .before .loop .i) (c .before .before .before .before .before .before .before .before .before .args .t3 .conditions) m (v .3)), rw (c .before .before .store-condition .ensures) (within-more (set (now (c .before .before .before .before .before .before .before .before .before .args .t)) (c .before .before .before .before .before .before .before .before .before .args .b) (c .before .before .before .before .before .before .before .depth-of .result + 1)) (c .before .before .before .before .before .before .loop .t) (c .before .before .before .before .before .before .before .before .before .args .b + 1) (c .before .before .before .before .before .before .loop .i) (at (c .before .before .before .before .before .before .before .before .before .args .t3 .conditions) (c .before .before .before .before .before .before .loop .i)) l (v .4)))
+
+same-length : tie.Need-same-length Inv-loop μ-loop
+same-length c = c .before .loop .inv .2 ∙ simp length-set
+
+returns : tie.Need-returns Inv-loop μ-loop
+returns c = (c .before .loop .inv .2 ∙ simp length-set, stored (now (c .before .before .before .before .args .t)) (c .before .loop .t) (c .before .before .before .before .args .b) _ _ (c .before .loop .i) _ (c .before .before .before .before .pre) (c .before .before .depth-of .ensures .0) (c .before .loop .inv .0) (c .loop-test .left) (c .before .loop .inv .3) (c .before .loop .inv .4))
+
+pub store-spec : {M : Type 1} → statement M
+store-spec =
+    tie.close
+    (tie.spec
+    Inv-loop
+    μ-loop
+    depth-of-requires
+    add-w
+    cast-w
+    mul-t
+    slice-write-t
+    add-f
+    loop-holds
+    mul-k
+    element-copy-out-k
+    mul-p
+    add-p
+    store-condition-requires
+    add-i
+    loop-less
+    loop-again
+    same-length
+    returns)

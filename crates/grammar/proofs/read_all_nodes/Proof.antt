@@ -1,0 +1,41 @@
+-- `grammar::read_all_nodes` meets its contract: a count, then a list.
+-- Assumes nothing.
+use Rattle.definitions.specs.Grammar.{node}
+use Rattle.grammar.specs.Parts.{sheetNodes}
+use denote.Ref.{now}
+use Rattle.definitions.specs.Bytes.{tokens}
+use Rattle.grammar.proofs.Parts.{listed-more, listed-stop}
+use borrow.Author.Needs.{needs}
+use Rattle.grammar.proofs.read_all_nodes.Statement.{statement}
+use Rattle.grammar.proofs.read_all_nodes.Tie as tie
+
+read-count-requires : tie.Need-read-count-requires
+read-count-requires c κs = search needs
+
+enum-known-count : tie.Need-enum-known-count
+enum-known-count c = search needs
+
+read-nodes-requires : tie.Need-read-nodes-requires
+read-nodes-requires c κs = search needs
+
+enum-known-count-2 : tie.Need-enum-known-count-2
+enum-known-count-2 c = search needs
+
+returns : tie.Need-returns
+unfolding sheetNodes
+returns c = listed-more (node (c .before .before .before .before .before .before .before .args .names)) _ _ _ _ _ _ (c .before .before .before .before .read-count .ensures) _ _ _ (c .before .before .count .given .1) (c .read-nodes .ensures)
+
+returns-2 : tie.Need-returns-2
+unfolding sheetNodes
+returns-2 c = listed-stop (node (c .before .before .before .before .before .before .args .names)) 2 0 16 (tokens (now (c .before .before .before .before .before .before .args .tags)) (now (c .before .before .before .before .before .before .args .values))) (c .before .before .before .before .before .before .args .at) _ (c .before .before .before .read-count .ensures) _ (c .before .count2 .given .1)
+
+pub read-all-nodes-spec : {M : Type 1} → statement M
+read-all-nodes-spec =
+    tie.close
+    (tie.spec
+    read-count-requires
+    enum-known-count
+    read-nodes-requires
+    enum-known-count-2
+    returns
+    returns-2)

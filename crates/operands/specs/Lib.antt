@@ -1,0 +1,4 @@
+pub mod Role
+pub mod Spread
+pub mod Laid
+pub mod Viewed

@@ -1,0 +1,202 @@
+-- Laws of the table of definitions, and of a definition's parts.
+-- Assumes nothing.
+use mathlib.Core.Path.{_≡_, refl, sym, _∙_, ap}
+use mathlib.Core.List.{List, [], _∷_}
+use mathlib.Core.Bool.{Bool, true, false}
+use mathlib.Core.Option.{Option, none, some}
+use Prim.Native.Nat.{ℕ, zero, suc, _+_, _-_, _≤_, _<_}
+use native.Mathlib.Omega.{arith}
+use native.Mathlib.Numerals.{add-one}
+use lib.ListN.{length, getD, set, drop}
+use lib.Seq.{getD-set-same, getD-set-other, drop-cons, drop-length}
+use lib.Dec.{eqb, ltb}
+use borrow.Author.Tests.{eq-eqb, ne-eqb, eqb-true, eqb-false}
+use Rattle.definitions.specs.declared.Refusal.{Refusal}
+use Rattle.definitions.specs.declared.DefinitionToken.{DefinitionToken}
+use Rattle.definitions.specs.Lists.{choose, placeBy}
+use Rattle.definitions.specs.Tokens.{TagValue, given, definitionTokenOf}
+use Rattle.definitions.specs.Tree.{Ty, Declared, Body, TypeDef}
+use Rattle.definitions.specs.Reading.{Got, got, rejected, Reader, token, times}
+use Rattle.definitions.specs.Grammar.{counted, count, name, tagged, definition, typeDef}
+use Rattle.definitions.specs.Bytes.{tokens}
+use Rattle.grammar.specs.declared.Read.{Read}
+use Rattle.grammar.specs.declared.Counted.{Counted}
+use Rattle.grammar.specs.declared.DefinitionHead.{DefinitionHead}
+use Rattle.grammar.specs.Outcome.{outcome, counts, definitionHead}
+use Rattle.grammar.proofs.Laws.{next-got, refused, count-got, count-refused, definition-head-got, definition-head-refused, after-got, wrap-got, times-length, tokens-length}
+use Rattle.grammar.proofs.Longer.{token-got}
+use Rattle.grammar.proofs.Got.{definition-got, enum-got, record-got, alias-got, token-value, tagged-value, no}
+use Rattle.typedefs.specs.declared.Defined.{Defined}
+use Rattle.typedefs.specs.Table.{nowhere, defAt, nameAt, isNamed, firstOf, Table, Named, Described}
+
+-- where a reading that starts at p goes on; p itself, where it is refused
+abbrev pub following : {A : Type 0} → Got A → ℕ → ℕ
+following (got a q) p = q
+following (rejected r) p = p
+
+module _ {A : Type 0} (R : Reader A) (ts : List TagValue) where
+  -- the place of the k-th item, where the first stands at p
+  unfoldable pub placeAt : ℕ → ℕ → ℕ
+  placeAt p zero = p
+  placeAt p (suc k) = following (R ts (placeAt p k)) (placeAt p k)
+
+  shift : (k p : ℕ) → placeAt p (suc k) ≡ placeAt (following (R ts p) p) k
+  unfolding placeAt
+  shift zero p = refl
+  shift (suc k) p = ap (λ (x : ℕ). following (R ts x) x) (shift k p)
+
+  -- each item was read at its place
+  pub item : (n k p : ℕ) (l : List A) (q : ℕ) (d : A) → times n R ts p ≡ got l q → k < n → (s : ℕ) × (R ts (placeAt p k) ≡ got (getD l k d) s)
+  unfolding times placeAt
+  item zero k p l q d g h = absurd (omega arith)
+  item (suc n) zero p l q d g h =
+      let a = after-got (R ts p) _ l q g in
+      let b = wrap-got (times n R ts (a .1)) _ l q (a .3) in
+      (a .1, a .2 ∙ ap (λ (y : List A). got (getD y 0 d) (a .1)) (sym (b .2)))
+  item (suc n) (suc k) p l q d g h =
+      let a = after-got (R ts p) _ l q g in
+      let b = wrap-got (times n R ts (a .1)) _ l q (a .3) in
+      let r = item n k (a .1) (b .0) q d (b .1) (omega arith) in
+      let e : following (R ts p) p ≡ a .1 = ap (λ (x : Got A). following x p) (a .2) in
+      let f : placeAt p (suc k) ≡ placeAt (a .1) k = shift k p ∙ ap (λ (x : ℕ). placeAt x k) e in
+      (r .0, ap (R ts) f ∙ r .1 ∙ ap (λ (y : List A). got (getD y (suc k) d) (r .0)) (sym (b .2)))
+
+  module _ (p i place : ℕ) (here : place ≡ placeAt p i) (r : Read) (read : r ≡ outcome (R ts place)) where
+    -- one more place is in the table
+    pub placed-more : (places : List ℕ) (next : ℕ) → i < length places → ((k : ℕ) → k < i → getD places k 0 ≡ placeAt p k) → r ≡ Read.Next next →
+        (next ≡ placeAt p (i + 1)) × ((k : ℕ) → k < i + 1 → getD (set places i place) k 0 ≡ placeAt p k)
+    unfolding placeAt
+    placed-more places next h filled e =
+        let g = next-got (R ts place) r next read e in
+        let f : following (R ts place) place ≡ next = ap (λ (x : Got A). following x place) (g .1) in
+        let n : next ≡ placeAt p (i + 1) = rw (add-one i) (sym f ∙ ap (λ (x : ℕ). following (R ts x) x) here) in
+        (n, λ k b. go k (eqb k i) refl b)
+      where
+        go : (k : ℕ) (t : Bool) → eqb k i ≡ t → k < i + 1 → getD (set places i place) k 0 ≡ placeAt p k
+        go k true t b = let e : k ≡ i = eqb-true k i t in rw e (getD-set-same places i place 0 h ∙ here)
+        go k false t b = getD-set-other places i k place 0 (eqb-false k i t) ∙ filled k (omega (arith, eqb-false k i t))
+
+    -- an item that is refused is none of those read
+    pub placed-refused : (n : ℕ) (t : Refusal) (l : List A) (q : ℕ) (d : A) → i < n → r ≡ Read.Refused t → times n R ts p ≡ got l q → ⊥
+    placed-refused n t l q d h e g = let a = item n i p l q d g h in no (R ts place) (getD l i d) (a .0) r t (ap (R ts) here ∙ a .1) read e
+
+-- a table that is filled
+pub placed : (M : ℕ) (ts : List TagValue) (places : List ℕ) (n p : ℕ) (types : List TypeDef) (q : ℕ) → ((k : ℕ) → k < n → getD places k 0 ≡ placeAt (typeDef M) ts p k) →
+    times n (typeDef M) ts p ≡ got types q → Table M ts places n types
+placed M ts places n p types q filled g = record {
+  count = times-length (typeDef M) ts n p types q g;
+  stands = λ i h. let a = item (typeDef M) ts n i p types q nowhere g h in (a .0, ap (typeDef M ts) (filled i h) ∙ a .1);
+}
+
+-- a definition's first token has its name
+abbrev idOf : DefinitionToken → ℕ
+idOf (DefinitionToken.Enum x) = x
+idOf (DefinitionToken.Record x) = x
+idOf (DefinitionToken.Alias x) = x
+
+token-id : (M tag v : ℕ) (h : DefinitionToken) → definitionTokenOf M tag v ≡ some h → idOf h ≡ v
+unfolding definitionTokenOf
+token-id M tag v h e = go (eqb tag 10) (eqb tag 11) (eqb tag 12) (ltb v M) e
+  where
+    go : (a b c l : Bool) → choose a (given l (DefinitionToken.Enum v)) (choose b (given l (DefinitionToken.Record v)) (choose c (given l (DefinitionToken.Alias v)) none)) ≡ some h → idOf h ≡ v
+    go true b c true e = let f : h ≡ DefinitionToken.Enum v = cc in rw f
+    go true b c false e = let z : _≡_ {A = ℕ} 0 1 = cc in absurd (omega arith)
+    go false true c true e = let f : h ≡ DefinitionToken.Record v = cc in rw f
+    go false true c false e = let z : _≡_ {A = ℕ} 0 1 = cc in absurd (omega arith)
+    go false false true true e = let f : h ≡ DefinitionToken.Alias v = cc in rw f
+    go false false true false e = let z : _≡_ {A = ℕ} 0 1 = cc in absurd (omega arith)
+    go false false false l e = let z : _≡_ {A = ℕ} 0 1 = cc in absurd (omega arith)
+
+-- a definition has the name of its first token
+definition-id : (M : ℕ) (ts : List TagValue) (p : ℕ) (h : DefinitionToken) (d : TypeDef) (q : ℕ) → definition M h ts p ≡ got d q → d .name ≡ idOf h
+definition-id M ts p (DefinitionToken.Enum x) d q g = ap (λ (y : TypeDef). y .name) (enum-got M ts p x d q g .5)
+definition-id M ts p (DefinitionToken.Record x) d q g = ap (λ (y : TypeDef). y .name) (record-got M ts p x d q g .5)
+definition-id M ts p (DefinitionToken.Alias x) d q g = ap (λ (y : TypeDef). y .name) (alias-got M ts p x d q g .2)
+
+module _ (M : ℕ) (tags vs : List ℕ) (same-length : length vs ≡ length tags) where
+  -- the value at a definition's place is its name
+  pub definition-name : (p : ℕ) (d : TypeDef) (q : ℕ) → typeDef M (tokens tags vs) p ≡ got d q → getD vs p 0 ≡ d .name
+  definition-name p d q g =
+      let a = definition-got M (tokens tags vs) p d q g in
+      let k = token-got (definitionTokenOf M) (tokens tags vs) p (a .0) (p + 1) (a .1) in
+      let t = token-value tags vs same-length p (definitionTokenOf M) (a .0) (p + 1) (omega (arith, k .1, tokens-length tags vs same-length)) (a .1) in
+      sym (token-id M (getD tags p 0) (getD vs p 0) (a .0) (t .0)) ∙ sym (definition-id M (tokens tags vs) (p + 1) (a .0) d q (a .2))
+
+  -- the value at a name's place is the name
+  pub name-value : (p x q : ℕ) → name M (tokens tags vs) p ≡ got x q → x ≡ getD vs p 0
+  unfolding name tagged
+  name-value p x q g =
+      let k = token-got _ (tokens tags vs) p x q g in
+      tagged-value tags vs same-length p 4 M x q (omega (arith, k .1, tokens-length tags vs same-length)) g .0
+
+  -- where the definitions stand, their names stand
+  pub named : (places : List ℕ) (n : ℕ) (types : List TypeDef) → Table M (tokens tags vs) places n types → Named vs places n types
+  named places n types t = record {
+    count = t .count;
+    same = λ i h. let s = t .stands i h in definition-name (getD places i 0) (defAt types i) (s .0) (s .1);
+  }
+
+-- the first definition of a name, from the i-th on
+module _ (types : List TypeDef) (x n : ℕ) (many : length types ≡ n) where
+  pub first-here : (i : ℕ) → i < n → firstOf types x ≡ i + placeBy (isNamed x) (drop i types) → nameAt types i ≡ x → i ≡ firstOf types x
+  first-here i h e s = rw e (rw (drop-cons types i nowhere (omega arith)) (rw (eq-eqb _ _ s) (omega arith)))
+
+  pub first-later : (i : ℕ) → i < n → firstOf types x ≡ i + placeBy (isNamed x) (drop i types) → (nameAt types i ≡ x → ⊥) → firstOf types x ≡ (i + 1) + placeBy (isNamed x) (drop (i + 1) types)
+  first-later i h e s = e ∙ rw (drop-cons types i nowhere (omega arith)) (rw (ne-eqb _ _ s, add-one i) (omega arith))
+
+  pub first-none : (i : ℕ) → n ≤ i → i ≤ n → firstOf types x ≡ i + placeBy (isNamed x) (drop i types) → n ≡ firstOf types x
+  first-none i h k e = let f : i ≡ length types = omega arith in sym (e ∙ rw f (rw (drop-length types) (omega arith)))
+
+-- the parts of a definition, as the code finds them
+module _ (M : ℕ) (ts : List TagValue) (p : ℕ) (r : DefinitionHead) (i : r ≡ definitionHead (token (definitionTokenOf M) ts p)) (d : TypeDef) (q : ℕ) (g : typeDef M ts p ≡ got d q) where
+  pub describe-stop : (t : Refusal) → r ≡ DefinitionHead.Refused t → ⊥
+  describe-stop t e =
+      let a = definition-got M ts p d q g in
+      let f = definition-head-refused (token (definitionTokenOf M) ts p) r t i e in
+      let z : _≡_ {A = ℕ} 0 1 = cc in omega arith
+
+  module _ (h : DefinitionToken) (s : ℕ) (e : r ≡ DefinitionHead.Token h s) where
+    is : (k : DefinitionToken) → h ≡ k → definition M k ts s ≡ got d q
+    is k j =
+        let a = definition-got M ts p d q g in
+        let f = definition-head-got (token (definitionTokenOf M) ts p) r h s i e in
+        let u : a .0 ≡ k = cc in
+        let v : p + 1 ≡ s = cc in
+        rw (u, v) at (a .2)
+
+    pub describe-alias : (x : ℕ) → h ≡ DefinitionToken.Alias x → Described M ts d q (Defined.Alias x s)
+    unfolding Described
+    describe-alias x j = alias-got M ts s x d q (is (DefinitionToken.Alias x) j)
+
+    module _ (c : Counted) (ec : c ≡ counts (counted 3 0 64 ts s)) (x : ℕ) where
+      pub describe-enum : (n u : ℕ) → h ≡ DefinitionToken.Enum x → c ≡ Counted.Count n u → Described M ts d q (Defined.Enum x n u)
+      unfolding Described count
+      describe-enum n u j f =
+          let a = enum-got M ts s x d q (is (DefinitionToken.Enum x) j) in
+          let b = count-got (counted 3 0 64 ts s) c n u ec f in
+          let v : a .0 ≡ n = cc in
+          let w : a .1 ≡ u = cc in
+          (a .2, rw (v, w) at (a .4), a .5)
+
+      pub describe-record : (n u : ℕ) → h ≡ DefinitionToken.Record x → c ≡ Counted.Count n u → Described M ts d q (Defined.Record x n u)
+      unfolding Described count
+      describe-record n u j f =
+          let a = record-got M ts s x d q (is (DefinitionToken.Record x) j) in
+          let b = count-got (counted 3 0 64 ts s) c n u ec f in
+          let v : a .0 ≡ n = cc in
+          let w : a .1 ≡ u = cc in
+          (a .2, rw (v, w) at (a .4), a .5)
+
+      pub describe-no-enum : (t : Refusal) → h ≡ DefinitionToken.Enum x → c ≡ Counted.Refused t → ⊥
+      unfolding count
+      describe-no-enum t j f =
+          let a = enum-got M ts s x d q (is (DefinitionToken.Enum x) j) in
+          let b = count-refused (counted 3 0 64 ts s) c t ec f in
+          let z : _≡_ {A = ℕ} 0 1 = cc in omega arith
+
+      pub describe-no-record : (t : Refusal) → h ≡ DefinitionToken.Record x → c ≡ Counted.Refused t → ⊥
+      unfolding count
+      describe-no-record t j f =
+          let a = record-got M ts s x d q (is (DefinitionToken.Record x) j) in
+          let b = count-refused (counted 3 0 64 ts s) c t ec f in
+          let z : _≡_ {A = ℕ} 0 1 = cc in omega arith

@@ -1,0 +1,229 @@
+// The order of chains, and rows of clocks put into it.
+// The letters of name i are those from starts[i] to starts[i + 1].
+use clock::Clock;
+use definitions::Condition;
+use definitions::Test;
+ghost use mathlib.Core.Path.{_≡_};
+ghost use Prim.Native.Nat.{ℕ, _+_, _≤_, _<_, compare};
+ghost use lib.ListN.{length};
+ghost use Rattle.definitions.specs.Clock.{lexical, testOrder, conditionOrder, chainOrder, insert, inChainOrder};
+ghost use Rattle.clock.specs.Value.{valueOf};
+ghost use Rattle.rows.specs.Rows.{clocksIn};
+ghost use Rattle.fresh.specs.Places.{lettersAt};
+ghost use Rattle.order.specs.Order.{orderOf, isSame, rowOf, picked, Below, Shifted, Sought};
+
+pub enum Order {
+    Less,
+    Same,
+    More,
+}
+
+// Where a row goes among others: before one of them or at the end, or it is there.
+pub enum Place {
+    Before(usize),
+    There,
+}
+
+fn is_same(o: Order) -> bool
+    ensures { λ r. ⌜ r ≡ isSame o ⌝ }
+{
+    match o {
+        Order::Less => false,
+        Order::Same => true,
+        Order::More => false,
+    }
+}
+
+// Letters against letters, a prefix first.
+pub fn compare_letters(x: &[u8], y: &[u8]) -> Order
+    ensures { λ r. ⌜ orderOf r ≡ lexical compare (now (x .entry)) (now (y .entry)) ⌝ }
+{
+    let mut i: usize = 0;
+    while i < x.len() {
+        if y.len() <= i {
+            return Order::More;
+        }
+        let a = x[i];
+        let b = y[i];
+        if a < b {
+            return Order::Less;
+        }
+        if b < a {
+            return Order::More;
+        }
+        i += 1;
+    }
+    if i < y.len() {
+        return Order::Less;
+    }
+    Order::Same
+}
+
+fn wide(x: u32) -> usize
+    ensures { λ r. ⌜ r ≡ x ⌝ }
+{
+    x as usize
+}
+
+// Two names by their letters.
+pub fn name_order(starts: &[u32], letters: &[u8], x: u32, y: u32) -> Order
+    ensures { λ r. ⌜ orderOf r ≡ lexical compare (lettersAt (now (starts .entry)) (now (letters .entry)) x) (lettersAt (now (starts .entry)) (now (letters .entry)) y) ⌝ }
+{
+    if x == y {
+        return Order::Same;
+    }
+    let s = fresh::span_of(starts, letters, x);
+    let t = fresh::span_of(starts, letters, y);
+    let a = s.from;
+    let b = s.to;
+    let c = t.from;
+    let d = t.to;
+    compare_letters(&letters[a..b], &letters[c..d])
+}
+
+// On before not.
+pub fn test_order(a: Test, b: Test) -> Order
+    ensures { λ r. ⌜ orderOf r ≡ testOrder a b ⌝ }
+{
+    match a {
+        Test::On => match b {
+            Test::On => Order::Same,
+            Test::Not => Order::Less,
+        },
+        Test::Not => match b {
+            Test::On => Order::More,
+            Test::Not => Order::Same,
+        },
+    }
+}
+
+pub fn condition_order(starts: &[u32], letters: &[u8], k: Condition, l: Condition) -> Order
+    ensures { λ r. ⌜ orderOf r ≡ conditionOrder (lettersAt (now (starts .entry)) (now (letters .entry))) k l ⌝ }
+{
+    let o = name_order(starts, letters, k.name, l.name);
+    let same = is_same(o);
+    if same {
+        let s = k.test;
+        let t = l.test;
+        return test_order(s, t);
+    }
+    o
+}
+
+// Two clocks, condition by condition, a parent before its children.
+pub fn chain_order(starts: &[u32], letters: &[u8], a: Clock, b: Clock) -> Order
+    ensures { λ r. ⌜ orderOf r ≡ chainOrder (lettersAt (now (starts .entry)) (now (letters .entry))) (valueOf a) (valueOf b) ⌝ }
+{
+    let d = clock::depth_of(a);
+    let e = clock::depth_of(b);
+    let mut i: usize = 0;
+    while i < d {
+        if e <= i {
+            return Order::More;
+        }
+        let k = a.conditions[i];
+        let l = b.conditions[i];
+        let o = condition_order(starts, letters, k, l);
+        let same = is_same(o);
+        if same {
+            i += 1;
+            continue;
+        }
+        return o;
+    }
+    if i < e {
+        return Order::Less;
+    }
+    Order::Same
+}
+
+// Where the clock c goes among the first k rows that the order names.
+pub fn seek(
+    starts: &[u32],
+    letters: &[u8],
+    rows: &[u32],
+    order: &[u32],
+    k: usize,
+    c: Clock,
+) -> Place
+    requires { ⌜ k ≤ length (now order) ⌝ }
+    ensures { λ r. ⌜ Sought (lettersAt (now (starts .entry)) (now (letters .entry))) (now (rows .entry)) (now (order .entry)) k (valueOf c) r ⌝ }
+{
+    let mut j: usize = 0;
+    while j < k {
+        let y = wide(order[j]);
+        let d = rows::get(rows, y);
+        let o = chain_order(starts, letters, c, d);
+        match o {
+            Order::Less => {
+                return Place::Before(j);
+            }
+            Order::Same => {
+                return Place::There;
+            }
+            Order::More => {
+                j += 1;
+            }
+        }
+    }
+    Place::Before(k)
+}
+
+// x at j, and the words from j to k one place further.
+pub fn shift(order: &mut [u32], j: usize, k: usize, x: u32)
+    requires { ⌜ j ≤ k ⌝ }
+    requires { ⌜ k < length (now order) ⌝ }
+    ensures { λ r. ⌜ Shifted (now (order .entry)) (now (order .exit)) j k x ⌝ }
+{
+    let mut i = k;
+    while j < i {
+        let y = order[i - 1];
+        order[i] = y;
+        i -= 1;
+    }
+    order[j] = x;
+}
+
+// The row x put among the first k: how many there are then.
+pub fn insert_row(
+    starts: &[u32],
+    letters: &[u8],
+    rows: &[u32],
+    order: &mut [u32],
+    k: usize,
+    x: u32,
+) -> usize
+    requires { ⌜ k < length (now order) ⌝ }
+    ensures { λ r. ⌜ length (now (order .exit)) ≡ length (now (order .entry)) ⌝ }
+    ensures { λ r. ⌜ r ≤ k + 1 ⌝ }
+    ensures { λ r. ⌜ picked (rowOf (now (rows .entry))) (now (order .exit)) 0 r ≡ insert (lettersAt (now (starts .entry)) (now (letters .entry))) (rowOf (now (rows .entry)) x) (picked (rowOf (now (rows .entry))) (now (order .entry)) 0 k) ⌝ }
+    ensures { λ r. ⌜ ((m : ℕ) → x < m → Below (now (order .entry)) k m → Below (now (order .exit)) r m) ⌝ }
+{
+    let i = wide(x);
+    let c = rows::get(rows, i);
+    let place = seek(starts, letters, rows, order, k, c);
+    match place {
+        Place::Before(j) => {
+            shift(order, j, k, x);
+            k + 1
+        }
+        Place::There => k,
+    }
+}
+
+// The first n rows in chain order: how many there are, and which.
+pub fn sort_rows(starts: &[u32], letters: &[u8], rows: &[u32], order: &mut [u32], n: u32) -> usize
+    requires { ⌜ n ≤ length (now order) ⌝ }
+    ensures { λ r. ⌜ length (now (order .exit)) ≡ length (now (order .entry)) ⌝ }
+    ensures { λ r. ⌜ r ≤ n ⌝ }
+    ensures { λ r. ⌜ picked (rowOf (now (rows .entry))) (now (order .exit)) 0 r ≡ inChainOrder (lettersAt (now (starts .entry)) (now (letters .entry))) (clocksIn (now (rows .entry)) n) ⌝ }
+    ensures { λ r. ⌜ Below (now (order .exit)) r n ⌝ }
+{
+    let mut i = n;
+    let mut k: usize = 0;
+    while 0 < i {
+        i -= 1;
+        k = insert_row(starts, letters, rows, order, k, i);
+    }
+    k
+}

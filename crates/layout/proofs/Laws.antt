@@ -1,0 +1,166 @@
+-- Where the parts of what was read stand, by the code's places and counts.
+-- Assumes nothing.
+use mathlib.Core.Path.{_≡_, refl, sym, _∙_, ap, subst, subst⁻¹}
+use mathlib.Core.List.{List, [], _∷_}
+use mathlib.Core.Bool.{Bool, true, false}
+use mathlib.Core.Option.{Option, none, some}
+use Prim.Native.Nat.{ℕ, zero, suc, _+_, _<_}
+use native.Mathlib.Omega.{arith}
+use lib.Dec.{eqb}
+use lib.ListN.{length, getD, getElem?}
+use borrow.Author.Tests.{lt-ltb}
+use Rattle.definitions.specs.declared.NodeKind.{NodeKind}
+use Rattle.definitions.specs.Lists.{choose}
+use Rattle.definitions.specs.Tokens.{TagValue, kindOf}
+use Rattle.definitions.specs.Tree.{Declared, Expr, Equation, Node, Sheet}
+use Rattle.definitions.specs.Bytes.{tokens}
+use Rattle.definitions.specs.Reading.{Got, got, Reader, token, times}
+use Rattle.definitions.specs.Grammar.{tagged, counted, count, name, kindAt, declaration, declarations, typeDef, expr, equation, probe, node, sheet}
+use Rattle.grammar.specs.declared.Read.{Read}
+use Rattle.grammar.specs.Outcome.{outcome}
+use Rattle.grammar.proofs.Laws.{tokens-length, times-length}
+use Rattle.grammar.proofs.Parts.{counted-within}
+use Rattle.grammar.proofs.Longer.{token-got, counted-grows, tagged-grows}
+use Rattle.grammar.proofs.Got.{token-value, tagged-value, counted-value, declarations-got, equation-got, node-got, sheet-got}
+use Rattle.typedefs.proofs.Laws.{placeAt, item}
+use Rattle.layout.specs.declared.Span.{Span}
+use Rattle.layout.specs.Spans.{pastIn, kindOr, kindIn, endOf, spanBy, Spans}
+use Rattle.layout.specs.Laid.{Laid, LaidEquation, LaidSheet, Places}
+
+past-is : (n p : ℕ) → p < n → pastIn n p ≡ p + 1
+past-is n p h = rw (lt-ltb p n h)
+
+-- the kind that a token says
+kind-is : (t v : ℕ) (k : NodeKind) → kindAt t v ≡ some k → kindIn v ≡ k
+kind-is t v k g = go (eqb t 41) (kindOf v) g
+  where
+    go : (b : Bool) (o : Option NodeKind) → choose b o none ≡ some k → kindOr o ≡ k
+    go false o e = let z : _≡_ {A = ℕ} 0 1 = cc in absurd (omega arith)
+    go true o e = rw e
+
+-- over the two arrays
+module _ (ts vs : List ℕ) (same-length : length vs ≡ length ts) where
+  -- a list behind its count
+  module _ {A : Type 0} (R : Reader A) (p tag low most n u : ℕ) (l : List A) (q : ℕ) (g : counted tag low most (tokens ts vs) p ≡ got n u) (h : times n R (tokens ts vs) u ≡ got l q) where
+    span-got : Spans R (tokens ts vs) l (spanBy R ts vs p) × (spanBy R ts vs p .end ≡ q)
+    span-got =
+        let w = counted-grows tag low most (tokens ts vs) p n u g in
+        let b : p < length ts = omega (arith, w .0, w .1, tokens-length ts vs same-length) in
+        let v = counted-value ts vs same-length p tag low most n u b g in
+        let k : u ≡ pastIn (length ts) p = v .2 ∙ sym (past-is (length ts) p b) in
+        let i : times (getD vs p 0) R (tokens ts vs) (pastIn (length ts) p) ≡ got l q = go (getD vs p 0) (v .0) (pastIn (length ts) p) k in
+        let z : spanBy R ts vs p .end ≡ q = ap (λ (x : Got (List A)). endOf (outcome x) p) i in
+        (record { items = i ∙ ap (got l) (sym z); many = sym (v .0) ∙ sym (times-length R (tokens ts vs) n u l q h) }, z)
+      where
+        go : (m : ℕ) → n ≡ m → (s : ℕ) → u ≡ s → times m R (tokens ts vs) s ≡ got l q
+        go m e s f = rw (← e, ← f) h
+
+    pub span-at : (s : Span) (p′ : ℕ) → s ≡ spanBy R ts vs p′ → p′ ≡ p → Spans R (tokens ts vs) l s × (s .end ≡ q)
+    span-at s p′ e f = subst⁻¹ (λ (x : Span). Spans R (tokens ts vs) l x × (x .end ≡ q)) (e ∙ ap (spanBy R ts vs) f) span-got
+
+  -- a node's name and kind
+  module _ (M : ℕ) (n : Node) (p k q : ℕ) where
+    named : tagged 40 M (tokens ts vs) p ≡ got (n .name) k → (n .name ≡ getD vs p 0) × (k ≡ pastIn (length ts) p)
+    named g =
+        let w = tagged-grows 40 M (tokens ts vs) p (n .name) k g in
+        let b : p < length ts = omega (arith, w .0, w .1, tokens-length ts vs same-length) in
+        let v = tagged-value ts vs same-length p 40 M (n .name) k b g in
+        (v .0, v .3 ∙ sym (past-is (length ts) p b))
+
+    kinded : token kindAt (tokens ts vs) k ≡ got (n .kind) q → (kindIn (getD vs k 0) ≡ n .kind) × (q ≡ pastIn (length ts) k)
+    kinded g =
+        let w = token-got kindAt (tokens ts vs) k (n .kind) q g in
+        let b : k < length ts = omega (arith, w .1, tokens-length ts vs same-length) in
+        let v = token-value ts vs same-length k kindAt (n .kind) q b g in
+        (kind-is (getD ts k 0) (getD vs k 0) (n .kind) (v .0), v .1 ∙ sym (past-is (length ts) k b))
+
+  module _ (M : ℕ) where
+    declared-at : (most p : ℕ) (l : List Declared) (q : ℕ) → declarations M most (tokens ts vs) p ≡ got l q → (s : Span) (p′ : ℕ) → s ≡ spanBy (declaration M) ts vs p′ → p′ ≡ p → Spans (declaration M) (tokens ts vs) l s × (s .end ≡ q)
+    unfolding count
+    declared-at most p l q g s p′ e f =
+        let d = declarations-got M (tokens ts vs) p most l q g in
+        span-at (declaration M) p 3 0 most (d .0) (d .1) l q (d .2) (d .3) s p′ e f
+
+    -- the places and counts that the code finds are those of the node that was read
+    pub laid : (p a b : ℕ) → a ≡ pastIn (length ts) p → b ≡ pastIn (length ts) a →
+        (i o l k r : Span) → i ≡ spanBy (declaration M) ts vs b → o ≡ spanBy (declaration M) ts vs (i .end) → l ≡ spanBy (declaration M) ts vs (o .end) →
+        k ≡ spanBy (equation M) ts vs (l .end) → r ≡ spanBy (probe M) ts vs (k .end) →
+        (x y : ℕ) (d : NodeKind) → x ≡ getD vs p 0 → y ≡ getD vs a 0 → d ≡ kindIn y →
+        (n : Node) (q : ℕ) → node M (tokens ts vs) p ≡ got n q →
+        Laid M (tokens ts vs) n q (record { name = x; kind = d; inputs = i; outputs = o; locals = l; equations = k; probes = r; end = r .end })
+    unfolding count
+    laid p a b ea eb i o l k r ei eo el ek er x y d ex ey ed n q g =
+        let t = node-got M (tokens ts vs) p n q g in
+        let na = named M n p (t .kindAt′) (t .inputsAt) (t .named) in
+        let fa : t .kindAt′ ≡ a = na .1 ∙ sym ea in
+        let ki = kinded M n p (t .kindAt′) (t .inputsAt) (t .kinded) in
+        let fb : b ≡ t .inputsAt = eb ∙ ap (pastIn (length ts)) (sym fa) ∙ sym (ki .1) in
+        let si = declared-at 128 (t .inputsAt) (n .inputs) (t .outputsAt) (t .inputs) i b ei fb in
+        let so = declared-at _ (t .outputsAt) (n .outputs) (t .localsAt) (t .outputs) o (i .end) eo (si .1) in
+        let sl = declared-at _ (t .localsAt) (n .locals) (t .countAt) (t .locals) l (o .end) el (so .1) in
+        let sk = span-at (equation M) (t .countAt) 3 0 64 (t .equationCount) (t .equationsAt) (n .equations) (t .probeCountAt) (t .counted-equations) (t .equations) k (l .end) ek (sl .1) in
+        let sr = span-at (probe M) (t .probeCountAt) 3 0 64 (t .probeCount) (t .probesAt) (n .probes) q (t .counted-probes) (t .probes) r (k .end) er (sk .1) in
+        record {
+          named = ex ∙ sym (na .0);
+          kinded = ed ∙ ap kindIn (ey ∙ ap (λ (z : ℕ). getD vs z 0) (sym fa)) ∙ ki .0;
+          inputs = si .0;
+          outputs = so .0;
+          locals = sl .0;
+          equations = sk .0;
+          probes = sr .0;
+          ends = sr .1;
+        }
+
+    pub laid-equation : (p : ℕ) (l : Span) → l ≡ spanBy (name M) ts vs p → (r : Read) → r ≡ outcome (expr M 32 (tokens ts vs) (l .end)) → (z : ℕ) → z ≡ endOf r p →
+        (e : Equation) (q : ℕ) → equation M (tokens ts vs) p ≡ got e q → LaidEquation M (tokens ts vs) e q (record { left = l; right = l .end; end = z })
+    laid-equation p l el r er z ez e q g =
+        let t = equation-got M (tokens ts vs) p e q g in
+        let s = span-at (name M) p 3 1 8 (t .0) (t .1) (t .2) (t .3) (t .5) (t .6) l p el refl in
+        let fl : t .2 ≡ e .left = sym (ap (λ (y : Equation). y .left) (t .8)) in
+        let fr : t .4 ≡ e .right = sym (ap (λ (y : Equation). y .right) (t .8)) in
+        let x : expr M 32 (tokens ts vs) (l .end) ≡ got (e .right) q = ap (expr M 32 (tokens ts vs)) (s .1) ∙ t .7 ∙ ap (λ (y : Expr). got y q) fr in
+        record { left = subst (λ (y : List ℕ). Spans (name M) (tokens ts vs) y l) fl (s .0); right = x; ends = ez ∙ ap (λ (y : Read). endOf y p) (er ∙ ap outcome x) }
+
+    pub laid-sheet : (t m : Span) → t ≡ spanBy (typeDef M) ts vs 0 → m ≡ spanBy (node M) ts vs (t .end) →
+        (s : Sheet) (q : ℕ) → sheet M (tokens ts vs) 0 ≡ got s q → LaidSheet M (tokens ts vs) s (record { types = t; nodes = m })
+    laid-sheet t m et em s q g =
+        let x = sheet-got M (tokens ts vs) 0 s q g in
+        let st = span-at (typeDef M) 0 1 0 32 (x .0) (x .1) (s .types) (x .2) (x .5) (x .6) t 0 et refl in
+        let sm = span-at (node M) (x .2) 2 0 16 (x .3) (x .4) (s .nodes) q (x .7) (x .8) m (t .end) em (st .1) in
+        let a = times-length (typeDef M) (tokens ts vs) (x .0) (x .1) (s .types) (x .2) (x .6) in
+        let b = times-length (node M) (tokens ts vs) (x .3) (x .4) (s .nodes) q (x .8) in
+        let c = counted-within 1 0 32 (tokens ts vs) 0 (x .0) (x .1) (x .5) in
+        let d = counted-within 2 0 16 (tokens ts vs) (x .2) (x .3) (x .4) (x .7) in
+        record {
+          types = st .0;
+          nodes = sm .0;
+          few-types = omega (arith, a, c .1, st .0 .many);
+          few-nodes = omega (arith, b, d .1, sm .0 .many);
+          whole = sm .1 ∙ x .9;
+        }
+
+-- what stands past the last node
+abbrev pub nowhere : Node
+nowhere = record { name = 0; kind = NodeKind.Function; inputs = []; outputs = []; locals = []; equations = []; probes = [] }
+
+-- an item of a list, and that it is one
+pub item-at : {A : Type 0} (l : List A) (i : ℕ) (a : A) → getElem? l i ≡ some a → (getD l i a ≡ a) × (i < length l)
+item-at [] i a e = let z : _≡_ {A = ℕ} 0 1 = cc in absurd (omega arith)
+item-at (b ∷ l) zero a e = (cc, omega arith)
+item-at (b ∷ l) (suc i) a e = let r = item-at l i a e in (r .0, omega (arith, r .1))
+
+-- there is one at each place below the length
+pub at-item : {A : Type 0} (l : List A) (i : ℕ) → i < length l → (a : A) × (getElem? l i ≡ some a)
+at-item [] i h = absurd (omega arith)
+at-item (b ∷ l) zero h = (b, refl)
+at-item (b ∷ l) (suc i) h = at-item l i (omega arith)
+
+-- a table that is filled
+pub places : {A : Type 0} (R : Reader A) (ts : List TagValue) (ps : List ℕ) (n p : ℕ) (l : List A) (q : ℕ) → ((k : ℕ) → k < n → getD ps k 0 ≡ placeAt R ts p k) → times n R ts p ≡ got l q → Places R ts ps l
+places R ts ps n p l q filled g = record {
+  stands = λ i a e.
+      let x = item-at l i a e in
+      let h : i < n = omega (arith, x .1, times-length R ts n p l q g) in
+      let y = item R ts n i p l q a g h in
+      (y .0, ap (R ts) (filled i h) ∙ y .1 ∙ ap (λ (b : _). got b (y .0)) (x .0));
+}

@@ -1,0 +1,24 @@
+-- `layout::nodes_at` meets its contract.
+-- Assumes nothing.
+use borrow.Author.Needs.{needs}
+use Rattle.layout.proofs.nodes_at.Statement.{statement}
+use Rattle.layout.proofs.nodes_at.Tie as tie
+
+value-at-requires : tie.Need-value-at-requires
+value-at-requires c κs = search needs
+
+past-requires : tie.Need-past-requires
+past-requires c κs = search needs
+
+read-nodes-requires : tie.Need-read-nodes-requires
+read-nodes-requires c κs = search needs
+
+ended-requires : tie.Need-ended-requires
+ended-requires c κs = search needs
+
+returns : tie.Need-returns
+returns c = rw (c .ended .ensures, c .before .read-nodes .ensures, c .before .before .before .value-at .ensures, c .before .before .past .ensures)
+
+pub nodes-at-spec : {M : Type 1} → statement M
+nodes-at-spec =
+    tie.close (tie.spec value-at-requires past-requires read-nodes-requires ended-requires returns)

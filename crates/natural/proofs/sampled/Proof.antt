@@ -1,0 +1,42 @@
+-- `natural::sampled` meets its contract: one part after another.
+-- Assumes nothing.
+use denote.Ref.{now}
+use Rattle.clock.specs.Value.{naturalOf, valueOf}
+use Rattle.environment.specs.Environment.{envAt}
+use Rattle.natural.proofs.Laws.{sampled-of}
+use borrow.Author.Needs.{needs}
+use Rattle.natural.proofs.sampled.Statement.{statement}
+use Rattle.natural.proofs.sampled.Tie as tie
+
+lookup-requires : tie.Need-lookup-requires
+lookup-requires c κs = search needs
+
+base-requires : tie.Need-base-requires
+base-requires c κs = search needs
+
+on-requires : tie.Need-on-requires
+on-requires c κs = search needs
+
+first-of-requires : tie.Need-first-of-requires
+first-of-requires c κs = search needs
+
+first-of-requires-2 : tie.Need-first-of-requires-2
+first-of-requires-2 c κs = search needs
+
+condition-over-requires : tie.Need-condition-over-requires
+condition-over-requires c κs = search needs
+
+returns : tie.Need-returns
+returns c = sampled-of (c .before .before .before .before .before .before .before .args .k) (naturalOf (c .condition-over .result)) (naturalOf (c .before .first-of2 .result)) (naturalOf (c .before .before .first-of .result)) (naturalOf (c .before .before .before .before .before .before .before .args .n)) (naturalOf (c .before .before .before .before .before .lookup .result)) (naturalOf (c .before .before .before .on .result)) (envAt (now (c .before .before .before .before .before .before .before .args .env)) (c .before .before .before .before .before .before .before .args .k .name)) (valueOf (c .before .before .before .before .base .result)) (c .condition-over .ensures) (c .before .first-of2 .ensures) (c .before .before .first-of .ensures) (c .before .before .before .before .before .lookup .ensures) (c .before .before .before .on .ensures) (c .before .before .before .before .base .ensures)
+
+pub sampled-spec : {M : Type 1} → statement M
+sampled-spec =
+    tie.close
+    (tie.spec
+    lookup-requires
+    base-requires
+    on-requires
+    first-of-requires
+    first-of-requires-2
+    condition-over-requires
+    returns)

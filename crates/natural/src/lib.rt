@@ -1,0 +1,181 @@
+// The natural clock of an expression of an accepted sheet: that of its first operand that has one, the rest unread.
+// `tags` and `values` are as long as each other; `names` is the number of names; `env` has the names' clocks.
+use clock::Natural;
+use clock::Presence;
+use definitions::Condition;
+use operands::Gap;
+use operands::Role;
+ghost use mathlib.Core.Path.{_≡_};
+ghost use mathlib.Core.Bool.{Bool};
+ghost use mathlib.Core.Option.{none, some};
+ghost use Prim.Native.Nat.{ℕ};
+ghost use lib.ListN.{length};
+ghost use Rattle.definitions.specs.Bytes.{tokens};
+ghost use Rattle.definitions.specs.Tree.{Expr, Exprs};
+ghost use Rattle.definitions.specs.Reading.{got};
+ghost use Rattle.definitions.specs.Clock.{base};
+ghost use Rattle.definitions.specs.InferClocks as rules;
+ghost use Rattle.definitions.specs.InferClocks.{Clocks, formed, natural, _or_, conditionOver, parentOf};
+ghost use Rattle.clock.specs.Value.{naturalOf};
+ghost use Rattle.environment.specs.Environment.{envAt, Agrees};
+ghost use Rattle.operands.specs.Spread.{tree, spread};
+ghost use Rattle.natural.specs.Natural.{isFree, Finds, lifted, firstOf};
+
+// A natural clock, and where what has none ends.
+pub struct Found {
+    pub natural: Natural,
+    pub end: usize,
+}
+
+// Is there no clock?
+pub fn is_free(n: Natural) -> bool
+    ensures { λ r. ⌜ r ≡ isFree (naturalOf n) ⌝ }
+{
+    let p = n.presence;
+    match p {
+        Presence::Free => true,
+        Presence::On => false,
+        Presence::Deep => false,
+    }
+}
+
+// No clock, for what ends there.
+fn nothing(end: usize) -> Found
+    ensures { λ r. ⌜ (naturalOf (r .natural) ≡ formed none) × (r .end ≡ end) ⌝ }
+{
+    let n = clock::free();
+    Found {
+        natural: n,
+        end: end,
+    }
+}
+
+// A when's clock: its condition over its operand's clock, else over its clock name's, else over base.
+fn sampled(env: &[u32], k: Condition, n: Natural) -> Natural
+    ensures { λ r. ⌜ naturalOf r ≡ conditionOver k (naturalOf n or formed (envAt (now (env .entry)) (k .name)) or formed (some base)) ⌝ }
+{
+    let x = k.name;
+    let own = environment::lookup(env, x);
+    let b = clock::base();
+    let last = clock::on(b);
+    let inner = clock::first_of(n, own);
+    let c = clock::first_of(inner, last);
+    clock::condition_over(k, c)
+}
+
+// The parent of what was found for the expression there.
+fn above(tags: &[u8], values: &[u32], names: u32, f: Found, at: usize) -> Found
+    requires { ⌜ length (now values) ≡ length (now tags) ⌝ }
+    ensures { λ r. ⌜ ((e : Expr) (q : ℕ) (n : rules.Natural) → tree names (tokens (now (tags .entry)) (now (values .entry))) at ≡ got e q → Finds f n q → Finds r (parentOf n) q) ⌝ }
+{
+    let n = f.natural;
+    if is_free(n) {
+        return f;
+    }
+    let up = clock::parent_of(n);
+    if is_free(up) {
+        let end = operands::skip(tags, values, names, at);
+        return nothing(end);
+    }
+    let end = f.end;
+    Found {
+        natural: up,
+        end: end,
+    }
+}
+
+// The natural clock of the expression that stands there.
+pub fn natural_clock(tags: &[u8], values: &[u32], names: u32, env: &[u32], at: usize) -> Found
+    requires { ⌜ length (now values) ≡ length (now tags) ⌝ }
+    ensures { λ r. ⌜ ((e : Expr) (q : ℕ) (clocks : Clocks) → tree names (tokens (now (tags .entry)) (now (values .entry))) at ≡ got e q → Agrees (now (env .entry)) names clocks → Finds r (natural clocks e) q) ⌝ }
+{
+    let v = operands::view_at(tags, values, names, at);
+    let first = v.first;
+    let count = v.count;
+    let gap = v.gap;
+    let role = v.role;
+    if first <= at {
+        return nothing(at);
+    }
+    match role {
+        Role::Name(x) => {
+            let n = environment::lookup(env, x);
+            Found {
+                natural: n,
+                end: first,
+            }
+        }
+        Role::Sample(k) => {
+            let f = first_found(tags, values, names, env, false, gap, count, first);
+            let inner = f.natural;
+            let n = sampled(env, k, inner);
+            Found {
+                natural: n,
+                end: first,
+            }
+        }
+        Role::Join(x) => {
+            let own = environment::lookup(env, x);
+            if is_free(own) {
+                return first_found(tags, values, names, env, true, gap, count, first);
+            }
+            Found {
+                natural: own,
+                end: first,
+            }
+        }
+        _ => first_found(tags, values, names, env, false, gap, count, first),
+    }
+}
+
+// The natural clock of the operand that stands there, or the parent of it.
+pub fn operand_clock(
+    tags: &[u8],
+    values: &[u32],
+    names: u32,
+    env: &[u32],
+    up: bool,
+    at: usize,
+) -> Found
+    requires { ⌜ length (now values) ≡ length (now tags) ⌝ }
+    ensures { λ r. ⌜ ((e : Expr) (q : ℕ) (clocks : Clocks) → tree names (tokens (now (tags .entry)) (now (values .entry))) at ≡ got e q → Agrees (now (env .entry)) names clocks → Finds r (lifted up (natural clocks e)) q) ⌝ }
+{
+    let f = natural_clock(tags, values, names, env, at);
+    if up {
+        return above(tags, values, names, f, at);
+    }
+    f
+}
+
+// The first clock among so many operands, or the first parent of one.
+pub fn first_found(
+    tags: &[u8],
+    values: &[u32],
+    names: u32,
+    env: &[u32],
+    up: bool,
+    gap: Gap,
+    count: u32,
+    at: usize,
+) -> Found
+    requires { ⌜ length (now values) ≡ length (now tags) ⌝ }
+    ensures { λ r. ⌜ ((es : Exprs) (q : ℕ) (clocks : Clocks) → spread names gap count (tree names) (tokens (now (tags .entry)) (now (values .entry))) at ≡ got es q → Agrees (now (env .entry)) names clocks → Finds r (firstOf clocks up es) q) ⌝ }
+{
+    if count == 0 {
+        return nothing(at);
+    }
+    let place = operands::operand_at(tags, gap, at);
+    let f = operand_clock(tags, values, names, env, up, place);
+    let n = f.natural;
+    if is_free(n) {
+        let end = f.end;
+        let rest = operands::after_operand(tags, gap, end);
+        let next = rest.next;
+        let later = rest.gap;
+        if next <= at {
+            return nothing(at);
+        }
+        return first_found(tags, values, names, env, up, later, count - 1, next);
+    }
+    f
+}

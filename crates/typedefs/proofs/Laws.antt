@@ -13,21 +13,36 @@ use lib.Dec.{eqb, ltb}
 use borrow.Author.Tests.{eq-eqb, ne-eqb, eqb-true, eqb-false}
 use Rattle.definitions.specs.declared.Refusal.{Refusal}
 use Rattle.definitions.specs.declared.DefinitionToken.{DefinitionToken}
-use Rattle.definitions.specs.Lists.{choose, placeBy}
-use Rattle.definitions.specs.Tokens.{TagValue, given, definitionTokenOf}
+use Rattle.definitions.specs.declared.Primitive.{Primitive}
+use Rattle.definitions.specs.declared.TypeToken.{TypeToken}
+use Rattle.definitions.specs.Lists.{choose, find, placeBy}
+use Rattle.definitions.specs.Tokens.{TagValue, given, typeTokenOf, definitionTokenOf}
 use Rattle.definitions.specs.Tree.{Ty, Declared, Body, TypeDef}
 use Rattle.definitions.specs.Reading.{Got, got, rejected, Reader, token, times}
-use Rattle.definitions.specs.Grammar.{counted, count, name, tagged, definition, typeDef}
+use Rattle.definitions.specs.Grammar.{counted, count, name, tagged, ty, declaration, definition, typeDef}
 use Rattle.definitions.specs.Bytes.{tokens}
 use Rattle.grammar.specs.declared.Read.{Read}
 use Rattle.grammar.specs.declared.Counted.{Counted}
 use Rattle.grammar.specs.declared.DefinitionHead.{DefinitionHead}
-use Rattle.grammar.specs.Outcome.{outcome, counts, definitionHead}
-use Rattle.grammar.proofs.Laws.{next-got, refused, count-got, count-refused, definition-head-got, definition-head-refused, after-got, wrap-got, times-length, tokens-length}
+use Rattle.grammar.specs.declared.TypeHead.{TypeHead}
+use Rattle.grammar.specs.Outcome.{outcome, counts, typeHead, definitionHead}
+use Rattle.grammar.proofs.Laws.{next-got, refused, count-got, count-refused, type-head-got, type-head-refused, definition-head-got, definition-head-refused, after-got, wrap-got, times-length, tokens-length}
 use Rattle.grammar.proofs.Longer.{token-got}
-use Rattle.grammar.proofs.Got.{definition-got, enum-got, record-got, alias-got, token-value, tagged-value, no}
+use Rattle.grammar.proofs.Got.{definition-got, enum-got, record-got, alias-got, token-value, tagged-value, type-got, primitive-got, named-got, element-got, declaration-got, times-cons, no, same}
 use Rattle.typedefs.specs.declared.Defined.{Defined}
 use Rattle.typedefs.specs.Table.{nowhere, defAt, nameAt, isNamed, firstOf, Table, Named, Described}
+
+-- a list that a loop fills, one element a turn: of each element so far, with its place, P is known
+pub filled-such : (P : ℕ → ℕ → Type 0) (l : List ℕ) (i v : ℕ) → i < length l → ((k : ℕ) → k < i → P k (getD l k 0)) → P i v → (k : ℕ) → k < i + 1 → P k (getD (set l i v) k 0)
+filled-such P l i v h filled e k b = go (eqb k i) refl
+  where
+    go : (t : Bool) → eqb k i ≡ t → P k (getD (set l i v) k 0)
+    go true t = let f : k ≡ i = eqb-true k i t in rw f (rw (getD-set-same l i v 0 h) e)
+    go false t = rw (getD-set-other l i k v 0 (eqb-false k i t)) (filled k (omega (arith, eqb-false k i t)))
+
+-- the same, where the k-th element is to be F k
+pub filled-more : (F : ℕ → ℕ) (l : List ℕ) (i v : ℕ) → i < length l → ((k : ℕ) → k < i → getD l k 0 ≡ F k) → v ≡ F i → (k : ℕ) → k < i + 1 → getD (set l i v) k 0 ≡ F k
+filled-more F l i v h filled e = filled-such (λ k x. x ≡ F k) l i v h filled e
 
 -- where a reading that starts at p goes on; p itself, where it is refused
 abbrev pub following : {A : Type 0} → Got A → ℕ → ℕ
@@ -70,11 +85,7 @@ module _ {A : Type 0} (R : Reader A) (ts : List TagValue) where
         let g = next-got (R ts place) r next read e in
         let f : following (R ts place) place ≡ next = ap (λ (x : Got A). following x place) (g .1) in
         let n : next ≡ placeAt p (i + 1) = rw (add-one i) (sym f ∙ ap (λ (x : ℕ). following (R ts x) x) here) in
-        (n, λ k b. go k (eqb k i) refl b)
-      where
-        go : (k : ℕ) (t : Bool) → eqb k i ≡ t → k < i + 1 → getD (set places i place) k 0 ≡ placeAt p k
-        go k true t b = let e : k ≡ i = eqb-true k i t in rw e (getD-set-same places i place 0 h ∙ here)
-        go k false t b = getD-set-other places i k place 0 (eqb-false k i t) ∙ filled k (omega (arith, eqb-false k i t))
+        (n, filled-more (placeAt p) places i place h filled here)
 
     -- an item that is refused is none of those read
     pub placed-refused : (n : ℕ) (t : Refusal) (l : List A) (q : ℕ) (d : A) → i < n → r ≡ Read.Refused t → times n R ts p ≡ got l q → ⊥
@@ -200,3 +211,112 @@ module _ (M : ℕ) (ts : List TagValue) (p : ℕ) (r : DefinitionHead) (i : r �
           let a = record-got M ts s x d q (is (DefinitionToken.Record x) j) in
           let b = count-refused (counted 3 0 64 ts s) c t ec f in
           let z : _≡_ {A = ℕ} 0 1 = cc in omega arith
+
+-- a type by its first token, as the code finds it
+module _ (M : ℕ) (ts : List TagValue) (p : ℕ) (r : TypeHead) (i : r ≡ typeHead (token (typeTokenOf M) ts p)) (depth : ℕ) (t : Ty) (q : ℕ) (g : ty M depth ts p ≡ got t q) where
+  pub type-not-refused : (f : Refusal) → r ≡ TypeHead.Refused f → ⊥
+  type-not-refused f e =
+      let a = type-got M ts p depth t q g in
+      let b = type-head-refused (token (typeTokenOf M) ts p) r f i e in
+      let z : _≡_ {A = ℕ} 0 1 = cc in omega arith
+
+  module _ (h : TypeToken) (s : ℕ) (e : r ≡ TypeHead.Token h s) where
+    pub type-is-basic : (b : Primitive) → h ≡ TypeToken.Basic b → t ≡ Ty.primitive b
+    type-is-basic b j =
+        let a = type-got M ts p depth t q g in
+        let f = type-head-got (token (typeTokenOf M) ts p) r h s i e in
+        let u : a .0 ≡ TypeToken.Basic b = cc in
+        primitive-got M ts p b depth t q (p + 1) (rw u at (a .3)) .0
+
+    pub type-is-named : (x : ℕ) → h ≡ TypeToken.Named x → t ≡ Ty.named x
+    type-is-named x j =
+        let a = type-got M ts p depth t q g in
+        let f = type-head-got (token (typeTokenOf M) ts p) r h s i e in
+        let u : a .0 ≡ TypeToken.Named x = cc in
+        named-got M ts p x depth t q (p + 1) (rw u at (a .3)) .0
+
+    pub type-is-array : (n : ℕ) → h ≡ TypeToken.Array n → (b : Ty) × (depth ≡ 0 → ⊥) × (n ≤ 256) × (ty M (depth - 1) ts s ≡ got b q) × (t ≡ Ty.array n b)
+    type-is-array n j =
+        let a = type-got M ts p depth t q g in
+        let f = type-head-got (token (typeTokenOf M) ts p) r h s i e in
+        let u : a .0 ≡ TypeToken.Array n = cc in
+        let v : p + 1 ≡ s = cc in
+        element-got M ts p n depth t q s (rw (u, v) at (a .3)) (rw u at (a .2))
+
+-- the first of so many fields, whose type stands at `first`
+pub record FirstField (M : ℕ) (ts : List TagValue) (k p first : ℕ) (fs : List Declared) (q : ℕ) : Type 0 where
+  pub id : ℕ
+  pub type : Ty
+  pub next : ℕ
+  pub rest : List Declared
+  pub label : name M ts p ≡ got id first
+  pub typed : ty M 8 ts first ≡ got type next
+  pub others : times (k - 1) (declaration M) ts next ≡ got rest q
+  pub whole : fs ≡ record { name = id; type = type } ∷ rest
+
+module _ (M : ℕ) (ts : List TagValue) (k p : ℕ) (fs : List Declared) (q : ℕ) (some-left : k ≡ 0 → ⊥) (g : times k (declaration M) ts p ≡ got fs q) (r : Read) (i : r ≡ outcome (name M ts p)) where
+  pub field-read : (first : ℕ) → r ≡ Read.Next first → FirstField M ts k p first fs q
+  field-read first e =
+      let a = times-cons (declaration M) ts k p fs q some-left g in
+      let b = declaration-got M ts p (a .0) (a .1) (a .3) in
+      let u : b .1 ≡ first = same (name M ts p) (b .0) (b .1) r first (b .3) i e in
+      record {
+        id = b .0;
+        type = b .2;
+        next = a .1;
+        rest = a .2;
+        label = b .3 ∙ ap (got (b .0)) u;
+        typed = rw u at (b .4);
+        others = a .4;
+        whole = a .5 ∙ ap (λ (y : Declared). y ∷ a .2) (b .5);
+      }
+
+  pub field-not-refused : (t : Refusal) → r ≡ Read.Refused t → ⊥
+  field-not-refused t e =
+      let a = times-cons (declaration M) ts k p fs q some-left g in
+      let b = declaration-got M ts p (a .0) (a .1) (a .3) in
+      no (name M ts p) (b .0) (b .1) r t (b .3) i e
+
+module _ (M : ℕ) (ts : List TagValue) (k p first : ℕ) (fs : List Declared) (q : ℕ) (f : FirstField M ts k p first fs q) (r : Read) (i : r ≡ outcome (ty M 8 ts first)) where
+  pub field-next : (s : ℕ) → r ≡ Read.Next s → times (k - 1) (declaration M) ts s ≡ got (f .rest) q
+  field-next s e = let u : f .next ≡ s = same (ty M 8 ts first) (f .type) (f .next) r s (f .typed) i e in rw u at (f .others)
+
+  pub field-typed : (t : Refusal) → r ≡ Read.Refused t → ⊥
+  field-typed t e = no (ty M 8 ts first) (f .type) (f .next) r t (f .typed) i e
+
+-- the first definition that passes a test, and whether there is one
+module _ (p : TypeDef → Bool) where
+  pub find-none : (l : List TypeDef) → length l ≤ placeBy p l → find p l ≡ none
+  find-none [] h = refl
+  find-none (d ∷ l) h = go (p d) h (find-none l)
+    where
+      go : (b : Bool) → suc (length l) ≤ choose b 0 (suc (placeBy p l)) → (length l ≤ placeBy p l → find p l ≡ none) → choose b (some d) (find p l) ≡ none
+      go true h r = absurd (omega arith)
+      go false h r = r (omega arith)
+
+  pub find-some : (l : List TypeDef) (n : TypeDef) → placeBy p l < length l → find p l ≡ some (getD l (placeBy p l) n)
+  find-some [] n h = absurd (omega arith)
+  find-some (d ∷ l) n h = go (p d) h (find-some l n)
+    where
+      go : (b : Bool) → choose b 0 (suc (placeBy p l)) < suc (length l) → (placeBy p l < length l → find p l ≡ some (getD l (placeBy p l) n)) →
+          choose b (some d) (find p l) ≡ some (getD (d ∷ l) (choose b 0 (suc (placeBy p l))) n)
+      go true h r = refl
+      go false h r = r (omega arith)
+
+  pub place-true : (l : List TypeDef) (n : TypeDef) → placeBy p l < length l → p (getD l (placeBy p l) n) ≡ true
+  place-true [] n h = absurd (omega arith)
+  place-true (d ∷ l) n h = go (p d) refl h (place-true l n)
+    where
+      go : (b : Bool) → p d ≡ b → choose b 0 (suc (placeBy p l)) < suc (length l) → (placeBy p l < length l → p (getD l (placeBy p l) n) ≡ true) →
+          p (getD (d ∷ l) (choose b 0 (suc (placeBy p l))) n) ≡ true
+      go true e h r = e
+      go false e h r = r (omega arith)
+
+  pub place-before : (l : List TypeDef) (n : TypeDef) (i : ℕ) → i < length l → p (getD l i n) ≡ true → placeBy p l ≤ i
+  place-before [] n i h e = absurd (omega arith)
+  place-before (d ∷ l) n zero h e = rw e (omega arith)
+  place-before (d ∷ l) n (suc i) h e = go (p d) (place-before l n i (omega arith) e)
+    where
+      go : (b : Bool) → placeBy p l ≤ i → choose b 0 (suc (placeBy p l)) ≤ suc i
+      go true r = omega arith
+      go false r = omega arith

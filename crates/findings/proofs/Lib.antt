@@ -1,0 +1,2 @@
+-- What the proofs of several functions use, here and in other crates.
+pub mod Laws

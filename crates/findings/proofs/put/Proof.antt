@@ -1,0 +1,26 @@
+-- A word is stored where the list reaches so far.
+-- Assumes nothing.
+use mathlib.Core.Path.{sym}
+use lib.Seq.{set-out}
+use denote.Ref.{now}
+use borrow.Author.Needs.{needs}
+use Rattle.findings.proofs.put.Statement.{statement}
+use Rattle.findings.proofs.put.Tie as tie
+
+mul-list : tie.Need-mul-list
+mul-list c = search needs
+
+slice-write-list : tie.Need-slice-write-list
+slice-write-list c = search needs
+
+same-length : tie.Need-same-length
+same-length c = search needs
+
+returns : tie.Need-returns
+returns c = search needs
+
+returns-2 : tie.Need-returns-2
+returns-2 c = sym (set-out (now (c .before .args .list)) (c .before .args .j) (c .before .args .x) (c .if1 .left))
+
+pub put-spec : {M : Type 1} → statement M
+put-spec = tie.close (tie.spec mul-list slice-write-list same-length returns returns-2)

@@ -1,0 +1,383 @@
+// What checking meets, in order, in a table: thirty-eight words a finding, and a count.
+// A count one past the room says that there were more findings than rows.
+use clock::Clock;
+use definitions::Condition;
+use fault::Fault;
+ghost use mathlib.Core.Path.{_≡_};
+ghost use mathlib.Core.Logic.{_⊎_};
+ghost use mathlib.Core.List.{List, [], _∷_, _++_, map};
+ghost use Prim.Native.Nat.{ℕ, _+_, _*_, _≤_, _<_};
+ghost use lib.ListN.{length, getD, set};
+ghost use Rattle.definitions.specs.Lists.{any, over};
+ghost use Rattle.definitions.specs.Clock as clocks;
+ghost use Rattle.definitions.specs.InferClocks.{leftElsewhere, usedElsewhere, whenElsewhere, clockNameElsewhere, faultNumber, Finding, found, site, tooDeep, isTooDeep, clockFaults, sites};
+ghost use Rattle.clock.specs.Value.{valueOf};
+ghost use Rattle.flat.specs.Flat.{clockIn};
+ghost use Rattle.fault.specs.Value.{faultOf};
+ghost use Rattle.rows.specs.Rows.{Has};
+ghost use Rattle.findings.specs.Findings.{flagWord, findingAs, faultIn, findingIn, findingsIn, Holds, noFault, addAll};
+
+// A row's first words: 1 to 4 a fault, 5 a site, 6 too deep a clock; a name; a flag; the equation.
+pub struct Words {
+    pub kind: u32,
+    pub name: u32,
+    pub flag: u32,
+    pub equation: u32,
+}
+
+// A fault, and its equation.
+pub struct Found {
+    pub fault: Fault,
+    pub equation: u32,
+}
+
+// A row, from now on.
+fn store_row(t: &mut [u32], b: usize, w: Words, on: Clock, expected: Clock)
+    requires { ⌜ b + 38 ≤ length (now t) ⌝ }
+    ensures { λ r. ⌜ length (now (t .exit)) ≡ length (now (t .entry)) ⌝ }
+    ensures { λ r. ⌜ findingIn (now (t .exit)) b ≡ findingAs (w .kind) (w .name) (w .flag) (w .equation) (valueOf on) (valueOf expected) ⌝ }
+    ensures { λ r. ⌜ ((i : ℕ) → (i < b) ⊎ (b + 38 ≤ i) → getD (now (t .exit)) i 0 ≡ getD (now (t .entry)) i 0) ⌝ }
+{
+    t[b] = w.kind;
+    t[b + 1] = w.name;
+    t[b + 2] = w.flag;
+    t[b + 3] = w.equation;
+    flat::store(t, b + 4, on);
+    flat::store(t, b + 21, expected);
+}
+
+// One finding more, if there is room: how many there are then.
+fn push(table: &mut [u32], n: usize, w: Words, on: Clock, expected: Clock) -> usize
+    ensures { λ r. ⌜ length (now (table .exit)) ≡ length (now (table .entry)) ⌝ }
+    ensures { λ r. ⌜ ((fs : List Finding) → Holds (now (table .entry)) n fs → Holds (now (table .exit)) r (fs ++ (findingAs (w .kind) (w .name) (w .flag) (w .equation) (valueOf on) (valueOf expected) ∷ []))) ⌝ }
+{
+    let room = table.len() / 38;
+    if room < n {
+        return n;
+    }
+    if room <= n {
+        return n + 1;
+    }
+    store_row(table, 38 * n, w, on, expected);
+    n + 1
+}
+
+fn flag_word(b: bool) -> u32
+    ensures { λ r. ⌜ r ≡ flagWord b ⌝ }
+{
+    if b { 1 } else { 0 }
+}
+
+// Fault 1 of an equation: a left name x on c, the equation on d; whether x is an input or output.
+pub fn push_left(
+    table: &mut [u32],
+    n: usize,
+    equation: u32,
+    x: u32,
+    c: Clock,
+    d: Clock,
+    port: bool,
+) -> usize
+    ensures { λ r. ⌜ length (now (table .exit)) ≡ length (now (table .entry)) ⌝ }
+    ensures { λ r. ⌜ ((fs : List Finding) → Holds (now (table .entry)) n fs → Holds (now (table .exit)) r (fs ++ (found (record { equation = equation; fault = leftElsewhere x (valueOf c) (valueOf d) port }) ∷ []))) ⌝ }
+{
+    let flag = flag_word(port);
+    push(
+        table,
+        n,
+        Words {
+            kind: 1,
+            name: x,
+            flag,
+            equation,
+        },
+        c,
+        d,
+    )
+}
+
+// Fault 2: a name x on c, used on d.
+pub fn push_used(table: &mut [u32], n: usize, equation: u32, x: u32, c: Clock, d: Clock) -> usize
+    ensures { λ r. ⌜ length (now (table .exit)) ≡ length (now (table .entry)) ⌝ }
+    ensures { λ r. ⌜ ((fs : List Finding) → Holds (now (table .entry)) n fs → Holds (now (table .exit)) r (fs ++ (found (record { equation = equation; fault = usedElsewhere x (valueOf c) (valueOf d) }) ∷ []))) ⌝ }
+{
+    push(
+        table,
+        n,
+        Words {
+            kind: 2,
+            name: x,
+            flag: 0,
+            equation,
+        },
+        c,
+        d,
+    )
+}
+
+// Fault 3: a when of the condition k where d is expected.
+pub fn push_when(table: &mut [u32], n: usize, equation: u32, k: Condition, d: Clock) -> usize
+    ensures { λ r. ⌜ length (now (table .exit)) ≡ length (now (table .entry)) ⌝ }
+    ensures { λ r. ⌜ ((fs : List Finding) → Holds (now (table .entry)) n fs → Holds (now (table .exit)) r (fs ++ (found (record { equation = equation; fault = whenElsewhere k (valueOf d) }) ∷ []))) ⌝ }
+{
+    let test = k.test;
+    let flag = flat::word_of(test);
+    push(
+        table,
+        n,
+        Words {
+            kind: 3,
+            name: k.name,
+            flag,
+            equation,
+        },
+        d,
+        d,
+    )
+}
+
+// Fault 4: a clock name x on c, which samples d.
+pub fn push_clock_name(
+    table: &mut [u32],
+    n: usize,
+    equation: u32,
+    x: u32,
+    c: Clock,
+    d: Clock,
+) -> usize
+    ensures { λ r. ⌜ length (now (table .exit)) ≡ length (now (table .entry)) ⌝ }
+    ensures { λ r. ⌜ ((fs : List Finding) → Holds (now (table .entry)) n fs → Holds (now (table .exit)) r (fs ++ (found (record { equation = equation; fault = clockNameElsewhere x (valueOf c) (valueOf d) }) ∷ []))) ⌝ }
+{
+    push(
+        table,
+        n,
+        Words {
+            kind: 4,
+            name: x,
+            flag: 0,
+            equation,
+        },
+        c,
+        d,
+    )
+}
+
+// The clock of a `pre` or `->`.
+pub fn push_site(table: &mut [u32], n: usize, d: Clock) -> usize
+    ensures { λ r. ⌜ length (now (table .exit)) ≡ length (now (table .entry)) ⌝ }
+    ensures { λ r. ⌜ ((fs : List Finding) → Holds (now (table .entry)) n fs → Holds (now (table .exit)) r (fs ++ (site (valueOf d) ∷ []))) ⌝ }
+{
+    push(
+        table,
+        n,
+        Words {
+            kind: 5,
+            name: 0,
+            flag: 0,
+            equation: 0,
+        },
+        d,
+        d,
+    )
+}
+
+// Too deep a clock.
+pub fn push_deep(table: &mut [u32], n: usize) -> usize
+    ensures { λ r. ⌜ length (now (table .exit)) ≡ length (now (table .entry)) ⌝ }
+    ensures { λ r. ⌜ ((fs : List Finding) → Holds (now (table .entry)) n fs → Holds (now (table .exit)) r (fs ++ (tooDeep ∷ []))) ⌝ }
+{
+    let b = clock::base();
+    push(
+        table,
+        n,
+        Words {
+            kind: 6,
+            name: 0,
+            flag: 0,
+            equation: 0,
+        },
+        b,
+        b,
+    )
+}
+
+// The kind of row i.
+fn kind_at(t: &[u32], i: usize) -> u32
+    ensures { λ r. ⌜ r ≡ getD (now (t .entry)) (38 * i) 0 ⌝ }
+{
+    if t.len() / 38 < i {
+        return 0;
+    }
+    flat::word_at(t, 38 * i)
+}
+
+// Word j of row i.
+fn word_at(t: &[u32], i: usize, j: usize) -> u32
+    requires { ⌜ j < 38 ⌝ }
+    ensures { λ r. ⌜ r ≡ getD (now (t .entry)) (38 * i + j) 0 ⌝ }
+{
+    if t.len() / 38 < i {
+        return 0;
+    }
+    let b = 38 * i;
+    flat::word_at(t, b + j)
+}
+
+// The clock from word j of row i on.
+fn clock_at(t: &[u32], i: usize, j: usize) -> Clock
+    requires { ⌜ j < 38 ⌝ }
+    ensures { λ r. ⌜ valueOf r ≡ clockIn (now (t .entry)) (38 * i + j) ⌝ }
+{
+    if t.len() / 38 < i {
+        return clock::base();
+    }
+    let b = 38 * i;
+    flat::load(t, b + j)
+}
+
+// Is a clock too deep among them?
+pub fn any_deep(table: &[u32], n: usize) -> bool
+    ensures { λ r. ⌜ r ≡ any isTooDeep (findingsIn (now (table .entry)) n) ⌝ }
+{
+    let mut i: usize = 0;
+    while i < n {
+        let k = kind_at(table, i);
+        if 5 < k {
+            return true;
+        }
+        i += 1;
+    }
+    false
+}
+
+// How many clock faults there are.
+pub fn fault_count(table: &[u32], n: usize) -> usize
+    ensures { λ r. ⌜ r ≡ length (clockFaults (findingsIn (now (table .entry)) n)) ⌝ }
+{
+    let mut i: usize = 0;
+    let mut m: usize = 0;
+    while i < n {
+        let k = kind_at(table, i);
+        i += 1;
+        if 5 <= k {
+            continue;
+        }
+        m += 1;
+    }
+    m
+}
+
+// The fault in row i.
+fn fault_in(table: &[u32], i: usize) -> Fault
+    ensures { λ r. ⌜ faultOf r ≡ faultIn (now (table .entry)) (38 * i) .fault ⌝ }
+{
+    let k = kind_at(table, i);
+    let x = word_at(table, i, 1);
+    let w = word_at(table, i, 2);
+    let c = clock_at(table, i, 4);
+    let d = clock_at(table, i, 21);
+    if k == 1 {
+        let port = w == 1;
+        return fault::left_elsewhere(x, c, d, port);
+    }
+    if k == 2 {
+        return fault::used_elsewhere(x, c, d);
+    }
+    if k == 3 {
+        let test = flat::test_of(w);
+        let k = Condition { name: x, test };
+        return fault::when_elsewhere(k, d);
+    }
+    fault::clock_name_elsewhere(x, c, d)
+}
+
+// The fault in row i, and its equation.
+fn found_in(table: &[u32], i: usize) -> Found
+    ensures { λ r. ⌜ record { equation = r .equation; fault = faultOf (r .fault) } ≡ faultIn (now (table .entry)) (38 * i) ⌝ }
+{
+    let fault = fault_in(table, i);
+    let equation = word_at(table, i, 3);
+    Found { fault, equation }
+}
+
+// Clock fault j, from 0.
+pub fn nth_fault(table: &[u32], n: usize, j: usize) -> Found
+    ensures { λ r. ⌜ record { equation = r .equation; fault = faultOf (r .fault) } ≡ getD (clockFaults (findingsIn (now (table .entry)) n)) j noFault ⌝ }
+{
+    let mut i: usize = 0;
+    let mut left = j;
+    while i < n {
+        let k = kind_at(table, i);
+        if 5 <= k {
+            i += 1;
+            continue;
+        }
+        if left == 0 {
+            return found_in(table, i);
+        }
+        left -= 1;
+        i += 1;
+    }
+    let fault = fault::not_single_call();
+    Found { fault, equation: 0 }
+}
+
+// A word at j from now on, where the list reaches so far.
+fn put(list: &mut [u32], j: usize, x: u32)
+    ensures { λ r. ⌜ now (list .exit) ≡ set (now (list .entry)) j x ⌝ }
+{
+    if j < list.len() {
+        list[j] = x;
+        return;
+    }
+}
+
+// The numbers and equations of the clock faults, as far as the lists reach: how many faults there are.
+pub fn write_faults(table: &[u32], n: usize, numbers: &mut [u32], equations: &mut [u32]) -> usize
+    ensures { λ r. ⌜ r ≡ length (clockFaults (findingsIn (now (table .entry)) n)) ⌝ }
+    ensures { λ r. ⌜ now (numbers .exit) ≡ over (map (λ f. faultNumber (f .fault)) (clockFaults (findingsIn (now (table .entry)) n))) (now (numbers .entry)) ⌝ }
+    ensures { λ r. ⌜ now (equations .exit) ≡ over (map (λ f. f .equation) (clockFaults (findingsIn (now (table .entry)) n))) (now (equations .entry)) ⌝ }
+{
+    let mut i: usize = 0;
+    let mut m: usize = 0;
+    while i < n {
+        let k = kind_at(table, i);
+        if 5 <= k {
+            i += 1;
+            continue;
+        }
+        let f = found_in(table, i);
+        let fault = f.fault;
+        let number = fault::fault_number(fault);
+        put(numbers, m, number);
+        put(equations, m, f.equation);
+        m += 1;
+        i += 1;
+    }
+    m
+}
+
+// The clocks of `pre` and `->` other than base, each once, added to a table of clocks: how many it has then.
+pub fn add_sites(table: &[u32], n: usize, rows: &mut [u32], m: usize) -> usize
+    ensures { λ r. ⌜ length (now (rows .exit)) ≡ length (now (rows .entry)) ⌝ }
+    ensures { λ r. ⌜ ((cs : List clocks.Clock) → Has (now (rows .entry)) m cs → Has (now (rows .exit)) r (addAll (sites (findingsIn (now (table .entry)) n)) cs)) ⌝ }
+{
+    let mut i: usize = 0;
+    let mut at = m;
+    while i < n {
+        let k = kind_at(table, i);
+        if k != 5 {
+            i += 1;
+            continue;
+        }
+        let c = clock_at(table, i, 21);
+        let plain = clock::is_base(c);
+        if plain {
+            i += 1;
+            continue;
+        }
+        at = rows::find_or_add(rows, at, c);
+        i += 1;
+    }
+    at
+}

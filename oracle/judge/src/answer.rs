@@ -36,7 +36,7 @@ pub struct Clocks {
 }
 
 /// Refusals 1 to 7.
-fn examine(bytes: &[u8]) -> Result<Sheet, Refused> {
+pub fn examine(bytes: &[u8]) -> Result<Sheet, Refused> {
     let sheet = sheet::read(bytes)?;
     acyclic(sheet.types())?;
     Ok(sheet)

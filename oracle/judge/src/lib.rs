@@ -5,11 +5,13 @@
 //! - `bound`: refusal 9, which the Rust does not know.
 //! - `answer`: the three questions.
 //! - `line`: question and answer lines.
+//! - `program`: what each program prints.
 //! - `generate`: seeded sheets and questions.
 pub mod answer;
 pub mod bound;
 pub mod generate;
 pub mod line;
+pub mod program;
 pub mod sheet;
 pub mod types;
 

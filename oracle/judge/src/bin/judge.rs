@@ -3,14 +3,16 @@ use std::collections::BTreeMap;
 use std::io::{self, BufRead, BufWriter, Read, Write};
 use std::process::ExitCode;
 
-use judge::answer::{self, Rewritten, Way};
-use judge::{line, Refused};
+use judge::answer::Way;
+use judge::line;
+use judge::program::{self, Shown};
 
 const HELP: &str = "\
 usage: judge [--both] [--count]       question lines on standard input, answered lines on standard output
        judge rewrite [BYTES]          one sheet on standard input: the rewritten sheet
        judge clocks [NODE]            one sheet on standard input: the clocks of each node, or of one
        judge text NODE FAULT [BYTES]  one sheet on standard input: the text of a fault
+       judge inspect                  one sheet on standard input: what is in it
   --both   where it can, ask the Rust on the sheet as it is and on small types, and compare
   --count  counts by question, refusal and fault on standard error
 ";
@@ -29,11 +31,12 @@ fn run() -> ExitCode {
             print!("{HELP}");
             ExitCode::SUCCESS
         }
-        (Some("rewrite"), Some(n)) if n.len() <= 1 => rewrite(n.first().copied().unwrap_or(u64::MAX)),
-        (Some("clocks"), Some(n)) if n.len() <= 1 => clocks(n.first().copied()),
+        (Some("rewrite"), Some(n)) if n.len() <= 1 => show(program::rewrite(&sheet(), n.first().copied().unwrap_or(u64::MAX))),
+        (Some("clocks"), Some(n)) if n.len() <= 1 => show(program::clocks(&sheet(), n.first().copied())),
         (Some("text"), Some(n)) if (2..=3).contains(&n.len()) => {
-            text(n[0], n[1], n.get(2).copied().unwrap_or(u64::MAX))
+            show(program::text(&sheet(), n[0], n[1], n.get(2).copied().unwrap_or(u64::MAX)))
         }
+        (Some("inspect"), Some(n)) if n.is_empty() => show(program::inspect(&sheet())),
         _ if words.iter().all(|w| ["--both", "--count"].contains(w)) => {
             batch(if words.contains(&"--both") { Way::Both } else { Way::Best }, words.contains(&"--count"))
         }
@@ -50,56 +53,13 @@ fn sheet() -> Vec<u8> {
     bytes
 }
 
-fn refused(r: Refused) -> ExitCode {
-    eprintln!("refused {} {}", r.0, r.1);
-    ExitCode::FAILURE
-}
-
-fn rewrite(lent: u64) -> ExitCode {
-    match answer::rewrite(&sheet(), lent, Way::Best) {
-        Rewritten::Accepted(out) => {
-            io::stdout().write_all(&out).expect("standard output");
-            ExitCode::SUCCESS
-        }
-        Rewritten::Refused(r, faults) => {
-            let code = refused(r);
-            if r.0 == 10 {
-                eprintln!("faults {}", faults.len());
-                for f in faults {
-                    eprintln!("fault {} {} {} {}", f.node, f.fault, f.equation, f.text);
-                }
-            }
-            code
-        }
-    }
-}
-
-fn clocks(node: Option<u64>) -> ExitCode {
-    let found = match node {
-        Some(k) => answer::clocks(&sheet(), k).map(|c| vec![c]),
-        None => answer::all_clocks(&sheet()),
-    };
-    match found {
-        Ok(all) => {
-            for c in all {
-                print!("{}", c.listing);
-                for f in c.faults {
-                    println!("fault {} {} {} {}", f.node, f.fault, f.equation, f.text);
-                }
-            }
-            ExitCode::SUCCESS
-        }
-        Err(r) => refused(r),
-    }
-}
-
-fn text(node: u64, fault: u64, lent: u64) -> ExitCode {
-    match answer::text(&sheet(), node, fault, lent, Way::Best) {
-        Ok(text) => {
-            println!("{text}");
-            ExitCode::SUCCESS
-        }
-        Err(r) => refused(r),
+fn show(shown: Shown) -> ExitCode {
+    io::stdout().write_all(&shown.out).expect("standard output");
+    io::stderr().write_all(&shown.err).expect("standard error");
+    if shown.err.is_empty() {
+        ExitCode::SUCCESS
+    } else {
+        ExitCode::FAILURE
     }
 }
 

@@ -6,7 +6,6 @@ use definitions::Condition;
 use operands::Gap;
 use operands::Role;
 ghost use mathlib.Core.Path.{_≡_};
-ghost use mathlib.Core.Bool.{Bool};
 ghost use mathlib.Core.Option.{none, some};
 ghost use Prim.Native.Nat.{ℕ};
 ghost use lib.ListN.{length};
@@ -50,17 +49,23 @@ fn nothing(end: usize) -> Found
     }
 }
 
-// A when's clock: its condition over its operand's clock, else over its clock name's, else over base.
-fn sampled(env: &[u32], k: Condition, n: Natural) -> Natural
-    ensures { λ r. ⌜ naturalOf r ≡ conditionOver k (naturalOf n or formed (envAt (now (env .entry)) (k .name)) or formed (some base)) ⌝ }
+// A when, by what was found for its operand: its condition over that clock, else over its clock name's, else over base.
+fn sampled(env: &[u32], k: Condition, f: Found) -> Found
+    ensures { λ r. ⌜ naturalOf (r .natural) ≡ conditionOver k (naturalOf (f .natural) or formed (envAt (now (env .entry)) (k .name)) or formed (some base)) ⌝ }
 {
+    let n = f.natural;
     let x = k.name;
     let own = environment::lookup(env, x);
     let b = clock::base();
     let last = clock::on(b);
     let inner = clock::first_of(n, own);
-    let c = clock::first_of(inner, last);
-    clock::condition_over(k, c)
+    let over = clock::first_of(inner, last);
+    let c = clock::condition_over(k, over);
+    let end = f.end;
+    Found {
+        natural: c,
+        end: end,
+    }
 }
 
 // The parent of what was found for the expression there.
@@ -107,12 +112,7 @@ pub fn natural_clock(tags: &[u8], values: &[u32], names: u32, env: &[u32], at: u
         }
         Role::Sample(k) => {
             let f = first_found(tags, values, names, env, false, gap, count, first);
-            let inner = f.natural;
-            let n = sampled(env, k, inner);
-            Found {
-                natural: n,
-                end: first,
-            }
+            sampled(env, k, f)
         }
         Role::Join(x) => {
             let own = environment::lookup(env, x);

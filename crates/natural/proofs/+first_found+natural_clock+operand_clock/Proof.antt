@@ -164,7 +164,7 @@ natural-clock-returns-3 : (t : ℕ) → natural-clock-lts.Need-returns-3 (natura
 natural-clock-returns-3 t c = λ e q clocks g a. let i = arm e _ _ (c .before .before .before .before .before .view-at .ensures .role e q g) (c .before .before .role .given .1) in let l = arm-low _ _ _ e q _ _ g (c .before .before .before .before .before .view-at .ensures .role e q g) (c .before .before .role .given .1) in name-arm _ _ clocks a e q _ _ _ i l (c .lookup .ensures) (spread-end _ _ _ _ _ _ q (var-ends e _ i) (c .before .before .before .before .before .view-at .ensures .operands e q g)) refl
 
 natural-clock-returns-4 : (t : ℕ) → natural-clock-lts.Need-returns-4 (natural-clock-uses t) (natural-clock-at t) natural-clock.Post
-natural-clock-returns-4 t c = λ e q clocks g a. let i = arm e _ _ (c .before .before .before .before .before .before .before .view-at .ensures .role e q g) (c .before .before .before .before .role2 .given .1) in let l = arm-low _ _ _ e q _ _ g (c .before .before .before .before .before .before .before .view-at .ensures .role e q g) (c .before .before .before .before .role2 .given .1) in sample-arm _ _ clocks a e q _ (i .0) _ _ (i .1) l (c .before .before .first-found .ensures _ q clocks (c .before .before .before .before .before .before .before .view-at .ensures .operands e q g) a) (c .sampled .ensures)
+natural-clock-returns-4 t c = λ e q clocks g a. let i = arm e _ _ (c .before .before .before .before .before .before .view-at .ensures .role e q g) (c .before .before .before .role2 .given .1) in let l = arm-low _ _ _ e q _ _ g (c .before .before .before .before .before .before .view-at .ensures .role e q g) (c .before .before .before .role2 .given .1) in sample-arm _ _ clocks a e q _ (i .0) _ _ (i .1) l (c .before .first-found .ensures _ q clocks (c .before .before .before .before .before .before .view-at .ensures .operands e q g) a) (c .sampled .ensures)
 
 natural-clock-returns-5 : (t : ℕ) → natural-clock-lts.Need-returns-5 (natural-clock-uses t) (natural-clock-at t) natural-clock.Post
 natural-clock-returns-5 t c = λ e q clocks g a. let i = arm e _ _ (c .before .before .before .before .before .before .before .view-at .ensures .role e q g) (c .before .before .before .before .role3 .given .1) in let l = arm-low _ _ _ e q _ _ g (c .before .before .before .before .before .before .before .view-at .ensures .role e q g) (c .before .before .before .before .role3 .given .1) in join-name _ _ clocks a e q _ (i .0) (i .1) _ (i .2) l (c .before .before .lookup2 .ensures) (sym (c .before .is-free .ensures) ∙ c .if2 .left)

@@ -27,7 +27,7 @@ condition-over-requires : tie.Need-condition-over-requires
 condition-over-requires c κs = search needs
 
 returns : tie.Need-returns
-returns c = sampled-of (c .before .before .before .before .before .before .before .args .k) (naturalOf (c .condition-over .result)) (naturalOf (c .before .first-of2 .result)) (naturalOf (c .before .before .first-of .result)) (naturalOf (c .before .before .before .before .before .before .before .args .n)) (naturalOf (c .before .before .before .before .before .lookup .result)) (naturalOf (c .before .before .before .on .result)) (envAt (now (c .before .before .before .before .before .before .before .args .env)) (c .before .before .before .before .before .before .before .args .k .name)) (valueOf (c .before .before .before .before .base .result)) (c .condition-over .ensures) (c .before .first-of2 .ensures) (c .before .before .first-of .ensures) (c .before .before .before .before .before .lookup .ensures) (c .before .before .before .on .ensures) (c .before .before .before .before .base .ensures)
+returns c = sampled-of (c .before .before .before .before .before .before .before .before .args .k) (naturalOf (c .condition-over .result)) (naturalOf (c .before .first-of2 .result)) (naturalOf (c .before .before .first-of .result)) (naturalOf (c .before .before .before .before .before .before .before .before .args .f .natural)) (naturalOf (c .before .before .before .before .before .lookup .result)) (naturalOf (c .before .before .before .on .result)) (envAt (now (c .before .before .before .before .before .before .before .before .args .env)) (c .before .before .before .before .before .before .before .before .args .k .name)) (valueOf (c .before .before .before .before .base .result)) (c .condition-over .ensures) (c .before .first-of2 .ensures) (c .before .before .first-of .ensures) (c .before .before .before .before .before .lookup .ensures) (c .before .before .before .on .ensures) (c .before .before .before .before .base .ensures)
 
 pub sampled-spec : {M : Type 1} → statement M
 sampled-spec =

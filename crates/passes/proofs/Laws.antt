@@ -1,0 +1,415 @@
+-- Inference step by step: ports, one name, the left names, an equation, a pass, the passes.
+-- Assumes nothing.
+use Prim.Native.Nat.{ℕ, zero, suc, _+_, _-_, _*_, _≤_, _<_}
+use mathlib.Core.Path.{_≡_, refl, sym, _∙_, ap}
+use mathlib.Core.List.{List, [], _∷_, _++_, map}
+use mathlib.Core.Bool.{Bool, true, false, _||_}
+use mathlib.Core.Option.{Option, none, some}
+use native.Mathlib.Omega.{arith}
+use native.Mathlib.Numerals.{add-one}
+use lib.Dec.{eqb, ltb}
+use lib.ListN.{length, getD, set, List·getD-eq-default}
+use lib.Seq.{getD-set-same, getD-set-other}
+use borrow.Author.Tests.{eq-eqb, ne-eqb, eqb-true, eqb-false, lt-ltb, ltb-true, ltb-false}
+use Rattle.definitions.specs.Bytes.{tokens}
+use Rattle.definitions.specs.Lists.{choose, among}
+use Rattle.definitions.specs.Tokens.{TagValue}
+use Rattle.definitions.specs.Tree.{Declared, Equation, Node}
+use Rattle.definitions.specs.Reading.{got, times}
+use Rattle.definitions.specs.Grammar.{name, declaration, equation}
+use Rattle.definitions.specs.Clock.{Clock, base}
+use Rattle.definitions.specs.InferClocks.{Natural, Formed, deep, formed, _>>=_, Clocks, clockOf, Pass, Inferred, natural, ports, isPort, hasClock, give, giveNatural, pass, passesFrom, inferred}
+use Rattle.clock.specs.declared.Presence.{Presence}
+use Rattle.clock.specs.Value.{valueOf, naturalAt, naturalOf}
+use Rattle.environment.specs.Environment.{envAt, Agrees, Assigned, Cleared}
+use Rattle.environment.proofs.Laws.{agrees-assign}
+use Rattle.grammar.specs.declared.Read.{Read}
+use Rattle.grammar.specs.Outcome.{outcome}
+use Rattle.grammar.proofs.Laws.{tokens-length}
+use Rattle.grammar.proofs.Got.{same, tagged-value, times-nil, times-cons, declaration-got}
+use Rattle.operands.proofs.Laws.{name-place}
+use Rattle.layout.specs.Spans.{pastIn}
+use Rattle.layout.specs.Laid.{LaidEquation}
+use Rattle.layout.specs.declared.EquationLayout.{EquationLayout}
+use Rattle.natural.specs.declared.Found.{Found}
+use Rattle.natural.specs.Natural.{Finds}
+use Rattle.passes.specs.declared.Passing.{Passing}
+use Rattle.passes.specs.declared.Inference.{Inference}
+use Rattle.passes.specs.Passes.{Marked, Places, Stands, onClock, given, stepped, Passed, Infers}
+
+-- ---- clearing
+pub clear-more : (t : List ℕ) (i : ℕ) → i < length t → ((k : ℕ) → k < i → getD t k 0 ≡ 0) → (k : ℕ) → k < i + 1 → getD (set t i 0) k 0 ≡ 0
+clear-more t i l h k u = go (eqb k i) refl
+  where
+    go : (b : Bool) → eqb k i ≡ b → getD (set t i 0) k 0 ≡ 0
+    go true q = let e : k ≡ i = eqb-true k i q in rw e (getD-set-same t i 0 0 l)
+    go false q =
+        let n : k ≡ i → ⊥ = eqb-false k i q in
+        let m : k < i = omega arith in
+        getD-set-other t i k 0 0 n ∙ h k m
+
+pub clear-all : (t : List ℕ) (i : ℕ) → length t ≤ i → ((k : ℕ) → k < i → getD t k 0 ≡ 0) → (k : ℕ) → getD t k 0 ≡ 0
+clear-all t i l h k = go (ltb k i) refl
+  where
+    go : (b : Bool) → ltb k i ≡ b → getD t k 0 ≡ 0
+    go true q = h k (ltb-true k i q)
+    go false q = let m : length t ≤ k = omega (arith, ltb-false k i q) in List·getD-eq-default t 0 m
+
+-- ---- a name in the code's tables
+pub port-out : (t : List ℕ) (x : ℕ) → length t ≤ x → false ≡ eqb (getD t x 0) 1
+port-out t x l = let e : getD t x 0 ≡ 0 = List·getD-eq-default t 0 l in sym (ne-eqb (getD t x 0) 1 (omega arith))
+
+pub on-none : (o : Option Clock) (c : Clock) → o ≡ none → false ≡ onClock o c
+on-none o c e = rw e
+
+pub on-some : (o : Option Clock) (c d : Clock) (b : Bool) → o ≡ some d → b ≡ onClock (some d) c → b ≡ onClock o c
+on-some o c d b e i = rw e i
+
+has-on : (clocks : Clocks) (x : ℕ) (c : Clock) → onClock (clockOf clocks x) c ≡ hasClock clocks x c
+has-on clocks x c = go (clockOf clocks x)
+  where
+    go : (o : Option Clock) → onClock o c ≡ (elim o [ none ↦ false | some d ↦ onClock (some d) c ])
+    go none = refl
+    go (some d) = refl
+
+-- ---- one port
+eqb-sym : (x y : ℕ) → eqb x y ≡ eqb y x
+eqb-sym x y = go (eqb y x) refl
+  where
+    go : (b : Bool) → eqb y x ≡ b → eqb x y ≡ b
+    go true q = eq-eqb x y (sym (eqb-true y x q))
+    go false q = ne-eqb x y (λ e. eqb-false y x q (sym e))
+
+-- the first of a list put in its place
+shift : {A : Type 0} (a b : Bool) (u v w : A) → v ≡ choose (a || false) u w → choose b u v ≡ choose (a || b) u w
+shift true true u v w e = refl
+shift true false u v w e = e
+shift false true u v w e = refl
+shift false false u v w e = e
+
+pub port-set : (t t′ p p′ : List ℕ) (x : ℕ) (c : Clock) → c ≡ base → Assigned t t′ x c → p′ ≡ set p x 1 → (m : ℕ) → 17 * m ≤ length t → m ≤ length p → x < m → Places m t′ p′ [] t p (x ∷ [])
+port-set t t′ p p′ x c i a e m l k h = record { clocks = λ y u. clocks y (eqb y x) refl; marks = λ y u. marks y (eqb y x) refl }
+  where
+    clocks : (y : ℕ) (b : Bool) → eqb y x ≡ b → envAt t′ y ≡ choose (eqb y x || false) (some base) (envAt t y)
+    clocks y true q = let j : y ≡ x = eqb-true y x q in rw q (rw j (a .here (omega arith) ∙ ap some i))
+    clocks y false q = rw q (a .elsewhere y (eqb-false y x q))
+
+    marks : (y : ℕ) (b : Bool) → eqb y x ≡ b → getD p′ y 0 ≡ choose (eqb y x || false) 1 (getD p y 0)
+    marks y true q = let j : y ≡ x = eqb-true y x q in let n : x < length p = omega arith in rw q (rw (j, e) (getD-set-same p x 1 0 n))
+    marks y false q = rw q (rw e (getD-set-other p x y 1 0 (eqb-false y x q)))
+
+-- no mark outside the table
+pub port-lost : (t t′ p : List ℕ) (x : ℕ) → length p ≤ x → (m : ℕ) → 17 * m ≤ length t → m ≤ length p → x < m → Places m t′ p [] t p (x ∷ [])
+port-lost t t′ p x h m l k u = absurd (omega arith)
+
+-- ---- a list of ports
+abbrev nameOf : Declared → ℕ
+nameOf d = d .name
+
+pub places-start : (m : ℕ) (t p l : List ℕ) → Places m t p l t p l
+places-start m t p l = record { clocks = λ x u. refl; marks = λ x u. refl }
+
+pub places-step : (m : ℕ) (t p t′ p′ t₀ p₀ rest l : List ℕ) (x : ℕ) → Places m t′ p′ [] t p (x ∷ []) → Places m t p (x ∷ rest) t₀ p₀ l → Places m t′ p′ rest t₀ p₀ l
+places-step m t p t′ p′ t₀ p₀ rest l x a b =
+    record {
+      clocks = λ y u. shift (eqb y x) (among y rest) (some base) (envAt t′ y) (envAt t y) (a .clocks y u) ∙ b .clocks y u;
+      marks = λ y u. shift (eqb y x) (among y rest) 1 (getD p′ y 0) (getD p y 0) (a .marks y u) ∙ b .marks y u;
+    }
+
+-- so many declarations are left to be put in their places
+pub record Placing (M : ℕ) (ts : List TagValue) (t p t₀ p₀ : List ℕ) (left place : ℕ) (l : List Declared) (q : ℕ) : Type 0 where
+  pub rest : List Declared
+  pub items : times left (declaration M) ts place ≡ got rest q
+  pub places : Places M t p (map nameOf rest) t₀ p₀ (map nameOf l)
+
+pub placing-start : (M : ℕ) (ts : List TagValue) (t p : List ℕ) (k at : ℕ) (l : List Declared) (q : ℕ) → times k (declaration M) ts at ≡ got l q → Placing M ts t p t p k at l q
+placing-start M ts t p k at l q g = record { rest = l; items = g; places = places-start M t p (map nameOf l) }
+
+pub placing-end : (M : ℕ) (ts : List TagValue) (t p t₀ p₀ : List ℕ) (left place : ℕ) (l : List Declared) (q : ℕ) → left ≡ 0 → Placing M ts t p t₀ p₀ left place l q → Places M t p [] t₀ p₀ (map nameOf l)
+placing-end M ts t p t₀ p₀ left place l q z h =
+    let n = times-nil (declaration M) ts left place (h .rest) q z (h .items) in
+    let e : map nameOf (h .rest) ≡ [] = ap (map nameOf) (n .0) in
+    rw e at (h .places)
+
+-- the declaration that stands there
+module _ (M : ℕ) (gs vs : List ℕ) (same-length : length vs ≡ length gs) where
+  declared-name : (p : ℕ) (d : Declared) (q : ℕ) → declaration M (tokens gs vs) p ≡ got d q → (getD vs p 0 ≡ d .name) × (d .name < M)
+  unfolding name
+  declared-name p d q g =
+      let k = declaration-got M (tokens gs vs) p d q g in
+      let l = tokens-length gs vs same-length in
+      let w = name-place M (tokens gs vs) p (k .0) (k .1) (k .3) in
+      let v = tagged-value gs vs same-length p 4 M (k .0) (k .1) (omega arith) (k .3) in
+      let e : d .name ≡ k .0 = ap nameOf (k .5) in
+      (sym (v .0) ∙ sym e, omega arith)
+
+  pub placing-step : (t p t′ p′ t₀ p₀ : List ℕ) (left place next : ℕ) (l : List Declared) (q : ℕ) (r : Read) (x : ℕ) → 0 < left → r ≡ outcome (declaration M (tokens gs vs) place) → r ≡ Read.Next next → x ≡ getD vs place 0 →
+      ((m : ℕ) → 17 * m ≤ length t → m ≤ length p → x < m → Places m t′ p′ [] t p (x ∷ [])) → 17 * M ≤ length t → M ≤ length p →
+      Placing M (tokens gs vs) t p t₀ p₀ left place l q → Placing M (tokens gs vs) t′ p′ t₀ p₀ (left - 1) next l q
+  placing-step t p t′ p′ t₀ p₀ left place next l q r x z e b j s u v h =
+      let k = times-cons (declaration M) (tokens gs vs) left place (h .rest) q (λ y. omega (arith, y)) (h .items) in
+      let d = declared-name place (k .0) (k .1) (k .3) in
+      let n : k .1 ≡ next = same _ (k .0) (k .1) r next (k .3) e b in
+      let w : Places M t p (k .0 .name ∷ map nameOf (k .2)) t₀ p₀ (map nameOf l) = rw (k .5) at (h .places) in
+      let y : Places M t′ p′ [] t p (k .0 .name ∷ []) = rw (j ∙ d .0) at (s M u v (rw (j ∙ d .0) (d .1))) in
+      record { rest = k .2; items = rw (sym n) (k .4); places = places-step M t p t′ p′ t₀ p₀ (map nameOf (k .2)) (map nameOf l) (k .0 .name) y w }
+
+  -- no declaration is refused
+  pub placing-none : (t p t₀ p₀ : List ℕ) (left place : ℕ) (l : List Declared) (q : ℕ) (r : Read) (x : _) → 0 < left → r ≡ outcome (declaration M (tokens gs vs) place) → r ≡ Read.Refused x → Placing M (tokens gs vs) t p t₀ p₀ left place l q → ⊥
+  placing-none t p t₀ p₀ left place l q r x z e b h =
+      let k = times-cons (declaration M) (tokens gs vs) left place (h .rest) q (λ y. omega (arith, y)) (h .items) in
+      let f : Read.Next (k .1) ≡ Read.Refused x = sym (e ∙ ap outcome (k .3)) ∙ b in
+      let y : _≡_ {A = ℕ} 0 1 = cc in omega arith
+
+-- ---- one left name
+chosen-left : {A : Type 0} (a b : Bool) (u v : A) → a ≡ true → choose (a || b) u v ≡ u
+chosen-left a b u v e = rw e
+
+chosen-right : {A : Type 0} (a b : Bool) (u v : A) → a ≡ false → b ≡ true → choose (a || b) u v ≡ u
+chosen-right a b u v e f = rw (e, f)
+
+chosen-none : {A : Type 0} (a b : Bool) (u v : A) → a ≡ false → b ≡ false → choose (a || b) u v ≡ v
+chosen-none a b u v e f = rw (e, f)
+
+module _ (t marks : List ℕ) (n : Node) (m : ℕ) (k : Marked marks m (ports n)) (x : ℕ) (c : Clock) (l : x < m) (changed : Bool) (p : Pass) (s : Stands t m changed p) where
+  pub name-port : (b : Bool) → b ≡ eqb (getD marks x 0) 1 → b ≡ true → Stands t m changed (given n c x p)
+  name-port b i j = rw (chosen-left (isPort n x) (hasClock (p .clocks) x c) p (record { changed = true; clocks = record { name = x; clock = c } ∷ p .clocks }) (sym (k .same x l) ∙ (sym i ∙ j))) s
+
+  module _ (b : Bool) (i : b ≡ eqb (getD marks x 0) 1) (j : b ≡ false) (d : Bool) (u : d ≡ onClock (envAt t x) c) where
+    on : d ≡ hasClock (p .clocks) x c
+    on = u ∙ (ap (λ (o : Option Clock). onClock o c) (s .agrees .same x l) ∙ has-on (p .clocks) x c)
+
+    pub name-has : d ≡ true → Stands t m changed (given n c x p)
+    name-has v = rw (chosen-right (isPort n x) (hasClock (p .clocks) x c) p (record { changed = true; clocks = record { name = x; clock = c } ∷ p .clocks }) (sym (k .same x l) ∙ (sym i ∙ j)) (sym on ∙ v)) s
+
+    pub name-new : (t′ : List ℕ) → d ≡ false → Assigned t t′ x c → Stands t′ m true (given n c x p)
+    name-new t′ v a =
+        rw (chosen-none (isPort n x) (hasClock (p .clocks) x c) p (record { changed = true; clocks = record { name = x; clock = c } ∷ p .clocks }) (sym (k .same x l) ∙ (sym i ∙ j)) (sym on ∙ v))
+        (record { agrees = agrees-assign t t′ m x c (p .clocks) l a (s .agrees); changes = refl })
+
+-- ---- the left names
+-- so many names are left to be given the clock c; then the pass stands at f
+pub record Giving (M : ℕ) (ts : List TagValue) (n : Node) (c : Clock) (t : List ℕ) (made : Bool) (left place q : ℕ) (f : Pass) : Type 0 where
+  pub rest : List ℕ
+  pub pass : Pass
+  pub items : times left (name M) ts place ≡ got rest q
+  pub stands : Stands t M made pass
+  pub final : give n c rest pass ≡ f
+
+pub giving-start : (M : ℕ) (ts : List TagValue) (n : Node) (c : Clock) (t : List ℕ) (made : Bool) (k at q : ℕ) (xs : List ℕ) (p : Pass) → times k (name M) ts at ≡ got xs q → Stands t M made p → Giving M ts n c t made k at q (give n c xs p)
+giving-start M ts n c t made k at q xs p g s = record { rest = xs; pass = p; items = g; stands = s; final = refl }
+
+pub giving-end : (M : ℕ) (ts : List TagValue) (n : Node) (c : Clock) (t : List ℕ) (made : Bool) (left place q : ℕ) (f : Pass) → left ≡ 0 → Giving M ts n c t made left place q f → Stands t M made f
+unfolding give
+giving-end M ts n c t made left place q f z h =
+    let e = times-nil (name M) ts left place (h .rest) q z (h .items) in
+    let i : h .pass ≡ f = rw (e .0) at (h .final) in
+    rw (sym i) (h .stands)
+
+pub giving-step : (M : ℕ) (gs vs : List ℕ) → length vs ≡ length gs → (n : Node) (c : Clock) (t t′ marks : List ℕ) (made made′ : Bool) (left place next q : ℕ) (f : Pass) (x : ℕ) → 0 < left → next ≡ pastIn (length gs) place → Marked marks M (ports n) → x ≡ getD vs place 0 →
+    ((n : Node) (p : Pass) (m : ℕ) → Marked marks m (ports n) → x < m → Stands t m made p → Stands t′ m made′ (given n c x p)) →
+    Giving M (tokens gs vs) n c t made left place q f → Giving M (tokens gs vs) n c t′ made′ (left - 1) next q f
+unfolding give name
+giving-step M gs vs same-length n c t t′ marks made made′ left place next q f x z j m g s h =
+    let k = times-cons (name M) (tokens gs vs) left place (h .rest) q (λ y. omega (arith, y)) (h .items) in
+    let l = tokens-length gs vs same-length in
+    let w = name-place M (tokens gs vs) place (k .0) (k .1) (k .3) in
+    let u : place < length gs = omega arith in
+    let v = tagged-value gs vs same-length place 4 M (k .0) (k .1) u (k .3) in
+    let e : next ≡ k .1 = j ∙ (ap (λ (b : Bool). choose b (place + 1) place) (lt-ltb place (length gs) u) ∙ sym (w .0)) in
+    let y : Stands t′ M made′ (given n c (k .0) (h .pass)) = rw (v .0 ∙ sym g) (s n (h .pass) M m (rw (v .0 ∙ sym g) at (v .2)) (h .stands)) in
+    record { rest = k .2; pass = given n c (k .0) (h .pass); items = rw e (k .4); stands = y; final = rw (k .5) at (h .final) }
+
+-- ---- an equation
+module _ (n : Node) (e : Equation) (p : Pass) (f : Found) (q : ℕ) (h : Finds f (natural (p .clocks) (e .right)) q) where
+  step : (v : Natural) → naturalOf (f .natural) ≡ v → stepped n e p ≡ (v >>= λ o. formed (giveNatural n o (e .left) p))
+  step v i = ap (λ (w : Natural). w >>= λ o. formed (giveNatural n o (e .left) p)) (sym (h .clock) ∙ i)
+
+  found : (k : Presence) → f .natural .presence ≡ k → naturalOf (f .natural) ≡ naturalAt k (valueOf (f .natural .clock))
+  found k i = ap (λ (z : Presence). naturalAt z (valueOf (f .natural .clock))) i
+
+  pub equation-free : (t : List ℕ) (m : ℕ) (changed : Bool) → f .natural .presence ≡ Presence.Free → Stands t m changed p → Passed t m (Passing.Made changed) (stepped n e p)
+  unfolding Passed
+  equation-free t m changed i s = (p, step (formed none) (found Presence.Free i), s)
+
+  pub equation-on : (t : List ℕ) (m : ℕ) (made : Bool) → f .natural .presence ≡ Presence.On → Stands t m made (give n (valueOf (f .natural .clock)) (e .left) p) → Passed t m (Passing.Made made) (stepped n e p)
+  unfolding Passed
+  equation-on t m made i s = (give n (valueOf (f .natural .clock)) (e .left) p, step (formed (some (valueOf (f .natural .clock)))) (found Presence.On i), s)
+
+  pub equation-deep : (t : List ℕ) (m : ℕ) → f .natural .presence ≡ Presence.Deep → Passed t m Passing.Deep (stepped n e p)
+  unfolding Passed
+  equation-deep t m i = step deep (found Presence.Deep i)
+
+-- ---- a pass
+stepped-pass : (n : Node) (e : Equation) (es : List Equation) (p : Pass) → pass n (e ∷ es) p ≡ (stepped n e p >>= λ r. pass n es r)
+unfolding pass
+stepped-pass n e es p = go (natural (p .clocks) (e .right))
+  where
+    go : (v : Natural) → (v >>= λ o. pass n es (giveNatural n o (e .left) p)) ≡ ((v >>= λ o. formed (giveNatural n o (e .left) p)) >>= λ r. pass n es r)
+    go deep = refl
+    go (formed o) = refl
+
+-- so many equations are left; then the pass is f
+pub record Going (M : ℕ) (ts : List TagValue) (n : Node) (t : List ℕ) (made : Bool) (left place q : ℕ) (f : Formed Pass) : Type 0 where
+  pub rest : List Equation
+  pub so-far : Pass
+  pub items : times left (equation M) ts place ≡ got rest q
+  pub stands : Stands t M made so-far
+  pub final : pass n rest so-far ≡ f
+
+pub going-start : (M : ℕ) (ts : List TagValue) (n : Node) (t : List ℕ) (k at q : ℕ) (es : List Equation) (clocks : Clocks) → times k (equation M) ts at ≡ got es q → Agrees t M clocks →
+    Going M ts n t false k at q (pass n es (record { changed = false; clocks = clocks }))
+going-start M ts n t k at q es clocks g a = record { rest = es; so-far = record { changed = false; clocks = clocks }; items = g; stands = record { agrees = a; changes = refl }; final = refl }
+
+pub going-end : (M : ℕ) (ts : List TagValue) (n : Node) (t : List ℕ) (made : Bool) (left place q : ℕ) (f : Formed Pass) → left ≡ 0 → Going M ts n t made left place q f → Passed t M (Passing.Made made) f
+unfolding Passed pass
+going-end M ts n t made left place q f z h =
+    let e = times-nil (equation M) ts left place (h .rest) q z (h .items) in
+    let i : formed (h .so-far) ≡ f = rw (e .0) at (h .final) in
+    (h .so-far, sym i, h .stands)
+
+module _ (M : ℕ) (ts : List TagValue) (n : Node) (t t′ marks : List ℕ) (made : Bool) (left place q : ℕ) (f : Formed Pass) (l : EquationLayout) (r : Passing) (z : 0 < left) (m : Marked marks M (ports n))
+    (L : (e : Equation) (q : ℕ) → equation M ts place ≡ got e q → LaidEquation M ts e q l)
+    (E : (n : Node) (p : Pass) (e : Equation) (q : ℕ) → Marked marks M (ports n) → LaidEquation M ts e q l → Stands t M made p → Passed t′ M r (stepped n e p))
+    (h : Going M ts n t made left place q f) where
+  pub going-step : (b : Bool) → r ≡ Passing.Made b → Going M ts n t′ b (left - 1) (l .end) q f
+  unfolding Passed
+  going-step b i =
+      let k = times-cons (equation M) ts left place (h .rest) q (λ y. omega (arith, y)) (h .items) in
+      let d = L (k .0) (k .1) (k .3) in
+      let x : Passed t′ M (Passing.Made b) (stepped n (k .0) (h .so-far)) = rw i at (E n (h .so-far) (k .0) (k .1) m d (h .stands)) in
+      let w : pass n (k .0 ∷ k .2) (h .so-far) ≡ pass n (k .2) (x .0) = stepped-pass n (k .0) (k .2) (h .so-far) ∙ ap (λ (v : Formed Pass). v >>= λ r. pass n (k .2) r) (x .1) in
+      record { rest = k .2; so-far = x .0; items = rw (d .ends) (k .4); stands = x .2; final = sym w ∙ rw (k .5) at (h .final) }
+
+  pub going-deep : r ≡ Passing.Deep → Passed t′ M Passing.Deep f
+  unfolding Passed
+  going-deep i =
+      let k = times-cons (equation M) ts left place (h .rest) q (λ y. omega (arith, y)) (h .items) in
+      let d = L (k .0) (k .1) (k .3) in
+      let x : stepped n (k .0) (h .so-far) ≡ deep = rw i at (E n (h .so-far) (k .0) (k .1) m d (h .stands)) in
+      let w : pass n (k .0 ∷ k .2) (h .so-far) ≡ deep = stepped-pass n (k .0) (k .2) (h .so-far) ∙ ap (λ (v : Formed Pass). v >>= λ r. pass n (k .2) r) x in
+      sym (rw (k .5) at (h .final)) ∙ w
+
+-- ---- the passes
+-- a pass that changed something, and one that did not
+again : (n : Node) (k made : ℕ) (clocks : Clocks) (p : Pass) → pass n (n .equations) (record { changed = false; clocks = clocks }) ≡ formed p → p .changed ≡ true → passesFrom n (suc k) made clocks ≡ passesFrom n k (suc made) (p .clocks)
+unfolding passesFrom
+again n k made clocks p e c = rw e (rw c)
+
+stops : (n : Node) (k made : ℕ) (clocks : Clocks) (p : Pass) → pass n (n .equations) (record { changed = false; clocks = clocks }) ≡ formed p → p .changed ≡ false → passesFrom n (suc k) made clocks ≡ formed (record { passes = suc made; clocks = p .clocks })
+unfolding passesFrom
+stops n k made clocks p e c = rw e (rw c)
+
+too-deep : (n : Node) (k made : ℕ) (clocks : Clocks) → pass n (n .equations) (record { changed = false; clocks = clocks }) ≡ deep → passesFrom n (suc k) made clocks ≡ deep
+unfolding passesFrom
+too-deep n k made clocks e = rw e
+
+-- at most k passes more, so many made; then f is inferred
+pub record Repeating (M : ℕ) (n : Node) (t : List ℕ) (k made : ℕ) (f : Formed Inferred) : Type 0 where
+  pub clocks : Clocks
+  pub agrees : Agrees t M clocks
+  pub final : passesFrom n k made clocks ≡ f
+
+pub repeating-start : (M : ℕ) (n : Node) (t : List ℕ) (k : ℕ) (clocks : Clocks) → Agrees t M clocks → Repeating M n t (k + 1 - 0) 0 (passesFrom n (suc k) 0 clocks)
+repeating-start M n t k clocks a = let e : suc k ≡ k + 1 - 0 = omega arith in record { clocks = clocks; agrees = a; final = ap (λ (j : ℕ). passesFrom n j 0 clocks) (sym e) }
+
+pub repeating-end : (M : ℕ) (n : Node) (t : List ℕ) (most made : ℕ) (f : Formed Inferred) → most ≤ made → Repeating M n t (most - made) made f → Infers t M (Inference.Passes made) f
+unfolding Infers passesFrom
+repeating-end M n t most made f l h =
+    let e : most - made ≡ 0 = omega arith in
+    let i : passesFrom n 0 made (h .clocks) ≡ f = ap (λ (k : ℕ). passesFrom n k made (h .clocks)) (sym e) ∙ h .final in
+    (record { passes = made; clocks = h .clocks }, sym i, refl, h .agrees)
+
+module _ (M : ℕ) (ts : List TagValue) (n : Node) (t t′ marks : List ℕ) (count at q most made : ℕ) (f : Formed Inferred) (r : Passing) (u : made < most) (m : Marked marks M (ports n)) (g : times count (equation M) ts at ≡ got (n .equations) q)
+    (P : (n : Node) (es : List Equation) (q : ℕ) (clocks : Clocks) → Marked marks M (ports n) → times count (equation M) ts at ≡ got es q → Agrees t M clocks → Passed t′ M r (pass n es (record { changed = false; clocks = clocks })))
+    (h : Repeating M n t (most - made) made f) where
+  one : passesFrom n (suc (most - (made + 1))) made (h .clocks) ≡ f
+  one = let e : suc (most - (made + 1)) ≡ most - made = omega arith in ap (λ (k : ℕ). passesFrom n k made (h .clocks)) e ∙ h .final
+
+  module _ (b : Bool) (i : r ≡ Passing.Made b) where
+    made-one : (p : Pass) × (pass n (n .equations) (record { changed = false; clocks = h .clocks }) ≡ formed p) × Stands t′ M b p
+    unfolding Passed
+    made-one = rw i at (P n (n .equations) q (h .clocks) m g (h .agrees))
+
+    pub repeating-step : b ≡ true → Repeating M n t′ (most - (made + 1)) (made + 1) f
+    repeating-step c =
+        let x = made-one in
+        let w = again n (most - (made + 1)) made (h .clocks) (x .0) (x .1) (sym (x .2 .changes) ∙ c) in
+        record { clocks = x .0 .clocks; agrees = x .2 .agrees; final = ap (λ (k : ℕ). passesFrom n (most - (made + 1)) k (x .0 .clocks)) (add-one made) ∙ (sym w ∙ one) }
+
+    pub repeating-stop : b ≡ false → Infers t′ M (Inference.Passes (made + 1)) f
+    unfolding Infers
+    repeating-stop c =
+        let x = made-one in
+        let w = stops n (most - (made + 1)) made (h .clocks) (x .0) (x .1) (sym (x .2 .changes) ∙ c) in
+        (record { passes = suc made; clocks = x .0 .clocks }, sym one ∙ w, sym (add-one made), x .2 .agrees)
+
+  pub repeating-deep : r ≡ Passing.Deep → Infers t′ M Inference.Deep f
+  unfolding Infers Passed
+  repeating-deep i =
+      let x : pass n (n .equations) (record { changed = false; clocks = h .clocks }) ≡ deep = rw i at (P n (n .equations) q (h .clocks) m g (h .agrees)) in
+      sym one ∙ too-deep n (most - (made + 1)) made (h .clocks) x
+
+-- "Passes stop after one without change or after equations + 1"
+few : (n : Node) (k made : ℕ) (clocks : Clocks) (i : Inferred) → passesFrom n k made clocks ≡ formed i → i .passes ≤ made + k
+unfolding passesFrom
+few n zero made clocks i e = let j : made ≡ i .passes = cc in omega arith
+few n (suc k) made clocks i e = go (λ p. few n k (suc made) (p .clocks) i) (pass n (n .equations) (record { changed = false; clocks = clocks })) e
+  where
+    last : ((p : Pass) → passesFrom n k (suc made) (p .clocks) ≡ formed i → i .passes ≤ suc made + k) → (p : Pass) (b : Bool) → choose b (passesFrom n k (suc made) (p .clocks)) (formed (record { passes = suc made; clocks = p .clocks })) ≡ formed i → i .passes ≤ made + suc k
+    last f p true e = let l = f p e in omega arith
+    last f p false e = let j : suc made ≡ i .passes = cc in omega arith
+
+    go : ((p : Pass) → passesFrom n k (suc made) (p .clocks) ≡ formed i → i .passes ≤ suc made + k) → (v : Formed Pass) → (v >>= λ p. choose (p .changed) (passesFrom n k (suc made) (p .clocks)) (formed (record { passes = suc made; clocks = p .clocks }))) ≡ formed i → i .passes ≤ made + suc k
+    go f deep e = let z : _≡_ {A = ℕ} 0 1 = cc in absurd (omega arith)
+    go f (formed p) e = last f p (p .changed) e
+
+-- the number of passes that the code says is at most one more than that of equations
+pub infers-few : (t : List ℕ) (m : ℕ) (n : Node) (k : ℕ) → Infers t m (Inference.Passes k) (inferred n) → k ≤ length (n .equations) + 1
+unfolding Infers inferred
+infers-few t m n k h = let l = few n (suc (length (n .equations))) 0 _ (h .0) (h .1) in omega (arith, h .2)
+
+-- ---- a node
+or-assoc : (a b c : Bool) → (a || (b || c)) ≡ ((a || b) || c)
+or-assoc true b c = refl
+or-assoc false b c = refl
+
+among-append : (x : ℕ) (k l : List Declared) → among x (map nameOf (k ++ l)) ≡ (among x (map nameOf k) || among x (map nameOf l))
+among-append x [] l = refl
+among-append x (d ∷ k) l = ap (λ (b : Bool). eqb x (d .name) || b) (among-append x k l) ∙ or-assoc (eqb x (d .name)) (among x (map nameOf k)) (among x (map nameOf l))
+
+chosen-both : {A : Type 0} (a b : Bool) (u v w z : A) → v ≡ choose b u w → w ≡ choose a u z → v ≡ choose (a || b) u z
+chosen-both true true u v w z i j = i
+chosen-both true false u v w z i j = i ∙ j
+chosen-both false true u v w z i j = i
+chosen-both false false u v w z i j = i ∙ j
+
+chosen-twice : {A : Type 0} (a b : Bool) (u z : A) → choose a u (choose b u z) ≡ choose (a || b) u z
+chosen-twice true b u z = refl
+chosen-twice false b u z = refl
+
+marked-one : (b : Bool) → eqb (choose b 1 0) 1 ≡ b
+marked-one true = refl
+marked-one false = refl
+
+on-base : (l : List ℕ) (x : ℕ) → clockOf (map (λ y. record { name = y; clock = base }) l) x ≡ choose (among x l) (some base) none
+unfolding clockOf
+on-base [] x = refl
+on-base (y ∷ l) x = rw (on-base l x, eqb-sym y x) (chosen-twice (eqb x y) (among x l) (some base) none)
+
+module _ (M : ℕ) (n : Node) (t t₀ p₀ t₁ p₁ t₂ p₂ : List ℕ) (c : Cleared t t₀) (d : (x : ℕ) → getD p₀ x 0 ≡ 0) (a : Places M t₁ p₁ [] t₀ p₀ (map nameOf (n .inputs))) (b : Places M t₂ p₂ [] t₁ p₁ (map nameOf (n .outputs))) where
+  pub ports-marked : Marked p₂ M (ports n)
+  ports-marked = record { same = λ x u. ap (λ (k : ℕ). eqb k 1) (number x u) ∙ (marked-one (among x (map nameOf (n .inputs)) || among x (map nameOf (n .outputs))) ∙ sym (among-append x (n .inputs) (n .outputs))) }
+    where
+      number : (x : ℕ) → x < M → getD p₂ x 0 ≡ choose (among x (map nameOf (n .inputs)) || among x (map nameOf (n .outputs))) 1 0
+      number x u = chosen-both (among x (map nameOf (n .inputs))) (among x (map nameOf (n .outputs))) 1 (getD p₂ x 0) (getD p₁ x 0) 0 (b .marks x u) (a .marks x u ∙ ap (λ (k : ℕ). choose (among x (map nameOf (n .inputs))) 1 k) (d x))
+
+  pub ports-on-base : 17 * M ≤ length t₂ → Agrees t₂ M (map (λ x. record { name = x; clock = base }) (ports n))
+  ports-on-base l = record { room = l; same = λ x u. one x u ∙ (ap (λ (k : Bool). choose k (some base) none) (sym (among-append x (n .inputs) (n .outputs))) ∙ sym (on-base (ports n) x)) }
+    where
+      one : (x : ℕ) → x < M → envAt t₂ x ≡ choose (among x (map nameOf (n .inputs)) || among x (map nameOf (n .outputs))) (some base) none
+      one x u = chosen-both (among x (map nameOf (n .inputs))) (among x (map nameOf (n .outputs))) (some base) (envAt t₂ x) (envAt t₁ x) none (b .clocks x u) (a .clocks x u ∙ ap (λ (k : Option Clock). choose (among x (map nameOf (n .inputs))) (some base) k) (c .nowhere x))
+
+pub infers-node : (M : ℕ) (n : Node) (t : List ℕ) (k : ℕ) (r : Inference) → k ≡ length (n .equations) → Infers t M r (passesFrom n (suc k) 0 (map (λ x. record { name = x; clock = base }) (ports n))) → Infers t M r (inferred n)
+unfolding inferred
+infers-node M n t k r e h = rw e at h

@@ -7,7 +7,9 @@ use mathlib.Core.Option.{Option, none, some}
 use Prim.Native.Nat.{ℕ, zero, suc, _+_, _<_}
 use native.Mathlib.Omega.{arith}
 use lib.Dec.{eqb}
-use lib.ListN.{length, getD, getElem?}
+use native.Mathlib.Numerals.{add-one, sub-one}
+use lib.ListN.{length, getD, take, drop, getElem?}
+use lib.Seq.{drop-cons}
 use borrow.Author.Tests.{lt-ltb}
 use Rattle.definitions.specs.declared.NodeKind.{NodeKind}
 use Rattle.definitions.specs.Lists.{choose}
@@ -20,8 +22,8 @@ use Rattle.grammar.specs.declared.Read.{Read}
 use Rattle.grammar.specs.Outcome.{outcome}
 use Rattle.grammar.proofs.Laws.{tokens-length, times-length}
 use Rattle.grammar.proofs.Parts.{counted-within}
-use Rattle.grammar.proofs.Longer.{token-got, counted-grows, tagged-grows}
-use Rattle.grammar.proofs.Got.{token-value, tagged-value, counted-value, declarations-got, equation-got, node-got, sheet-got}
+use Rattle.grammar.proofs.Longer.{token-got, counted-grows, tagged-grows, name-grows}
+use Rattle.grammar.proofs.Got.{times-nil, times-cons, token-value, tagged-value, counted-value, declarations-got, equation-got, node-got, sheet-got}
 use Rattle.typedefs.proofs.Laws.{placeAt, item}
 use Rattle.layout.specs.declared.Span.{Span}
 use Rattle.layout.specs.Spans.{pastIn, kindOr, kindIn, endOf, spanBy, Spans}
@@ -57,6 +59,23 @@ module _ (ts vs : List ℕ) (same-length : length vs ≡ length ts) where
 
     pub span-at : (s : Span) (p′ : ℕ) → s ≡ spanBy R ts vs p′ → p′ ≡ p → Spans R (tokens ts vs) l s × (s .end ≡ q)
     span-at s p′ e f = subst⁻¹ (λ (x : Span). Spans R (tokens ts vs) l x × (x .end ≡ q)) (e ∙ ap (spanBy R ts vs) f) span-got
+
+  at-name : (M p x q : ℕ) → p < length ts → name M (tokens ts vs) p ≡ got x q → (x ≡ getD vs p 0) × (q ≡ p + 1)
+  unfolding name
+  at-name M p x q h g = let y = tagged-value ts vs same-length p 4 M x q h g in (y .0, y .3)
+
+  -- names stand in the values as they are
+  pub names-stand : (M k p : ℕ) (l : List ℕ) (q : ℕ) → times k (name M) (tokens ts vs) p ≡ got l q → (l ≡ take k (drop p vs)) × (q ≡ p + k)
+  names-stand M zero p l q g = let e = times-nil (name M) (tokens ts vs) 0 p l q refl g in (e .0, omega (arith, e .1))
+  names-stand M (suc k) p l q g =
+      let t = times-cons (name M) (tokens ts vs) (suc k) p l q (λ z. omega arith) g in
+      let w = name-grows M (tokens ts vs) p (t .0) (t .1) (t .3) in
+      let b : p < length ts = omega (arith, w .0, w .1, tokens-length ts vs same-length) in
+      let v = at-name M p (t .0) (t .1) b (t .3) in
+      let r = names-stand M k (t .1) (t .2) q (rw (sub-one (suc k)) at (t .4)) in
+      let f : take k (drop (t .1) vs) ≡ take k (drop (suc p) vs) = ap (λ (s : ℕ). take k (drop s vs)) (v .1 ∙ add-one p) in
+      let c : p < length vs = omega arith in
+      (t .5 ∙ ap (λ (x : ℕ). x ∷ t .2) (v .0) ∙ ap (λ (y : List ℕ). getD vs p 0 ∷ y) (r .0 ∙ f) ∙ ap (take (suc k)) (sym (drop-cons vs p 0 c)), omega (arith, r .1, v .1))
 
   -- a node's name and kind
   module _ (M : ℕ) (n : Node) (p k q : ℕ) where

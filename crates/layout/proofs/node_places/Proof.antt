@@ -4,7 +4,6 @@ use mathlib.Core.Path.{_≡_, refl, _∙_}
 use Prim.Native.Nat.{ℕ, _-_, _≤_, _<_}
 use native.Mathlib.Omega.{arith}
 use lib.ListN.{length, getD, length-set}
-use Rattle.definitions.specs.declared.NodeKind.{NodeKind}
 use Rattle.definitions.specs.Bytes.{tokens}
 use Rattle.definitions.specs.Grammar.{node}
 use Rattle.typedefs.proofs.Laws.{placeAt, placed-more, placed-refused}

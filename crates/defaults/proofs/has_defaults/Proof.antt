@@ -1,0 +1,47 @@
+-- `defaults::has_defaults` meets its contract: after k rounds the bytes say what is known k definitions down. The measure is the rounds left.
+-- Assumes nothing.
+use mathlib.Core.Path.{_≡_, sym, _∙_, ap}
+use mathlib.Core.List.{List}
+use Prim.Native.Nat.{ℕ, suc, _-_, _≤_}
+use native.Mathlib.Omega.{arith}
+use native.Mathlib.Numerals.{add-one}
+use lib.ListN.{getD-replicate}
+use Rattle.definitions.specs.Bytes.{tokens}
+use Rattle.definitions.specs.Tree.{TypeDef}
+use Rattle.typedefs.specs.Table.{Table, nameAt}
+use Rattle.cycles.specs.Edges.{bit}
+use Rattle.defaults.specs.Has.{Has}
+use Rattle.defaults.proofs.Laws.{has-start, has-end}
+use borrow.Author.Needs.{needs}
+use Rattle.defaults.proofs.has_defaults.Statement.{statement}
+use Rattle.defaults.proofs.has_defaults.Tie as tie
+
+abbrev Inv-loop : tie.InvT-loop
+Inv-loop tags values names places n has₀ k₀ has k =
+    (k ≤ n) × ((types : List TypeDef) → Table names (tokens tags values) places n types → Has types n k has)
+
+abbrev μ-loop : tie.MeasureT-loop
+μ-loop tags values names places n has₀ k₀ has k = n - k
+
+loop-holds : tie.Need-loop-holds Inv-loop μ-loop
+loop-holds c = (omega arith, λ types s. has-start types _ (c .before .before .pre .1))
+
+has-round-requires : tie.Need-has-round-requires Inv-loop μ-loop
+has-round-requires c κs = search needs
+
+add-k : tie.Need-add-k Inv-loop μ-loop
+add-k c = search needs
+
+loop-less : tie.Need-loop-less Inv-loop μ-loop
+loop-less c = search needs
+
+loop-again : tie.Need-loop-again Inv-loop μ-loop
+loop-again c = (omega arith, λ types s. rw (add-one (c .before .before .before .loop .k)) (c .has-round .ensures types (c .before .before .before .loop .k) s (c .before .before .before .loop .inv .1 types s)))
+
+returns : tie.Need-returns Inv-loop μ-loop
+returns c = λ types s. has-end types _ _ (c .before .loop .has) (c .loop-test .left) (c .before .loop .inv .0) (c .before .loop .inv .1 types s)
+
+pub has-defaults-spec : {M : Type 1} → statement M
+has-defaults-spec =
+    tie.close
+    (tie.spec Inv-loop μ-loop loop-holds has-round-requires add-k loop-less loop-again returns)

@@ -1,0 +1,614 @@
+// Defaults of types: document 01, "Declocking". Whether a type has one is found once for each definition; then it is written.
+// `tags` and `values` are a sheet's tokens, `names` the number of its names; `places` are those of its n definitions;
+// byte i of `has` says whether definition i has a default.
+use definitions::ExprToken;
+use definitions::Literal;
+use definitions::Primitive;
+use definitions::Token;
+use definitions::TypeToken;
+use grammar::Read;
+use grammar::TypeHead;
+use typedefs::Defined;
+ghost use mathlib.Core.Path.{_≡_};
+ghost use mathlib.Core.List.{List, [], _∷_, map};
+ghost use mathlib.Core.Option.{some};
+ghost use Prim.Native.Nat.{ℕ, suc, _≤_, _<_};
+ghost use lib.ListN.{length, getD};
+ghost use Rattle.definitions.specs.Bytes.{tokens};
+ghost use Rattle.definitions.specs.Lists.{join};
+ghost use Rattle.definitions.specs.Tree.{Ty, Declared, TypeDef, Expr, Exprs};
+ghost use Rattle.definitions.specs.Reading.{got, times};
+ghost use Rattle.definitions.specs.Grammar.{ty, declaration, typeDef};
+ghost use Rattle.definitions.specs.Types.{copies, primitiveDefault, defaultBy, defaultsBy, defaultOf, defaultNamed, default};
+ghost use Rattle.definitions.specs.Output.{literalTokens, fieldTokens, exprTokens, operandTokens};
+ghost use Rattle.typedefs.specs.Table.{Table, Named, nameAt};
+ghost use Rattle.cycles.specs.Edges.{bit};
+ghost use Rattle.emit.specs.Out.{out, emits};
+ghost use Rattle.defaults.specs.Has.{isSome, Has};
+
+// Has the type of this name a default?
+pub fn named_has(values: &[u32], places: &[usize; 32], n: usize, has: &[u8; 32], x: u32) -> bool
+    requires { ⌜ n ≤ 32 ⌝ }
+    ensures { λ r. ⌜ ((types : List TypeDef) (k : ℕ) → Named (now (values .entry)) (now (places .entry)) n types → Has types n k (now (has .entry)) → r ≡ isSome (defaultNamed types k x)) ⌝ }
+{
+    let k = typedefs::find_definition(values, places, n, x);
+    if n <= k {
+        return false;
+    }
+    has[k] == 1
+}
+
+// Has a type a default?
+pub fn type_has(
+    tags: &[u8],
+    values: &[u32],
+    names: u32,
+    places: &[usize; 32],
+    n: usize,
+    has: &[u8; 32],
+    depth: u32,
+    at: usize,
+) -> bool
+    requires { ⌜ length (now values) ≡ length (now tags) ⌝ }
+    requires { ⌜ n ≤ 32 ⌝ }
+    ensures { λ r. ⌜ ((types : List TypeDef) (k : ℕ) (t : Ty) (q : ℕ) → Table names (tokens (now (tags .entry)) (now (values .entry))) (now (places .entry)) n types → Has types n k (now (has .entry)) → ty names depth (tokens (now (tags .entry)) (now (values .entry))) at ≡ got t q → r ≡ isSome (defaultBy (defaultNamed types k) t)) ⌝ }
+{
+    let head = grammar::type_head(tags, values, names, at);
+    match head {
+        TypeHead::Refused(_) => false,
+        TypeHead::Token(t, next) => match t {
+            TypeToken::Basic(_) => true,
+            TypeToken::Named(x) => named_has(values, places, n, has, x),
+            TypeToken::Array(_) => if depth == 0 {
+                false
+            } else {
+                type_has(tags, values, names, places, n, has, depth - 1, next)
+            },
+        },
+    }
+}
+
+// Have so many fields all a default?
+pub fn fields_have(
+    tags: &[u8],
+    values: &[u32],
+    names: u32,
+    places: &[usize; 32],
+    n: usize,
+    has: &[u8; 32],
+    left: u32,
+    at: usize,
+) -> bool
+    requires { ⌜ length (now values) ≡ length (now tags) ⌝ }
+    requires { ⌜ n ≤ 32 ⌝ }
+    ensures { λ r. ⌜ ((types : List TypeDef) (k : ℕ) (fs : List Declared) (q : ℕ) → Table names (tokens (now (tags .entry)) (now (values .entry))) (now (places .entry)) n types → Has types n k (now (has .entry)) → times left (declaration names) (tokens (now (tags .entry)) (now (values .entry))) at ≡ got fs q → r ≡ isSome (defaultsBy (defaultNamed types k) fs)) ⌝ }
+{
+    if left == 0 {
+        return true;
+    }
+    let label = grammar::read_name(tags, values, names, at);
+    match label {
+        Read::Refused(_) => false,
+        Read::Next(first) => {
+            if type_has(tags, values, names, places, n, has, 8, first) {
+                let rest = grammar::read_type(tags, values, names, 8, first);
+                match rest {
+                    Read::Refused(_) => false,
+                    Read::Next(next) => fields_have(
+                        tags,
+                        values,
+                        names,
+                        places,
+                        n,
+                        has,
+                        left - 1,
+                        next,
+                    ),
+                }
+            } else {
+                false
+            }
+        }
+    }
+}
+
+// Has a definition a default?
+pub fn definition_has(
+    tags: &[u8],
+    values: &[u32],
+    names: u32,
+    places: &[usize; 32],
+    n: usize,
+    has: &[u8; 32],
+    at: usize,
+) -> bool
+    requires { ⌜ length (now values) ≡ length (now tags) ⌝ }
+    requires { ⌜ n ≤ 32 ⌝ }
+    ensures { λ r. ⌜ ((types : List TypeDef) (k : ℕ) (d : TypeDef) (q : ℕ) → Table names (tokens (now (tags .entry)) (now (values .entry))) (now (places .entry)) n types → Has types n k (now (has .entry)) → typeDef names (tokens (now (tags .entry)) (now (values .entry))) at ≡ got d q → r ≡ isSome (defaultOf (defaultNamed types k) d (d .body))) ⌝ }
+{
+    let found = typedefs::describe(tags, values, names, at);
+    match found {
+        Defined::Enum(_, count, _) => if count == 0 { false } else { true },
+        Defined::Record(_, count, first) => fields_have(
+            tags,
+            values,
+            names,
+            places,
+            n,
+            has,
+            count,
+            first,
+        ),
+        Defined::Alias(_, first) => type_has(tags, values, names, places, n, has, 8, first),
+        Defined::Nothing => false,
+    }
+}
+
+// Has the name of definition i a default, one definition further down? A byte.
+pub fn has_byte(
+    tags: &[u8],
+    values: &[u32],
+    names: u32,
+    places: &[usize; 32],
+    n: usize,
+    has: &[u8; 32],
+    i: usize,
+) -> u8
+    requires { ⌜ length (now values) ≡ length (now tags) ⌝ }
+    requires { ⌜ (n ≤ 32) × (i < n) ⌝ }
+    ensures { λ r. ⌜ ((types : List TypeDef) (k : ℕ) → Table names (tokens (now (tags .entry)) (now (values .entry))) (now (places .entry)) n types → Has types n k (now (has .entry)) → r ≡ bit (isSome (defaultNamed types (suc k) (nameAt types i)))) ⌝ }
+{
+    let x = typedefs::value_at(values, places[i]);
+    let k = typedefs::find_definition(values, places, n, x);
+    if n <= k {
+        return 0;
+    }
+    if definition_has(tags, values, names, places, n, has, places[k]) {
+        1
+    } else {
+        0
+    }
+}
+
+// Which definitions have a default, one definition further down.
+pub fn has_round(
+    tags: &[u8],
+    values: &[u32],
+    names: u32,
+    places: &[usize; 32],
+    n: usize,
+    has: &[u8; 32],
+) -> [u8; 32]
+    requires { ⌜ length (now values) ≡ length (now tags) ⌝ }
+    requires { ⌜ n ≤ 32 ⌝ }
+    ensures { λ r. ⌜ ((types : List TypeDef) (k : ℕ) → Table names (tokens (now (tags .entry)) (now (values .entry))) (now (places .entry)) n types → Has types n k (now (has .entry)) → Has types n (suc k) r) ⌝ }
+{
+    let mut more = [0u8; 32];
+    let mut i: usize = 0;
+    while i < n {
+        more[i] = has_byte(tags, values, names, places, n, has, i);
+        i += 1;
+    }
+    more
+}
+
+// Which definitions have a default: as many rounds as there are definitions.
+pub fn has_defaults(
+    tags: &[u8],
+    values: &[u32],
+    names: u32,
+    places: &[usize; 32],
+    n: usize,
+) -> [u8; 32]
+    requires { ⌜ length (now values) ≡ length (now tags) ⌝ }
+    requires { ⌜ n ≤ 32 ⌝ }
+    ensures { λ r. ⌜ ((types : List TypeDef) → Table names (tokens (now (tags .entry)) (now (values .entry))) (now (places .entry)) n types → Has types n n r) ⌝ }
+{
+    let mut has = [0u8; 32];
+    let mut k: usize = 0;
+    while k < n {
+        let more = has_round(tags, values, names, places, n, &has);
+        has = more;
+        k += 1;
+    }
+    has
+}
+
+// The constant of a primitive type: false; 0; 0.0; the character 0.
+pub fn default_literal(p: Primitive) -> Literal
+    ensures { λ r. ⌜ r ≡ primitiveDefault p ⌝ }
+{
+    match p {
+        Primitive::Bool => Literal::Bool(0),
+        Primitive::Int8 => Literal::Int(0),
+        Primitive::Int16 => Literal::Int(0),
+        Primitive::Int32 => Literal::Int(0),
+        Primitive::Int64 => Literal::Int(0),
+        Primitive::Uint8 => Literal::Int(0),
+        Primitive::Uint16 => Literal::Int(0),
+        Primitive::Uint32 => Literal::Int(0),
+        Primitive::Uint64 => Literal::Int(0),
+        Primitive::Float32 => Literal::Float(0),
+        Primitive::Float64 => Literal::Float(0),
+        Primitive::Char => Literal::Char(0),
+    }
+}
+
+// A constant, with the high word 0 where it has one.
+pub fn emit_literal(
+    otags: &mut [u8; 8192],
+    ovalues: &mut [u32; 8192],
+    w: usize,
+    l: Literal,
+) -> usize
+    ensures { λ r. ⌜ out (now (otags .exit)) (now (ovalues .exit)) r ≡ emits (out (now (otags .entry)) (now (ovalues .entry)) w) (literalTokens l 0) ⌝ }
+{
+    let next = emit::emit(otags, ovalues, w, Token::Expression(ExprToken::Const(l)));
+    match l {
+        Literal::Bool(_) => next,
+        Literal::Int(_) => emit::emit(otags, ovalues, next, Token::High(0)),
+        Literal::Float(_) => emit::emit(otags, ovalues, next, Token::High(0)),
+        Literal::Char(_) => next,
+    }
+}
+
+// Two tokens.
+pub fn emit_two(
+    otags: &mut [u8; 8192],
+    ovalues: &mut [u32; 8192],
+    w: usize,
+    s: Token,
+    t: Token,
+) -> usize
+    ensures { λ r. ⌜ out (now (otags .exit)) (now (ovalues .exit)) r ≡ emits (out (now (otags .entry)) (now (ovalues .entry)) w) (s ∷ t ∷ []) ⌝ }
+{
+    let next = emit::emit(otags, ovalues, w, s);
+    emit::emit(otags, ovalues, next, t)
+}
+
+// The default of a type, at most `fuel` definitions down.
+pub fn emit_type(
+    tags: &[u8],
+    values: &[u32],
+    names: u32,
+    places: &[usize; 32],
+    n: usize,
+    fuel: u32,
+    depth: u32,
+    at: usize,
+    otags: &mut [u8; 8192],
+    ovalues: &mut [u32; 8192],
+    w: usize,
+) -> usize
+    requires { ⌜ length (now values) ≡ length (now tags) ⌝ }
+    requires { ⌜ (n ≤ 32) × (depth ≤ 8) ⌝ }
+    ensures { λ r. ⌜ ((types : List TypeDef) (t : Ty) (q : ℕ) (e : Expr) → Table names (tokens (now (tags .entry)) (now (values .entry))) (now (places .entry)) n types → ty names depth (tokens (now (tags .entry)) (now (values .entry))) at ≡ got t q → defaultBy (defaultNamed types fuel) t ≡ some e → out (now (otags .exit)) (now (ovalues .exit)) r ≡ emits (out (now (otags .entry)) (now (ovalues .entry)) w) (exprTokens e)) ⌝ }
+{
+    if w == 8193 {
+        return w;
+    }
+    let head = grammar::type_head(tags, values, names, at);
+    match head {
+        TypeHead::Refused(_) => w,
+        TypeHead::Token(t, next) => match t {
+            TypeToken::Basic(p) => {
+                let l = default_literal(p);
+                emit_literal(otags, ovalues, w, l)
+            }
+            TypeToken::Named(x) => if fuel == 0 {
+                w
+            } else {
+                emit_named(
+                    tags,
+                    values,
+                    names,
+                    places,
+                    n,
+                    fuel - 1,
+                    x,
+                    otags,
+                    ovalues,
+                    w,
+                )
+            },
+            TypeToken::Array(m) => if depth == 0 {
+                w
+            } else {
+                let first = emit_two(
+                    otags,
+                    ovalues,
+                    w,
+                    Token::Expression(ExprToken::Array),
+                    Token::Count(m),
+                );
+                emit_copies(
+                    tags,
+                    values,
+                    names,
+                    places,
+                    n,
+                    fuel,
+                    depth - 1,
+                    next,
+                    m,
+                    otags,
+                    ovalues,
+                    first,
+                )
+            },
+        },
+    }
+}
+
+// So many times the default of a type.
+pub fn emit_copies(
+    tags: &[u8],
+    values: &[u32],
+    names: u32,
+    places: &[usize; 32],
+    n: usize,
+    fuel: u32,
+    depth: u32,
+    at: usize,
+    m: u32,
+    otags: &mut [u8; 8192],
+    ovalues: &mut [u32; 8192],
+    w: usize,
+) -> usize
+    requires { ⌜ length (now values) ≡ length (now tags) ⌝ }
+    requires { ⌜ (n ≤ 32) × (depth ≤ 8) ⌝ }
+    ensures { λ r. ⌜ ((types : List TypeDef) (t : Ty) (q : ℕ) (e : Expr) → Table names (tokens (now (tags .entry)) (now (values .entry))) (now (places .entry)) n types → ty names depth (tokens (now (tags .entry)) (now (values .entry))) at ≡ got t q → defaultBy (defaultNamed types fuel) t ≡ some e → out (now (otags .exit)) (now (ovalues .exit)) r ≡ emits (out (now (otags .entry)) (now (ovalues .entry)) w) (join (operandTokens (copies m e)))) ⌝ }
+{
+    if w == 8193 {
+        return w;
+    }
+    if m == 0 {
+        return w;
+    }
+    if m == 1 {
+        return emit_type(
+            tags,
+            values,
+            names,
+            places,
+            n,
+            fuel,
+            depth,
+            at,
+            otags,
+            ovalues,
+            w,
+        );
+    }
+    let half = m / 2;
+    let middle = emit_copies(
+        tags,
+        values,
+        names,
+        places,
+        n,
+        fuel,
+        depth,
+        at,
+        half,
+        otags,
+        ovalues,
+        w,
+    );
+    emit_copies(
+        tags,
+        values,
+        names,
+        places,
+        n,
+        fuel,
+        depth,
+        at,
+        m - half,
+        otags,
+        ovalues,
+        middle,
+    )
+}
+
+// The default of a name's type, which is at most `fuel` definitions further down.
+pub fn emit_named(
+    tags: &[u8],
+    values: &[u32],
+    names: u32,
+    places: &[usize; 32],
+    n: usize,
+    fuel: u32,
+    x: u32,
+    otags: &mut [u8; 8192],
+    ovalues: &mut [u32; 8192],
+    w: usize,
+) -> usize
+    requires { ⌜ length (now values) ≡ length (now tags) ⌝ }
+    requires { ⌜ n ≤ 32 ⌝ }
+    ensures { λ r. ⌜ ((types : List TypeDef) (e : Expr) → Table names (tokens (now (tags .entry)) (now (values .entry))) (now (places .entry)) n types → defaultNamed types (suc fuel) x ≡ some e → out (now (otags .exit)) (now (ovalues .exit)) r ≡ emits (out (now (otags .entry)) (now (ovalues .entry)) w) (exprTokens e)) ⌝ }
+{
+    let k = typedefs::find_definition(values, places, n, x);
+    if n <= k {
+        return w;
+    }
+    let at = places[k];
+    emit_definition(tags, values, names, places, n, fuel, at, otags, ovalues, w)
+}
+
+// The default of a definition. A record's carries the record's own name.
+pub fn emit_definition(
+    tags: &[u8],
+    values: &[u32],
+    names: u32,
+    places: &[usize; 32],
+    n: usize,
+    fuel: u32,
+    at: usize,
+    otags: &mut [u8; 8192],
+    ovalues: &mut [u32; 8192],
+    w: usize,
+) -> usize
+    requires { ⌜ length (now values) ≡ length (now tags) ⌝ }
+    requires { ⌜ n ≤ 32 ⌝ }
+    ensures { λ r. ⌜ ((types : List TypeDef) (d : TypeDef) (q : ℕ) (e : Expr) → Table names (tokens (now (tags .entry)) (now (values .entry))) (now (places .entry)) n types → typeDef names (tokens (now (tags .entry)) (now (values .entry))) at ≡ got d q → defaultOf (defaultNamed types fuel) d (d .body) ≡ some e → out (now (otags .exit)) (now (ovalues .exit)) r ≡ emits (out (now (otags .entry)) (now (ovalues .entry)) w) (exprTokens e)) ⌝ }
+{
+    let found = typedefs::describe(tags, values, names, at);
+    match found {
+        Defined::Enum(_, _, first) => {
+            let v = typedefs::value_at(values, first);
+            emit::emit(otags, ovalues, w, Token::Expression(ExprToken::Var(v)))
+        }
+        Defined::Record(x, count, first) => {
+            let next = emit_two(
+                otags,
+                ovalues,
+                w,
+                Token::Expression(ExprToken::Struct(x)),
+                Token::Count(count),
+            );
+            emit_fields(
+                tags,
+                values,
+                names,
+                places,
+                n,
+                fuel,
+                count,
+                first,
+                otags,
+                ovalues,
+                next,
+            )
+        }
+        Defined::Alias(_, first) => emit_type(
+            tags,
+            values,
+            names,
+            places,
+            n,
+            fuel,
+            8,
+            first,
+            otags,
+            ovalues,
+            w,
+        ),
+        Defined::Nothing => w,
+    }
+}
+
+// So many fields, each with its name and its default.
+pub fn emit_fields(
+    tags: &[u8],
+    values: &[u32],
+    names: u32,
+    places: &[usize; 32],
+    n: usize,
+    fuel: u32,
+    left: u32,
+    at: usize,
+    otags: &mut [u8; 8192],
+    ovalues: &mut [u32; 8192],
+    w: usize,
+) -> usize
+    requires { ⌜ length (now values) ≡ length (now tags) ⌝ }
+    requires { ⌜ n ≤ 32 ⌝ }
+    ensures { λ r. ⌜ ((types : List TypeDef) (fs : List Declared) (q : ℕ) (es : Exprs) → Table names (tokens (now (tags .entry)) (now (values .entry))) (now (places .entry)) n types → times left (declaration names) (tokens (now (tags .entry)) (now (values .entry))) at ≡ got fs q → defaultsBy (defaultNamed types fuel) fs ≡ some es → out (now (otags .exit)) (now (ovalues .exit)) r ≡ emits (out (now (otags .entry)) (now (ovalues .entry)) w) (fieldTokens (map (λ f. f .name) fs) (operandTokens es))) ⌝ }
+{
+    if w == 8193 {
+        return w;
+    }
+    if left == 0 {
+        return w;
+    }
+    let label = grammar::read_name(tags, values, names, at);
+    match label {
+        Read::Refused(_) => w,
+        Read::Next(first) => {
+            let rest = grammar::read_type(tags, values, names, 8, first);
+            match rest {
+                Read::Refused(_) => w,
+                Read::Next(next) => {
+                    let x = typedefs::value_at(values, at);
+                    let a = emit::emit(otags, ovalues, w, Token::Name(x));
+                    let b = emit_type(
+                        tags,
+                        values,
+                        names,
+                        places,
+                        n,
+                        fuel,
+                        8,
+                        first,
+                        otags,
+                        ovalues,
+                        a,
+                    );
+                    emit_fields(
+                        tags,
+                        values,
+                        names,
+                        places,
+                        n,
+                        fuel,
+                        left - 1,
+                        next,
+                        otags,
+                        ovalues,
+                        b,
+                    )
+                }
+            }
+        }
+    }
+}
+
+// The default of the type at a place.
+pub fn emit_default(
+    tags: &[u8],
+    values: &[u32],
+    names: u32,
+    places: &[usize; 32],
+    n: usize,
+    at: usize,
+    otags: &mut [u8; 8192],
+    ovalues: &mut [u32; 8192],
+    w: usize,
+) -> usize
+    requires { ⌜ length (now values) ≡ length (now tags) ⌝ }
+    requires { ⌜ n ≤ 32 ⌝ }
+    ensures { λ r. ⌜ ((types : List TypeDef) (t : Ty) (q : ℕ) (e : Expr) → Table names (tokens (now (tags .entry)) (now (values .entry))) (now (places .entry)) n types → ty names 8 (tokens (now (tags .entry)) (now (values .entry))) at ≡ got t q → default types t ≡ some e → out (now (otags .exit)) (now (ovalues .exit)) r ≡ emits (out (now (otags .entry)) (now (ovalues .entry)) w) (exprTokens e)) ⌝ }
+{
+    let fuel = n as u32;
+    emit_type(
+        tags,
+        values,
+        names,
+        places,
+        n,
+        fuel,
+        8,
+        at,
+        otags,
+        ovalues,
+        w,
+    )
+}
+
+// Has the type at a place a default, `has` being what `has_defaults` found?
+pub fn type_has_default(
+    tags: &[u8],
+    values: &[u32],
+    names: u32,
+    places: &[usize; 32],
+    n: usize,
+    has: &[u8; 32],
+    at: usize,
+) -> bool
+    requires { ⌜ length (now values) ≡ length (now tags) ⌝ }
+    requires { ⌜ n ≤ 32 ⌝ }
+    ensures { λ r. ⌜ ((types : List TypeDef) (t : Ty) (q : ℕ) → Table names (tokens (now (tags .entry)) (now (values .entry))) (now (places .entry)) n types → Has types n n (now (has .entry)) → ty names 8 (tokens (now (tags .entry)) (now (values .entry))) at ≡ got t q → r ≡ isSome (default types t)) ⌝ }
+{
+    type_has(tags, values, names, places, n, has, 8, at)
+}

@@ -4,7 +4,7 @@ use mathlib.Core.Path.{_≡_, refl, sym, _∙_, ap}
 use mathlib.Core.List.{List, [], _∷_, _++_, append-assoc, append-nil}
 use mathlib.Core.Bool.{Bool, true, false}
 use mathlib.Core.Option.{Option, none, some}
-use Prim.Native.Nat.{ℕ}
+use Prim.Native.Nat.{ℕ, _+_, _-_, _*_, _^_, _<_}
 use native.Mathlib.Omega.{arith}
 use lib.Dec.{ltb}
 use types.Run.{OneOf, miss}
@@ -286,7 +286,11 @@ unfolding checksBy
 operands-none clocks i turn c es t r q p n fs e j k h = rw (e, append-nil fs, j, k) (record { end = refl; holds = h })
 
 -- the first operand, then the others
-pub operands-more : (clocks : Clocks) (i : ℕ) (turn next : Turn) (c : Clock) (e : Expr) (rest es : Exprs) (t : List ℕ) (r : Walked) (q : ℕ) (fs : List Finding) → es ≡ Exprs.and e rest → next ≡ nextTurn turn
-    → Checked t r q ((fs ++ onNatural (turnedOn turn c) (λ d. check clocks i d e)) ++ checksBy clocks i next c rest) → Checked t r q (fs ++ checksBy clocks i turn c es)
+pub operands-more : (clocks : Clocks) (i : ℕ) (turn next : Turn) (c d : Clock) (e : Expr) (rest es : Exprs) (t : List ℕ) (r : Walked) (q : ℕ) (fs : List Finding) → es ≡ Exprs.and e rest → next ≡ nextTurn turn → d ≡ c
+    → Checked t r q ((fs ++ onNatural (turnedOn turn c) (λ b. check clocks i b e)) ++ checksBy clocks i next d rest) → Checked t r q (fs ++ checksBy clocks i turn c es)
 unfolding checksBy
-operands-more clocks i turn next c e rest es t r q fs w j h = rw w (rw (append-assoc fs (onNatural (turnedOn turn c) (λ d. check clocks i d e)) (checksBy clocks i next c rest), j) at h)
+operands-more clocks i turn next c d e rest es t r q fs w j k h = rw w (rw (append-assoc fs (onNatural (turnedOn turn c) (λ b. check clocks i b e)) (checksBy clocks i next d rest), j, k) at h)
+
+-- the tokens left fall
+pub shorter : (a b t : ℕ) → 3 * (2 ^ 64 - a) + 2 ≡ t → a < b → a < 2 ^ 64 → 3 * (2 ^ 64 - b) + 2 < t
+shorter a b t e l f = omega arith

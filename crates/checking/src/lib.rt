@@ -6,7 +6,8 @@ use clock::Presence;
 use definitions::Condition;
 use definitions::Test;
 use grammar::Counted;
-use operands::Gap;
+use operands::Operands;
+use operands::Rest;
 use operands::Role;
 ghost use mathlib.Core.Path.{_≡_};
 ghost use mathlib.Core.Bool.{false};
@@ -166,12 +167,10 @@ fn course_of(
     env: &[u32],
     role: Role,
     c: Clock,
-    gap: Gap,
-    count: u32,
-    first: usize,
+    these: Operands,
 ) -> Course
     requires { ⌜ length (now values) ≡ length (now tags) ⌝ }
-    ensures { λ r. ⌜ ((clocks : Clocks) (es : Exprs) (q : ℕ) → Agrees (now (env .entry)) names clocks → spread names gap count (tree names) (tokens (now (tags .entry)) (now (values .entry))) first ≡ got es q → record { turn = r .turn; on = valueOf (r .on) } ≡ wayOf clocks (valueOf c) role es) ⌝ }
+    ensures { λ r. ⌜ ((clocks : Clocks) (es : Exprs) (q : ℕ) → Agrees (now (env .entry)) names clocks → spread names (these .gap) (these .count) (tree names) (tokens (now (tags .entry)) (now (values .entry))) (these .first) ≡ got es q → record { turn = r .turn; on = valueOf (r .on) } ≡ wayOf clocks (valueOf c) role es) ⌝ }
 {
     match role {
         Role::Sample(k) => {
@@ -183,6 +182,9 @@ fn course_of(
                     on: up,
                 };
             }
+            let gap = these.gap;
+            let count = these.count;
+            let first = these.first;
             let f = natural::first_found(tags, values, names, env, false, gap, count, first);
             let n = f.natural;
             way_by(n, c)
@@ -207,6 +209,28 @@ fn next_turn(t: Turn) -> Turn
         Turn::True(x) => Turn::False(x),
         Turn::False(x) => Turn::False(x),
         Turn::Deep => Turn::Deep,
+    }
+}
+
+// How the operands after one are gone down into.
+fn next_way(way: Course) -> Course
+    ensures { λ r. ⌜ r ≡ record { turn = nextTurn (way .turn); on = way .on } ⌝ }
+{
+    let before = way.turn;
+    let turn = next_turn(before);
+    let on = way.on;
+    Course { turn: turn, on: on }
+}
+
+// So many operands, from there on.
+fn so_many(rest: Rest, count: u32) -> Operands
+    ensures { λ r. ⌜ r ≡ record { first = rest .next; count = count; gap = rest .gap } ⌝ }
+{
+    let gap = rest.gap;
+    Operands {
+        first: rest.next,
+        count: count,
+        gap: gap,
     }
 }
 
@@ -252,33 +276,22 @@ pub fn check_expr(
 {
     let v = operands::view_at(tags, values, names, at);
     let first = v.first;
-    let count = v.count;
     let gap = v.gap;
     let role = v.role;
     if first <= at {
         return Walked { end: at, count: n };
     }
+    let these = Operands {
+        first: first,
+        count: v.count,
+        gap: gap,
+    };
     let m = enter(env, table, n, equation, role, c);
-    let way = course_of(tags, values, names, env, role, c, gap, count, first);
-    let turn = way.turn;
-    let on = way.on;
-    check_operands(
-        tags,
-        values,
-        names,
-        env,
-        table,
-        equation,
-        turn,
-        on,
-        gap,
-        count,
-        first,
-        m,
-    )
+    let way = course_of(tags, values, names, env, role, c, these);
+    check_operands(tags, values, names, env, table, equation, way, these, m)
 }
 
-// The operand that stands there, on its turn over c.
+// The operand that stands there.
 fn check_operand(
     tags: &[u8],
     values: &[u32],
@@ -286,16 +299,17 @@ fn check_operand(
     env: &[u32],
     table: &mut [u32],
     equation: u32,
-    turn: Turn,
-    c: Clock,
+    way: Course,
     at: usize,
     n: usize,
 ) -> Walked
     requires { ⌜ length (now values) ≡ length (now tags) ⌝ }
     ensures { λ r. ⌜ length (now (table .exit)) ≡ length (now (table .entry)) ⌝ }
-    ensures { λ r. ⌜ ((clocks : Clocks) (e : Expr) (q : ℕ) (fs : List Finding) → Agrees (now (env .entry)) names clocks → tree names (tokens (now (tags .entry)) (now (values .entry))) at ≡ got e q → Holds (now (table .entry)) n fs → Checked (now (table .exit)) r q (fs ++ onNatural (turnedOn turn (valueOf c)) (λ d. check clocks equation d e))) ⌝ }
+    ensures { λ r. ⌜ ((clocks : Clocks) (e : Expr) (q : ℕ) (fs : List Finding) → Agrees (now (env .entry)) names clocks → tree names (tokens (now (tags .entry)) (now (values .entry))) at ≡ got e q → Holds (now (table .entry)) n fs → Checked (now (table .exit)) r q (fs ++ onNatural (turnedOn (way .turn) (valueOf (way .on))) (λ d. check clocks equation d e))) ⌝ }
 {
-    let down = turned_on(turn, c);
+    let turn = way.turn;
+    let on = way.on;
+    let down = turned_on(turn, on);
     let p = down.presence;
     match p {
         Presence::On => {
@@ -310,7 +324,7 @@ fn check_operand(
     }
 }
 
-// So many operands, from this turn on over c.
+// These operands.
 fn check_operands(
     tags: &[u8],
     values: &[u32],
@@ -318,45 +332,31 @@ fn check_operands(
     env: &[u32],
     table: &mut [u32],
     equation: u32,
-    turn: Turn,
-    c: Clock,
-    gap: Gap,
-    count: u32,
-    at: usize,
+    way: Course,
+    these: Operands,
     n: usize,
 ) -> Walked
     requires { ⌜ length (now values) ≡ length (now tags) ⌝ }
     ensures { λ r. ⌜ length (now (table .exit)) ≡ length (now (table .entry)) ⌝ }
-    ensures { λ r. ⌜ ((clocks : Clocks) (es : Exprs) (q : ℕ) (fs : List Finding) → Agrees (now (env .entry)) names clocks → spread names gap count (tree names) (tokens (now (tags .entry)) (now (values .entry))) at ≡ got es q → Holds (now (table .entry)) n fs → Checked (now (table .exit)) r q (fs ++ checksBy clocks equation turn (valueOf c) es)) ⌝ }
+    ensures { λ r. ⌜ ((clocks : Clocks) (es : Exprs) (q : ℕ) (fs : List Finding) → Agrees (now (env .entry)) names clocks → spread names (these .gap) (these .count) (tree names) (tokens (now (tags .entry)) (now (values .entry))) (these .first) ≡ got es q → Holds (now (table .entry)) n fs → Checked (now (table .exit)) r q (fs ++ checksBy clocks equation (way .turn) (valueOf (way .on)) es)) ⌝ }
 {
+    let count = these.count;
+    let at = these.first;
+    let gap = these.gap;
     if count == 0 {
         return Walked { end: at, count: n };
     }
     let place = operands::operand_at(tags, gap, at);
-    let w = check_operand(tags, values, names, env, table, equation, turn, c, place, n);
-    let end = w.end;
+    let w = check_operand(tags, values, names, env, table, equation, way, place, n);
     let m = w.count;
-    let rest = operands::after_operand(tags, gap, end);
+    let rest = operands::after_operand(tags, gap, w.end);
     let next = rest.next;
-    let later = rest.gap;
     if next <= at {
         return Walked { end: at, count: m };
     }
-    let after = next_turn(turn);
-    check_operands(
-        tags,
-        values,
-        names,
-        env,
-        table,
-        equation,
-        after,
-        c,
-        later,
-        count - 1,
-        next,
-        m,
-    )
+    let onto = next_way(way);
+    let more = so_many(rest, count - 1);
+    check_operands(tags, values, names, env, table, equation, onto, more, m)
 }
 
 // A left name must be on its equation's clock c; whether it is an input or output.
@@ -416,8 +416,7 @@ pub fn check_left(
         return Walked { end: at, count: n };
     }
     let x = values[at];
-    let port = is_port(ports, x);
-    let m = left_on(env, table, n, equation, x, c, port);
+    let m = left_on(env, table, n, equation, x, c, is_port(ports, x));
     check_left(
         tags,
         values,

@@ -1,7 +1,7 @@
 -- Laws of tables of findings.
 -- Assumes nothing.
 use mathlib.Core.Path.{_≡_, refl, sym, _∙_, ap}
-use mathlib.Core.List.{List, [], _∷_, _++_, map, append-nil}
+use mathlib.Core.List.{List, [], _∷_, _++_, map, append-assoc, append-nil}
 use mathlib.Core.Bool.{Bool, true, false, _||_}
 use mathlib.Core.Logic.{_⊎_, inl, inr}
 use Prim.Native.Nat.{ℕ, zero, suc, _+_, _-_, _*_, _≤_, _<_}
@@ -19,7 +19,8 @@ use Rattle.definitions.specs.Declock.{add}
 use Rattle.definitions.specs.InferClocks.{Fault, leftElsewhere, usedElsewhere, whenElsewhere, clockNameElsewhere, notSingleCall, faultNumber, NodeFault, Finding, found, site, tooDeep, isTooDeep, clockFaults, sites}
 use Rattle.flat.specs.Flat.{wordOf, testOf, clockIn}
 use Rattle.flat.proofs.Laws.{Within, clock-same, test-word}
-use Rattle.rows.specs.Rows.{Has}
+use Rattle.rows.specs.Rows.{clocksFrom, clocksIn, Has}
+use Rattle.rows.proofs.Laws as rows
 use Rattle.findings.specs.Findings.{flagWord, faultAs, findingAs, faultIn, findingIn, findingsFrom, findingsIn, Holds, noFault, addAll}
 
 -- ---- the findings of rows
@@ -440,3 +441,45 @@ added-all t n i r m cs l h a = let q : i ≡ n = omega arith in rw (sym q) a
 
 pub base-of : (b x : Bool) (c d : Clock) → c ≡ d → b ≡ isBase c → b ≡ x → isBase d ≡ x
 base-of b x c d e i j = ap isBase (sym e) ∙ (sym i ∙ j)
+
+-- ---- the sites of the first i rows, behind those of a table of clocks
+clocks-same : (t t′ : List ℕ) (i n : ℕ) → ((k : ℕ) → k < 17 * (i + n) → getD t′ k 0 ≡ getD t k 0) → clocksFrom t′ i n ≡ clocksFrom t i n
+unfolding clocksFrom
+clocks-same t t′ i zero h = refl
+clocks-same t t′ i (suc n) h =
+    let a : clockIn t′ (17 * i) ≡ clockIn t (17 * i) = clock-same t t′ (17 * i) (λ k u v. h k (omega arith)) in
+    let b : clocksFrom t′ (i + 1) n ≡ clocksFrom t (i + 1) n = clocks-same t t′ (i + 1) n (λ k u. h k (omega arith)) in
+    cc
+
+module _ (t : List ℕ) (n : ℕ) (c : Clock) (cs : List Clock) where
+  pub last-over : length t < 17 * n → Has t n cs → Has t n (cs ++ (c ∷ []))
+  unfolding Has
+  last-over h (inl (a, e)) = absurd (omega arith)
+  last-over h (inr (a, b)) = inr (a, omega (arith, length-append cs (c ∷ [])))
+
+  pub last-full : 17 * n ≤ length t → length t < 17 * (n + 1) → Has t n cs → Has t (n + 1) (cs ++ (c ∷ []))
+  unfolding Has
+  last-full room full (inl (a, e)) =
+      let k : length cs ≡ n = ap length (sym e) ∙ rows.length-from t 0 n in
+      inr (full, omega (arith, length-append cs (c ∷ [])))
+  last-full room full (inr (a, b)) = absurd (omega arith)
+
+  pub last-stored : (t′ : List ℕ) → 17 * n + 17 ≤ length t → length t′ ≡ length t → clockIn t′ (17 * n) ≡ c → Within t t′ (17 * n) 17 → Has t n cs → Has t′ (n + 1) (cs ++ (c ∷ []))
+  unfolding Has
+  last-stored t′ room len row same (inl (a, e)) =
+      let o : 0 + n ≡ n = omega arith in
+      let s : clocksIn t′ n ≡ cs = clocks-same t t′ 0 n (λ k u. same k (inl (omega arith))) ∙ e in
+      inl (omega arith, rw (add-one n) (rows.from-last t′ 0 n ∙ rw (o, s, row)))
+  last-stored t′ room len row same (inr (a, b)) = absurd (omega arith)
+
+pub listed-none : (t r : List ℕ) (m : ℕ) (cs : List Clock) → Has r m cs → Has r m (cs ++ sites (findingsIn t 0))
+listed-none t r m cs h = rw (none-yet t .1, append-nil cs) h
+
+pub listed-same : (t r : List ℕ) (i m : ℕ) (cs : List Clock) → sites (findingsIn t (i + 1)) ≡ sites (findingsIn t i) → Has r m (cs ++ sites (findingsIn t i)) → Has r m (cs ++ sites (findingsIn t (i + 1)))
+listed-same t r i m cs e h = rw e h
+
+pub listed-more : (t r : List ℕ) (i m : ℕ) (c d : Clock) (cs : List Clock) → sites (findingsIn t (i + 1)) ≡ sites (findingsIn t i) ++ (d ∷ []) → c ≡ d → Has r m ((cs ++ sites (findingsIn t i)) ++ (c ∷ [])) → Has r m (cs ++ sites (findingsIn t (i + 1)))
+listed-more t r i m c d cs e q h = rw (e, sym q, ← append-assoc cs (sites (findingsIn t i)) (c ∷ [])) h
+
+pub listed-all : (t : List ℕ) (n i : ℕ) (r : List ℕ) (m : ℕ) (cs : List Clock) → i ≤ n → n ≤ i → Has r m (cs ++ sites (findingsIn t i)) → Has r m (cs ++ sites (findingsIn t n))
+listed-all t n i r m cs l h a = let q : i ≡ n = omega arith in rw (sym q) a

@@ -381,3 +381,44 @@ pub fn add_sites(table: &[u32], n: usize, rows: &mut [u32], m: usize) -> usize
     }
     at
 }
+
+// A clock behind those of a table of clocks, if there is room: how many it has then.
+fn append(rows: &mut [u32], m: usize, c: Clock) -> usize
+    ensures { λ r. ⌜ length (now (rows .exit)) ≡ length (now (rows .entry)) ⌝ }
+    ensures { λ r. ⌜ ((cs : List clocks.Clock) → Has (now (rows .entry)) m cs → Has (now (rows .exit)) r (cs ++ (valueOf c ∷ []))) ⌝ }
+{
+    let room = rows.len() / 17;
+    if room < m {
+        return m;
+    }
+    if room <= m {
+        return m + 1;
+    }
+    flat::store(rows, 17 * m, c);
+    m + 1
+}
+
+// All the clocks of `pre` and `->` other than base, in order, behind those of a table of clocks: how many it has then.
+pub fn list_sites(table: &[u32], n: usize, rows: &mut [u32], m: usize) -> usize
+    ensures { λ r. ⌜ length (now (rows .exit)) ≡ length (now (rows .entry)) ⌝ }
+    ensures { λ r. ⌜ ((cs : List clocks.Clock) → Has (now (rows .entry)) m cs → Has (now (rows .exit)) r (cs ++ sites (findingsIn (now (table .entry)) n))) ⌝ }
+{
+    let mut i: usize = 0;
+    let mut at = m;
+    while i < n {
+        let k = kind_at(table, i);
+        if k != 5 {
+            i += 1;
+            continue;
+        }
+        let c = clock_at(table, i, 21);
+        let on_base = clock::is_base(c);
+        if on_base {
+            i += 1;
+            continue;
+        }
+        at = append(rows, at, c);
+        i += 1;
+    }
+    at
+}

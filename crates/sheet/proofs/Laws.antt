@@ -1,6 +1,6 @@
 -- `input` by its parts, and the front of the working arrays.
 -- Assumes nothing.
-use mathlib.Core.Path.{_≡_, refl, sym, _∙_, ap, subst}
+use mathlib.Core.Path.{_≡_, refl, sym, _∙_, ap}
 use mathlib.Core.List.{List, [], _∷_}
 use mathlib.Core.Bool.{Bool, true, false}
 use Prim.Native.Nat.{ℕ, suc, _≤_}
@@ -11,7 +11,7 @@ use borrow.Author.Tests.{eq-eqb, ne-eqb}
 use Rattle.definitions.specs.declared.Refusal.{Refusal}
 use Rattle.definitions.specs.Lists.{over}
 use Rattle.definitions.specs.Tokens.{TagValue}
-use Rattle.definitions.specs.Tree.{TypeDef, Sheet}
+use Rattle.definitions.specs.Tree.{Sheet}
 use Rattle.definitions.specs.Refusals.{Answer, accepted, refused, faulty, Told, fine, down, told, must, _>>=_}
 use Rattle.definitions.specs.Reading.{Got, got, rejected}
 use Rattle.definitions.specs.Bytes.{Parts, M, T, lengths, letters, tags, values, cut, tokens, parts}
@@ -25,7 +25,7 @@ use Rattle.grammar.proofs.Laws as grammar-laws
 use Rattle.grammar.proofs.Got.{sheet-got}
 use Rattle.parts.specs.declared.Sizes.{Sizes}
 use Rattle.parts.specs.declared.PartsAnswer.{PartsAnswer}
-use Rattle.parts.specs.Answers.{sizesOf, partsOf, partsAnswer, tagsAfter, valuesAfter, Sized}
+use Rattle.parts.specs.Answers.{partsOf, partsAnswer, tagsAfter, valuesAfter, Sized}
 use Rattle.parts.proofs.Laws.{answer-refused, answer-sizes, answer-sized, answer-parts, names-told, tokens-told, lengths-long, tags-long, values-long}
 use Rattle.writing.proofs.Cuts.{cut-count}
 use Rattle.sheet.specs.declared.SheetAnswer.{SheetAnswer}

@@ -11,7 +11,6 @@ use Rattle.grammar.proofs.Laws.{times-length}
 use Rattle.typedefs.specs.declared.Defined.{Defined}
 use Rattle.typedefs.specs.Table.{Described}
 use Rattle.sheet.specs.declared.TypeKind.{TypeKind}
-use Rattle.sheet.specs.declared.TypeSummary.{TypeSummary}
 use Rattle.sheet.specs.Summary.{typeSummary}
 
 module _ (M : ℕ) (ts : List TagValue) (d : TypeDef) (q : ℕ) (r : Defined) (h : Described M ts d q r) where

@@ -7,7 +7,7 @@ use lib.ListN.{length, take}
 use Rattle.definitions.specs.declared.Refusal.{Refusal}
 use Rattle.definitions.specs.Tokens.{TagValue}
 use Rattle.definitions.specs.Tree.{Sheet}
-use Rattle.definitions.specs.Refusals.{Answer, accepted, refused, faulty, Told, fine, down, told, must, _>>=_}
+use Rattle.definitions.specs.Refusals.{Answer, accepted, Told, fine, down, told, must, _>>=_}
 use Rattle.definitions.specs.Reading.{got}
 use Rattle.definitions.specs.Bytes.{M, L, T, lengths, letters, tags, values, cut, tokens, parts}
 use Rattle.definitions.specs.Grammar.{sheet}

@@ -81,7 +81,7 @@ check-left-returns-3 t c = (
       let y = (name-there (c .before .before .before .before .before .before .before .before .before .before .before .before .before .before .before .before .before .args .names) (now (c .before .before .before .before .before .before .before .before .before .before .before .before .before .before .before .before .before .args .tags)) (now (c .before .before .before .before .before .before .before .before .before .before .before .before .before .before .before .before .before .args .values)) (c .before .before .before .before .before .before .before .before .before .before .before .before .before .before .before .before .before .pre .1) (c .before .before .before .before .before .before .before .before .before .before .before .before .before .before .before .before .before .args .at) (s .0) (s .1) (s .3)) in
       let e = y .2 in
       let m = c .before .before .before .before .before .before .left-on .ensures .1 clocks fs (rw e (a .same (s .0) (y .3))) h in
-      left-more clocks (c .before .before .before .before .before .before .before .before .before .before .before .before .before .before .before .before .before .args .equation) node (valueOf (c .before .before .before .before .before .before .before .before .before .before .before .before .before .before .before .before .before .args .c)) _ _ q fs xs (s .0) _ (s .2) _ (s .5) e (c .before .before .before .before .before .before .before .before .is-port .ensures ∙ rw e (k .same (s .0) (y .3)))
+      left-more clocks (c .before .before .before .before .before .before .before .before .before .before .before .before .before .before .before .before .before .args .equation) node (valueOf (c .before .before .before .before .before .before .before .before .before .before .before .before .before .before .before .before .before .args .c)) _ _ q fs xs (s .0) _ (s .2) _ (s .5) e (c .before .before .before .before .before .before .before .is-port .ensures ∙ rw e (k .same (s .0) (y .3)))
       (c .before .before .check-left .ensures .1 node clocks (s .2) q _ a k (rw (y .0) at (s .4)) m),
 )
 

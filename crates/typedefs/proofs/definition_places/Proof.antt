@@ -43,7 +43,7 @@ loop-less c = search needs
 
 loop-again : tie.Need-loop-again Inv-loop μ-loop
 loop-again c = let m = placed-more (typeDef _) _ _ _ _ (c .before .before .before .before .before .loop .inv .2) _ (c .before .before .before .read-definition .ensures) (c .before .before .before .before .before .loop .places) _ (omega arith) (c .before .before .before .before .before .loop .inv .3) (c .before .item .given .1) in
-    (omega arith, length-set (c .before .before .before .before .before .loop .places) (c .before .before .before .before .before .loop .i) (c .before .before .before .before .before .loop .place) ∙ c .before .before .before .before .before .loop .inv .1, m .0, m .1)
+    (omega arith, length-set (c .before .before .before .before .before .loop .places) _ _ ∙ c .before .before .before .before .before .loop .inv .1, m .0, m .1)
 
 enum-told : tie.Need-enum-told Inv-loop μ-loop
 enum-told c = search needs

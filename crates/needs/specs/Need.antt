@@ -1,0 +1,165 @@
+-- What rewriting an expression needs, in order of need: `rewrite` without its trees, names and faults.
+use Prim.Native.Nat.{ℕ, zero, suc, _+_, _-_}
+use mathlib.Core.Path.{_≡_}
+use mathlib.Core.Bool.{Bool, true, false, _&&_, _||_}
+use mathlib.Core.List.{List}
+use lib.Dec.{ltb}
+use lib.ListN.{length}
+use Rattle.definitions.specs.Lists.{choose}
+use Rattle.definitions.specs.Tree.{Expr, Exprs, Node}
+use Rattle.definitions.specs.Clock.{Clock, base, _/_, deepest, depth, parent, isOn, isNot, isBase}
+use Rattle.definitions.specs.Declock.{State, add, addWithParents, operatorOutputs}
+use Rattle.operands.specs.declared.Role.{Role}
+use Rattle.rows.specs.Rows.{Has}
+use Rattle.callees.specs.Callees.{isThere}
+use Rattle.needs.specs.declared.Counts.{Counts}
+use Rattle.needs.specs.declared.Turn.{Turn}
+
+-- what is needed so far: the clocks with flags in order of need, how many holds, whether `condact`
+pub record Needs : Type 0 where
+  pub flags : List Clock
+  pub firsts : List Clock
+  pub holds : ℕ
+  pub condact : Bool
+
+-- what a state of rewriting says of it
+abbrev pub needsOf : State → Needs
+needsOf s = record { flags = s .flags; firsts = s .firsts; holds = length (s .holds); condact = s .condact }
+
+-- a flag with its parents'; with a hold; with a first-tick flag; with `condact`
+abbrev pub withFlag : Clock → Needs → Needs
+withFlag c s = record { flags = addWithParents c (s .flags); firsts = s .firsts; holds = s .holds; condact = s .condact }
+
+abbrev pub withHold : Clock → Needs → Needs
+withHold c s = record { flags = addWithParents c (s .flags); firsts = s .firsts; holds = s .holds + 1; condact = s .condact }
+
+abbrev pub withFirst : Clock → Needs → Needs
+withFirst c s = record { flags = addWithParents c (s .flags); firsts = add c (s .firsts); holds = s .holds; condact = s .condact }
+
+abbrev pub withGate : Clock → Needs → Needs
+withGate c s = record { flags = addWithParents c (s .flags); firsts = s .firsts; holds = s .holds; condact = true }
+
+abbrev pub settled : Turn → Clock → Needs → Needs
+settled Turn.Keep c s = s
+settled Turn.Hold c s = withHold c s
+settled Turn.First c s = withFirst c s
+settled Turn.Gate c s = withGate c s
+
+-- is it a bare name?
+abbrev pub isBare : Expr → Bool
+isBare (Expr.const l w) = false
+isBare (Expr.var x) = true
+isBare (Expr.op h es) = false
+isBare (Expr.pre e) = false
+isBare (Expr.arrow a b) = false
+isBare (Expr.call f es) = false
+isBare (Expr.when k e) = false
+isBare (Expr.merge x a b) = false
+
+-- what a `pre`, a `->` and a call need for themselves
+abbrev pub preTurn : Clock → Bool → Turn
+preTurn c bare = choose (isBase c) Turn.Keep (choose bare Turn.Keep Turn.Hold)
+
+abbrev pub arrowTurn : Clock → Turn
+arrowTurn c = choose (isBase c) Turn.Keep Turn.First
+
+abbrev pub callTurn : Clock → Bool → Turn
+callTurn c operator = choose (isBase c) Turn.Keep (choose operator Turn.Gate Turn.Keep)
+
+-- the clocks of the first operand and of the others, by what an expression does
+abbrev pub hereOn : Role → Clock → Clock
+hereOn Role.Constant c = c
+hereOn (Role.Name x) c = c
+hereOn (Role.Sample k) c = parent c
+hereOn (Role.Join x) c = c / isOn x
+hereOn Role.Previous c = c
+hereOn Role.Follow c = c
+hereOn (Role.Call f) c = c
+hereOn Role.Index c = c
+hereOn Role.Compute c = c
+
+abbrev pub restOn : Role → Clock → Clock
+restOn Role.Constant c = c
+restOn (Role.Name x) c = c
+restOn (Role.Sample k) c = parent c
+restOn (Role.Join x) c = c / isNot x
+restOn Role.Previous c = c
+restOn Role.Follow c = c
+restOn (Role.Call f) c = c
+restOn Role.Index c = c
+restOn Role.Compute c = c
+
+-- a clock that a merge puts a condition on has fewer than eight
+abbrev pub roomFor : Role → Clock → Bool
+roomFor Role.Constant c = true
+roomFor (Role.Name x) c = true
+roomFor (Role.Sample k) c = true
+roomFor (Role.Join x) c = ltb (depth c) deepest
+roomFor Role.Previous c = true
+roomFor Role.Follow c = true
+roomFor (Role.Call f) c = true
+roomFor Role.Index c = true
+roomFor Role.Compute c = true
+
+-- no clock below an expression on this clock has more than eight conditions
+unfoldable mutual
+  pub within : Clock → Expr → Bool
+  within c (Expr.const l w) = true
+  within c (Expr.var x) = true
+  within c (Expr.op h es) = withins c c es
+  within c (Expr.pre e) = within c e
+  within c (Expr.arrow a b) = within c a && within c b
+  within c (Expr.call f es) = withins c c es
+  within c (Expr.when k e) = within (parent c) e
+  within c (Expr.merge x a b) = ltb (depth c) deepest && (within (c / isOn x) a && within (c / isNot x) b)
+
+  -- below operands, of which the first is on c and the others on d
+  pub withins : Clock → Clock → Exprs → Bool
+  withins c d Exprs.end = true
+  withins c d (Exprs.and e es) = within c e && withins d d es
+
+module _ (nodes : List Node) where
+  -- what an expression needs for itself
+  unfoldable pub turnOf : Clock → Expr → Turn
+  unfolding operatorOutputs
+  turnOf c (Expr.const l w) = Turn.Keep
+  turnOf c (Expr.var x) = Turn.Keep
+  turnOf c (Expr.op h es) = Turn.Keep
+  turnOf c (Expr.pre e) = preTurn c (isBare e)
+  turnOf c (Expr.arrow a b) = arrowTurn c
+  turnOf c (Expr.call f es) = callTurn c (isThere (operatorOutputs nodes f))
+  turnOf c (Expr.when k e) = Turn.Keep
+  turnOf c (Expr.merge x a b) = Turn.Keep
+
+  -- what is needed after an expression on clock c, in the order of `rewrite`
+  unfoldable mutual
+    unfolding operatorOutputs
+
+    pub needed : Clock → Expr → Needs → Needs
+    needed c (Expr.const l w) s = s
+    needed c (Expr.var x) s = s
+    needed c (Expr.op h es) s = neededAll c c es s
+    needed c (Expr.pre e) s = settled (preTurn c (isBare e)) c (needed c e s)
+    needed c (Expr.arrow a b) s = settled (arrowTurn c) c (needed c b (needed c a s))
+    needed c (Expr.call f es) s = settled (callTurn c (isThere (operatorOutputs nodes f))) c (neededAll c c es s)
+    needed c (Expr.when k e) s = needed (parent c) e s
+    needed c (Expr.merge x a b) s = needed (c / isNot x) b (needed (c / isOn x) a s)
+
+    -- after operands, of which the first is on c and the others on d
+    pub neededAll : Clock → Clock → Exprs → Needs → Needs
+    neededAll c d Exprs.end s = s
+    neededAll c d (Exprs.and e es) s = neededAll d d es (needed c e s)
+
+-- the most holds that are counted; one more of them
+abbrev pub mostHolds : ℕ
+mostHolds = 4294967295
+
+abbrev pub oneMore : ℕ → ℕ
+oneMore n = mostHolds - (mostHolds - (n + 1))
+
+-- two tables and counts say what is needed
+pub record Counted (flags firsts : List ℕ) (n : Counts) (s : Needs) : Type 0 where
+  pub flagged : Has flags (n .flags) (s .flags)
+  pub first-flagged : Has firsts (n .firsts) (s .firsts)
+  pub held : n .holds ≡ mostHolds - (mostHolds - s .holds)
+  pub gated : n .condact ≡ s .condact

@@ -1,0 +1,214 @@
+-- The lines of a node's listing, one behind another. Assumes nothing.
+use mathlib.Core.Path.{_≡_, refl, sym, _∙_, ap}
+use mathlib.Core.List.{List, [], _∷_, _++_, map, append-assoc, append-nil}
+use mathlib.Core.Bool.{Bool, true, false}
+use mathlib.Core.Option.{Option}
+use Prim.Native.Nat.{ℕ, zero, suc, _+_, _-_, _≤_, _<_, min}
+use native.Mathlib.Omega.{arith}
+use native.Mathlib.Numerals.{add-one}
+use lib.ListN.{length, getD, take, length-append}
+use lib.Seq.{take-suc, take-all}
+use Rattle.definitions.specs.Lists.{choose, any, join, numbered, Letters}
+use Rattle.definitions.specs.Tokens.{TagValue}
+use Rattle.definitions.specs.Tree.{Expr, Equation, Node}
+use Rattle.definitions.specs.Reading.{got, times}
+use Rattle.definitions.specs.Grammar.{equation}
+use Rattle.definitions.specs.Clock.{Clock, depth}
+use Rattle.definitions.specs.InferClocks.{Formed, deep, formed, _>>=_, Natural, Clocks, Clocked, Clocking, Inferred, Finding, isTooDeep, natural, orBase, clockedBy, checkEquation, inferred, clocking, chains, clockFaults}
+use Rattle.definitions.specs.Texts.{faultLine}
+use Rattle.definitions.specs.Answer.{nodeClocks, nodeListing}
+use Rattle.grammar.proofs.Got.{times-nil, times-cons}
+use Rattle.environment.specs.Environment.{Agrees}
+use Rattle.operands.specs.Spread.{tree}
+use Rattle.layout.specs.declared.EquationLayout.{EquationLayout}
+use Rattle.layout.specs.declared.NodeLayout.{NodeLayout}
+use Rattle.layout.specs.Laid.{Laid, LaidEquation}
+use Rattle.findings.specs.Findings.{findingsIn}
+use Rattle.order.specs.Order.{rowOf, picked}
+use Rattle.infer_clocks.specs.Clocked.{Tells}
+use Rattle.spelling.specs.Writing.{Put, farthest}
+use Rattle.spelling.proofs.Writing.{put-none}
+use Rattle.texts.specs.Pieces.{headLine, equationLine, chainLine}
+use Rattle.texts.proofs.Joining.{also, put-as}
+use Rattle.listing.specs.Low.{Low}
+use Rattle.texts.proofs.Listing.{put-line, put-numbered, put-listing}
+
+-- ---- a line for each of the first items of a list
+module _ {A : Type 0} (f : A → Letters) (l : List A) {p : ℕ} {s : List ℕ} where
+  pub front-none : {q : ℕ} → q ≡ min (p + 0) farthest → Put (join (map f (take 0 l))) p s q s
+  front-none e = put-none s e
+
+  pub front-line : (j : ℕ) (d a : A) {q r : ℕ} {s₁ s₂ : List ℕ} → j < length l → a ≡ getD l j d → length s ≤ farthest
+      → Put (join (map f (take j l))) p s q s₁ → Put (f a) q s₁ r s₂ → Put (join (map f (take (j + 1) l))) p s r s₂
+  front-line j d a h e k u v =
+      let g : take j l ++ (a ∷ []) ≡ take (j + 1) l = ap (λ (b : A). take j l ++ (b ∷ [])) e ∙ (sym (take-suc l j d h) ∙ ap (λ (i : ℕ). take i l) (sym (add-one j))) in
+      put-as (ap (λ (x : List A). join (map f x)) g) (put-line f (take j l) a k u v)
+
+  pub front-all : (j m : ℕ) {q : ℕ} {s₁ : List ℕ} → m ≡ length l → m ≤ j → Put (join (map f (take j l))) p s q s₁ → Put (join (map f l)) p s q s₁
+  front-all j m e h u = put-as (ap (λ (x : List A). join (map f x)) (take-all j l (omega arith))) u
+
+-- ---- a line for each chain
+module _ (f : ℕ → Clock) (o : List ℕ) where
+  picked-last : (i n : ℕ) → picked f o i (suc n) ≡ picked f o i n ++ (f (getD o (i + n) 0) ∷ [])
+  unfolding picked
+  picked-last i zero = let e : i + 0 ≡ i = omega arith in rw e
+  picked-last i (suc n) =
+      let e : i + suc n ≡ i + 1 + n = omega arith in
+      rw e (ap (λ (l : List Clock). f (getD o i 0) ∷ l) (picked-last (i + 1) n))
+
+  picked-length : (i n : ℕ) → length (picked f o i n) ≡ n
+  unfolding picked
+  picked-length i zero = refl
+  picked-length i (suc n) = ap suc (picked-length (i + 1) n)
+
+  module _ (line : Clock → Letters) {p : ℕ} {s : List ℕ} where
+    pub picked-none : {q : ℕ} → q ≡ min (p + 0) farthest → Put (join (map line (picked f o 0 0))) p s q s
+    unfolding picked
+    picked-none e = put-none s e
+
+    pub picked-line : (i x y : ℕ) (c : Clock) {q r : ℕ} {s₁ s₂ : List ℕ} → x ≡ getD o i 0 → y ≡ x → c ≡ f y → length s ≤ farthest
+        → Put (join (map line (picked f o 0 i))) p s q s₁ → Put (line c) q s₁ r s₂ → Put (join (map line (picked f o 0 (i + 1)))) p s r s₂
+    picked-line i x y c a b e k u v =
+        let z : 0 + i ≡ i = omega arith in
+        let w : c ≡ f (getD o (0 + i) 0) = e ∙ ap f (b ∙ (a ∙ ap (λ (j : ℕ). getD o j 0) (sym z))) in
+        let g : picked f o 0 i ++ (c ∷ []) ≡ picked f o 0 (i + 1) = ap (λ (d : Clock). picked f o 0 i ++ (d ∷ [])) w ∙ (sym (picked-last 0 i) ∙ ap (picked f o 0) (sym (add-one i))) in
+        put-as (ap (λ (l : List Clock). join (map line l)) g) (put-line line (picked f o 0 i) c k u v)
+
+    pub picked-all : (i n : ℕ) {q : ℕ} {s₁ : List ℕ} → i ≤ n → n ≤ i → Put (join (map line (picked f o 0 i))) p s q s₁ → Put (join (map line (picked f o 0 n))) p s q s₁
+    picked-all i n g h u = let e : i ≡ n = omega arith in put-as (ap (λ (j : ℕ). join (map line (picked f o 0 j))) e) u
+
+-- ---- a line for each equation
+module _ (clocks : Clocks) where
+  -- an equation with its clock, before others
+  clocked-cons : (e : Equation) (es : List Equation) (cs : List Clocked) → clockedBy clocks (e ∷ es) ≡ formed cs
+      → (o : Option Clock) × (ds : List Clocked) × (natural clocks (e .right) ≡ formed o) × (clockedBy clocks es ≡ formed ds) × (cs ≡ record { clock = orBase o; equation = e } ∷ ds)
+  unfolding clockedBy
+  clocked-cons e es cs h = go (natural clocks (e .right)) (clockedBy clocks es) refl refl h
+    where
+      go : (v : Natural) (w : Formed (List Clocked)) → natural clocks (e .right) ≡ v → clockedBy clocks es ≡ w → (v >>= λ o. w >>= λ rest. formed (record { clock = orBase o; equation = e } ∷ rest)) ≡ formed cs
+          → (o : Option Clock) × (ds : List Clocked) × (natural clocks (e .right) ≡ formed o) × (clockedBy clocks es ≡ formed ds) × (cs ≡ record { clock = orBase o; equation = e } ∷ ds)
+      go deep w a b k = let z : _≡_ {A = ℕ} 0 1 = cc in absurd (omega arith)
+      go (formed o) deep a b k = let z : _≡_ {A = ℕ} 0 1 = cc in absurd (omega arith)
+      go (formed o) (formed ds) a b k = let x : cs ≡ record { clock = orBase o; equation = e } ∷ ds = cc in (o, ds, a, b, x)
+
+  clocked-nil : (cs : List Clocked) → clockedBy clocks [] ≡ formed cs → cs ≡ []
+  unfolding clockedBy
+  clocked-nil cs h = cc
+
+  -- as many clocks as equations
+  pub clocked-many : (es : List Equation) (cs : List Clocked) → clockedBy clocks es ≡ formed cs → length (map (λ (c : Clocked). c .clock) cs) ≡ length es
+  clocked-many [] cs h = ap (λ (l : List Clocked). length (map (λ (c : Clocked). c .clock) l)) (clocked-nil cs h)
+  clocked-many (e ∷ es) cs h =
+      let a = clocked-cons e es cs h in
+      ap (λ (l : List Clocked). length (map (λ (c : Clocked). c .clock) l)) (a .4) ∙ ap suc (clocked-many es (a .1) (a .3))
+
+-- one clock more
+one-more : (l : List Clock) (cs ds : List Clocked) (v w : Clock) (e : Equation) (all : List Clock) → v ≡ w → cs ≡ record { clock = w; equation = e } ∷ ds
+    → l ++ map (λ (c : Clocked). c .clock) cs ≡ all → (l ++ (v ∷ [])) ++ map (λ (c : Clocked). c .clock) ds ≡ all
+one-more l cs ds v w e all a b h =
+    append-assoc l (v ∷ []) (map (λ (c : Clocked). c .clock) ds)
+    ∙ (ap (λ (x : Clock). l ++ (x ∷ map (λ (c : Clocked). c .clock) ds)) a ∙ (ap (λ (y : List Clocked). l ++ map (λ (c : Clocked). c .clock) y) (sym b) ∙ h))
+
+low-none : Low []
+unfolding Low
+low-none = tt
+
+low-more : (l : List Clock) (c : Clock) → depth c ≤ 8 → Low l → Low (l ++ (c ∷ []))
+unfolding Low
+low-more [] c h g = (h, tt)
+low-more (d ∷ l) c h g = (g .0, low-more l c h (g .1))
+
+-- the lines so far, and the equations left; all clocks are `all`
+pub record Lines (M : ℕ) (ts : List TagValue) (clocks : Clocks) (line : ℕ → Clock → Letters) (left i place q p : ℕ) (s : List ℕ) (next : ℕ) (out : List ℕ) (all : List Clock) : Type 0 where
+  pub rest : List Equation
+  pub clocked : List Clocked
+  pub so-far : List Clock
+  pub items : times left (equation M) ts place ≡ got rest q
+  pub each : clockedBy clocks rest ≡ formed clocked
+  pub many : i ≡ length so-far
+  pub whole : so-far ++ map (λ (c : Clocked). c .clock) clocked ≡ all
+  pub lines : Put (join (numbered line 0 so-far)) p s next out
+  pub low : Low so-far
+
+module _ (M : ℕ) (ts : List TagValue) (clocks : Clocks) (line : ℕ → Clock → Letters) {p : ℕ} {s : List ℕ} where
+  pub lines-start : (count n at q : ℕ) (es : List Equation) (cs : List Clocked) {next : ℕ} → n ≡ count → times count (equation M) ts at ≡ got es q → clockedBy clocks es ≡ formed cs → next ≡ min (p + 0) farthest
+      → Lines M ts clocks line (n - 0) 0 at q p s next s (map (λ (c : Clocked). c .clock) cs)
+  lines-start count n at q es cs c g h e =
+      let k : n - 0 ≡ count = omega arith in
+      record { rest = es; clocked = cs; so-far = []; items = rw k g; each = h; many = refl; whole = refl; lines = put-none s e; low = low-none }
+
+  module _ (left i place q : ℕ) (all : List Clock) {next : ℕ} {out : List ℕ} (z : left ≡ 0) (h : Lines M ts clocks line left i place q p s next out all) where
+    lines-all : h .so-far ≡ all
+    lines-all =
+        let e = times-nil (equation M) ts left place (h .rest) q z (h .items) in
+        let a : clockedBy clocks [] ≡ formed (h .clocked) = ap (clockedBy clocks) (sym (e .0)) ∙ h .each in
+        sym (append-nil (h .so-far)) ∙ (ap (λ (l : List Clocked). h .so-far ++ map (λ (c : Clocked). c .clock) l) (sym (clocked-nil clocks (h .clocked) a)) ∙ h .whole)
+
+    pub lines-end : Put (join (numbered line 0 all)) p s next out
+    lines-end = put-as (ap (λ (l : List Clock). join (numbered line 0 l)) lines-all) (h .lines)
+
+    pub lines-low : Low all
+    lines-low = rw lines-all at (h .low)
+
+  pub lines-step : (env : List ℕ) (n i place q : ℕ) (all : List Clock) (l : EquationLayout) (v : Clock) {next r : ℕ} {out out′ : List ℕ} → depth v ≤ 8 → i < n → length s ≤ farthest → Agrees env M clocks
+      → ((e : Equation) (q : ℕ) → equation M ts place ≡ got e q → LaidEquation M ts e q l)
+      → ((e : Expr) (q : ℕ) (clocks : Clocks) (o : Option Clock) → tree M ts (l .right) ≡ got e q → Agrees env M clocks → natural clocks e ≡ formed o → v ≡ orBase o)
+      → Put (line i v) next out r out′
+      → Lines M ts clocks line (n - i) i place q p s next out all → Lines M ts clocks line (n - (i + 1)) (i + 1) (l .end) q p s r out′ all
+  lines-step env n i place q all l v small z k a L E u h =
+      let c = times-cons (equation M) ts (n - i) place (h .rest) q (λ y. omega (arith, y)) (h .items) in
+      let d = L (c .0) (c .1) (c .3) in
+      let b = clocked-cons clocks (c .0) (c .2) (h .clocked) (ap (clockedBy clocks) (sym (c .5)) ∙ h .each) in
+      let e : v ≡ orBase (b .0) = E (c .0 .right) (c .1) clocks (b .0) (d .right) a (b .2) in
+      let w : n - (i + 1) ≡ n - i - 1 = omega arith in
+      let m : i + 1 ≡ length (h .so-far ++ (v ∷ [])) = simp length-append (omega (arith, h .many)) in
+      let f = one-more (h .so-far) (h .clocked) (b .1) v (orBase (b .0)) (c .0) all e (b .4) (h .whole) in
+      record { rest = c .2; clocked = b .1; so-far = h .so-far ++ (v ∷ []); items = rw (d .ends, w) (c .4); each = b .3; many = m; whole = f; lines = put-numbered line (h .so-far) i v (h .many) k (h .lines) u; low = low-more (h .so-far) v small (h .low) }
+
+-- ---- a node
+-- a node's equations have the clocks that its names' clocks say
+pub node-clocked : (n : Node) (k : Clocking) → clocking n ≡ formed k → clockedBy (k .names) (n .equations) ≡ formed (k .equations)
+unfolding clocking
+node-clocked n k h = go (inferred n) h
+  where
+    same : (x : Clocking) → x ≡ k → clockedBy (x .names) (n .equations) ≡ formed (x .equations) → clockedBy (k .names) (n .equations) ≡ formed (k .equations)
+    same x e g = rw e at g
+
+    last : (b : Bool) (x : Clocking) → choose b deep (formed x) ≡ formed k → clockedBy (x .names) (n .equations) ≡ formed (x .equations) → clockedBy (k .names) (n .equations) ≡ formed (k .equations)
+    last true x e g = let z : _≡_ {A = ℕ} 0 1 = cc in absurd (omega arith)
+    last false x e g = let y : x ≡ k = cc in same x y g
+
+    said : Inferred → List Clocked → Formed Clocking
+    said r es = choose (any isTooDeep (join (numbered (checkEquation n (r .clocks)) 0 es))) deep (formed (record { passes = r .passes; names = r .clocks; equations = es; findings = join (numbered (checkEquation n (r .clocks)) 0 es) }))
+
+    more : (r : Inferred) (w : Formed (List Clocked)) → clockedBy (r .clocks) (n .equations) ≡ w → (w >>= λ es. said r es) ≡ formed k → clockedBy (k .names) (n .equations) ≡ formed (k .equations)
+    more r deep e g = let z : _≡_ {A = ℕ} 0 1 = cc in absurd (omega arith)
+    more r (formed es) e g = last (any isTooDeep (join (numbered (checkEquation n (r .clocks)) 0 es))) (record { passes = r .passes; names = r .clocks; equations = es; findings = join (numbered (checkEquation n (r .clocks)) 0 es) }) g e
+
+    go : (v : Formed Inferred) → (v >>= λ r. clockedBy (r .clocks) (n .equations) >>= λ es. said r es) ≡ formed k → clockedBy (k .names) (n .equations) ≡ formed (k .equations)
+    go deep g = let z : _≡_ {A = ℕ} 0 1 = cc in absurd (omega arith)
+    go (formed r) g = more r (clockedBy (r .clocks) (n .equations)) refl g
+
+head-same : (letters : ℕ → Letters) (a a′ b b′ c c′ d d′ : ℕ) → a ≡ a′ → b ≡ b′ → c ≡ c′ → d ≡ d′ → headLine letters a b c d ≡ headLine letters a′ b′ c′ d′
+head-same letters a a′ b b′ c c′ d d′ e f g h = rw (e, f, g, h)
+
+-- the head, the lines of equations, chains and faults are the node's listing
+pub node-put : (letters : ℕ → Letters) (i M : ℕ) (ts : List TagValue) (n : Node) (end : ℕ) (l : NodeLayout) (k : Clocking) (env t rows chain : List ℕ) (passes f m equations : ℕ) {p p₁ p₂ p₃ p₄ : ℕ} {s s₁ s₂ s₃ s₄ : List ℕ}
+    → Laid M ts n end l → clocking n ≡ formed k → Tells env t M passes f k → picked (rowOf rows) chain 0 m ≡ chains letters (findingsIn t f) → equations ≡ l .equations .count → length s ≤ farthest
+    → Put (headLine letters (l .name) equations passes m) p s p₁ s₁
+    → ((clocks : Clocks) (es : List Equation) (q : ℕ) (cs : List Clocked) → Agrees env M clocks → times (l .equations .count) (equation M) ts (l .equations .at) ≡ got es q → clockedBy clocks es ≡ formed cs → Put (join (numbered (equationLine letters) 0 (map (λ (c : Clocked). c .clock) cs))) p₁ s₁ p₂ s₂)
+    → Put (join (map (chainLine letters) (picked (rowOf rows) chain 0 m))) p₂ s₂ p₃ s₃
+    → Put (join (map (faultLine letters i) (clockFaults (findingsIn t f)))) p₃ s₃ p₄ s₄
+    → Put (nodeListing letters i (record { node = n; clocking = k })) p s p₄ s₄
+unfolding nodeListing nodeClocks
+node-put letters i M ts n end l k env t rows chain passes f m equations laid h told e c room u v w x =
+    let a = node-clocked n k h in
+    let ch : picked (rowOf rows) chain 0 m ≡ chains letters (k .findings) = e ∙ ap (chains letters) (told .all) in
+    let many : equations ≡ length (map (λ (c : Clocked). c .clock) (k .equations)) = c ∙ (laid .equations .many ∙ sym (clocked-many (k .names) (n .equations) (k .equations) a)) in
+    let few : m ≡ length (chains letters (k .findings)) = sym (picked-length (rowOf rows) chain 0 m) ∙ ap length ch in
+    also room
+    (put-listing letters (n .name) (k .passes) (map (λ (c : Clocked). c .clock) (k .equations)) (chains letters (k .findings)) room
+    (put-as (head-same letters _ _ _ _ _ _ _ _ (laid .named) many (sym (told .made)) few) u)
+    (v (k .names) (n .equations) (l .equations .end) (k .equations) (told .named) (laid .equations .items) a)
+    (put-as (ap (λ (y : List Clock). join (map (chainLine letters) y)) ch) w))
+    λ _. put-as (ap (λ (y : List Finding). join (map (faultLine letters i) (clockFaults y))) (told .all)) x

@@ -1,0 +1,235 @@
+// A node's clock listing put at a place of lent bytes.
+// `tags` and `values` are as long as each other; `names` is the number of names. `env` and `table` are as clock inference left them.
+use layout::NodeLayout;
+use layout::Span;
+use texts::Lending;
+ghost use mathlib.Core.Path.{_≡_};
+ghost use mathlib.Core.List.{List, map};
+ghost use Prim.Native.Nat.{ℕ, _+_, _*_, _≤_, _<_, min};
+ghost use lib.ListN.{length};
+ghost use Rattle.definitions.specs.Lists.{join, numbered};
+ghost use Rattle.definitions.specs.Bytes.{tokens};
+ghost use Rattle.definitions.specs.Tree.{Equation, Node};
+ghost use Rattle.definitions.specs.Reading.{got, times};
+ghost use Rattle.definitions.specs.Grammar.{equation};
+ghost use Rattle.definitions.specs.InferClocks.{Clocks, Clocked, Clocking, formed, clockedBy, clocking, clockFaults};
+ghost use Rattle.definitions.specs.Texts.{faultLine};
+ghost use Rattle.definitions.specs.Answer.{nodeListing};
+ghost use Rattle.environment.specs.Environment.{Agrees};
+ghost use Rattle.findings.specs.Findings.{findingsIn};
+ghost use Rattle.fresh.specs.Places.{lettersAt};
+ghost use Rattle.order.specs.Order.{rowOf, picked};
+ghost use Rattle.layout.specs.Laid.{Laid};
+ghost use Rattle.infer_clocks.specs.Clocked.{Tells};
+ghost use Rattle.spelling.specs.Writing.{Put, farthest};
+ghost use Rattle.listing.specs.Low.{Low};
+ghost use Rattle.texts.specs.Lending.{Gives};
+ghost use Rattle.texts.specs.Pieces.{equationLine, chainLine};
+
+// A node: its layout and its number, how many names its sheet has, and how many passes and findings clock inference told.
+pub struct Told {
+    pub layout: NodeLayout,
+    pub number: usize,
+    pub names: u32,
+    pub passes: usize,
+    pub findings: usize,
+}
+
+// A place, as far as places are counted.
+fn counted(at: usize) -> usize
+    ensures { λ r. ⌜ r ≡ min (at + 0) farthest ⌝ }
+{
+    if at < 4294967296 {
+        return at;
+    }
+    4294967296
+}
+
+// A line for each of the equations that stand there.
+pub fn put_equations(
+    out: &mut [u8],
+    at: usize,
+    starts: &[u32],
+    letters: &[u8],
+    tags: &[u8],
+    values: &[u32],
+    names: u32,
+    env: &[u32],
+    s: Span,
+) -> usize
+    requires { ⌜ length (now out) ≤ farthest ⌝ }
+    requires { ⌜ length (now values) ≡ length (now tags) ⌝ }
+    ensures { λ r. ⌜ ((clocks : Clocks) (es : List Equation) (q : ℕ) (cs : List Clocked) → Agrees (now (env .entry)) names clocks → times (s .count) (equation names) (tokens (now (tags .entry)) (now (values .entry))) (s .at) ≡ got es q → clockedBy clocks es ≡ formed cs → Put (join (numbered (equationLine (lettersAt (now (starts .entry)) (now (letters .entry)))) 0 (map (λ c. c .clock) cs))) at (now (out .entry)) r (now (out .exit))) ⌝ }
+    ensures { λ r. ⌜ ((clocks : Clocks) (es : List Equation) (q : ℕ) (cs : List Clocked) → Agrees (now (env .entry)) names clocks → times (s .count) (equation names) (tokens (now (tags .entry)) (now (values .entry))) (s .at) ≡ got es q → clockedBy clocks es ≡ formed cs → Low (map (λ c. c .clock) cs)) ⌝ }
+{
+    let n = s.count as usize;
+    let mut next = counted(at);
+    let mut place = s.at;
+    let mut i: usize = 0;
+    while i < n {
+        let l = layout::equation_at(tags, values, names, place);
+        let right = l.right;
+        let end = l.end;
+        let c = infer_clocks::equation_clock(tags, values, names, env, right);
+        next = texts::put_equation_line(out, next, starts, letters, i, c);
+        place = end;
+        i += 1;
+    }
+    next
+}
+
+fn wide(x: u32) -> usize
+    ensures { λ r. ⌜ r ≡ x ⌝ }
+{
+    x as usize
+}
+
+// A line for each of n chains, each in the row that `chain` says.
+pub fn put_chains(
+    out: &mut [u8],
+    at: usize,
+    starts: &[u32],
+    letters: &[u8],
+    rows: &[u32],
+    chain: &[u32],
+    n: usize,
+) -> usize
+    requires { ⌜ length (now out) ≤ farthest ⌝ }
+    ensures { λ r. ⌜ Put (join (map (chainLine (lettersAt (now (starts .entry)) (now (letters .entry)))) (picked (rowOf (now (rows .entry))) (now (chain .entry)) 0 n))) at (now (out .entry)) r (now (out .exit)) ⌝ }
+{
+    let mut next = counted(at);
+    let mut i: usize = 0;
+    while i < n {
+        let x = flat::word_at(chain, i);
+        let row = wide(x);
+        let c = rows::get(rows, row);
+        next = texts::put_chain_line(out, next, starts, letters, c);
+        i += 1;
+    }
+    next
+}
+
+// A line for each clock fault of a node.
+pub fn put_faults(
+    out: &mut [u8],
+    at: usize,
+    starts: &[u32],
+    letters: &[u8],
+    table: &[u32],
+    n: usize,
+    node: usize,
+) -> usize
+    requires { ⌜ length (now out) ≤ farthest ⌝ }
+    ensures { λ r. ⌜ Put (join (map (faultLine (lettersAt (now (starts .entry)) (now (letters .entry))) node) (clockFaults (findingsIn (now (table .entry)) n)))) at (now (out .entry)) r (now (out .exit)) ⌝ }
+{
+    let m = findings::fault_count(table, n);
+    let mut next = counted(at);
+    let mut j: usize = 0;
+    while j < m {
+        let f = findings::nth_fault(table, n, j);
+        let fault = f.fault;
+        let equation = wide(f.equation);
+        next = texts::put_fault_line(out, next, starts, letters, node, equation, fault);
+        j += 1;
+    }
+    next
+}
+
+// The listing of a node.
+pub fn put_node(
+    out: &mut [u8],
+    at: usize,
+    starts: &[u32],
+    letters: &[u8],
+    tags: &[u8],
+    values: &[u32],
+    env: &[u32],
+    table: &[u32],
+    told: Told,
+    rows: &mut [u32],
+    chain: &mut [u32],
+) -> usize
+    requires { ⌜ length (now out) ≤ farthest ⌝ }
+    requires { ⌜ length (now values) ≡ length (now tags) ⌝ }
+    ensures { λ r. ⌜ r ≤ farthest ⌝ }
+    ensures { λ r. ⌜ ((node : Node) (q : ℕ) (k : Clocking) → Laid (told .names) (tokens (now (tags .entry)) (now (values .entry))) node q (told .layout) → clocking node ≡ formed k → Tells (now (env .entry)) (now (table .entry)) (told .names) (told .passes) (told .findings) k → 17 * told .findings ≤ length (now (rows .entry)) → told .findings ≤ length (now (chain .entry)) → told .findings < 4294967296 → Put (nodeListing (lettersAt (now (starts .entry)) (now (letters .entry))) (told .number) (record { node = node; clocking = k })) at (now (out .entry)) r (now (out .exit))) ⌝ }
+    ensures { λ r. ⌜ ((node : Node) (q : ℕ) (k : Clocking) → Laid (told .names) (tokens (now (tags .entry)) (now (values .entry))) node q (told .layout) → clocking node ≡ formed k → Tells (now (env .entry)) (now (table .entry)) (told .names) (told .passes) (told .findings) k → 17 * told .findings ≤ length (now (rows .entry)) → told .findings ≤ length (now (chain .entry)) → told .findings < 4294967296 → length (now (letters .entry)) ≤ 16384 → length (now (tags .entry)) ≤ 4096 → told .findings ≤ 4096 → length (nodeListing (lettersAt (now (starts .entry)) (now (letters .entry))) (told .number) (record { node = node; clocking = k })) ≤ farthest) ⌝ }
+{
+    let l = told.layout;
+    let n = told.findings;
+    let m = infer_clocks::chain_rows(starts, letters, table, n, rows, chain);
+    let e = l.equations;
+    let equations = wide(e.count);
+    let a = texts::put_head(out, at, starts, letters, l.name, equations, told.passes, m);
+    let b = put_equations(out, a, starts, letters, tags, values, told.names, env, e);
+    let c = put_chains(out, b, starts, letters, rows, chain, m);
+    put_faults(out, c, starts, letters, table, n, told.number)
+}
+
+// How long the listing of a node is.
+fn measure_node(
+    starts: &[u32],
+    letters: &[u8],
+    tags: &[u8],
+    values: &[u32],
+    env: &[u32],
+    table: &[u32],
+    told: Told,
+    rows: &mut [u32],
+    chain: &mut [u32],
+) -> usize
+    requires { ⌜ length (now values) ≡ length (now tags) ⌝ }
+    ensures { λ r. ⌜ r ≤ farthest ⌝ }
+    ensures { λ r. ⌜ ((node : Node) (q : ℕ) (k : Clocking) → Laid (told .names) (tokens (now (tags .entry)) (now (values .entry))) node q (told .layout) → clocking node ≡ formed k → Tells (now (env .entry)) (now (table .entry)) (told .names) (told .passes) (told .findings) k → 17 * told .findings ≤ length (now (rows .entry)) → told .findings ≤ length (now (chain .entry)) → length (now (letters .entry)) ≤ 16384 → length (now (tags .entry)) ≤ 4096 → told .findings ≤ 4096 → r ≡ length (nodeListing (lettersAt (now (starts .entry)) (now (letters .entry))) (told .number) (record { node = node; clocking = k }))) ⌝ }
+{
+    let mut none = [0u8; 1];
+    put_node(
+        &mut none,
+        0,
+        starts,
+        letters,
+        tags,
+        values,
+        env,
+        table,
+        told,
+        rows,
+        chain,
+    )
+}
+
+// The listing of a node over the front of the lent bytes, if these are enough; else none is changed.
+pub fn node_into(
+    out: &mut [u8],
+    starts: &[u32],
+    letters: &[u8],
+    tags: &[u8],
+    values: &[u32],
+    env: &[u32],
+    table: &[u32],
+    told: Told,
+    rows: &mut [u32],
+    chain: &mut [u32],
+) -> Lending
+    requires { ⌜ length (now values) ≡ length (now tags) ⌝ }
+    ensures { λ r. ⌜ ((node : Node) (q : ℕ) (k : Clocking) → Laid (told .names) (tokens (now (tags .entry)) (now (values .entry))) node q (told .layout) → clocking node ≡ formed k → Tells (now (env .entry)) (now (table .entry)) (told .names) (told .passes) (told .findings) k → 17 * told .findings ≤ length (now (rows .entry)) → told .findings ≤ length (now (chain .entry)) → length (now (letters .entry)) ≤ 16384 → length (now (tags .entry)) ≤ 4096 → told .findings ≤ 4096 → Gives (nodeListing (lettersAt (now (starts .entry)) (now (letters .entry))) (told .number) (record { node = node; clocking = k })) (now (out .entry)) r (now (out .exit))) ⌝ }
+{
+    let m = measure_node(starts, letters, tags, values, env, table, told, rows, chain);
+    if m <= out.len() {
+        put_node(
+            &mut out[..m],
+            0,
+            starts,
+            letters,
+            tags,
+            values,
+            env,
+            table,
+            told,
+            rows,
+            chain,
+        );
+        return Lending::Written(m);
+    }
+    Lending::Lent(m)
+}

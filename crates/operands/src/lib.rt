@@ -245,7 +245,7 @@ fn behind_type(tags: &[u8], values: &[u32], names: u32, at: usize) -> Operands
 }
 
 // The operands that follow a first token of this shape.
-fn laid(tags: &[u8], values: &[u32], names: u32, shape: Shape, at: usize) -> Operands
+pub fn laid(tags: &[u8], values: &[u32], names: u32, shape: Shape, at: usize) -> Operands
     requires { ⌜ length (now values) ≡ length (now tags) ⌝ }
     ensures { λ r. ⌜ r ≡ operandsAt names (tokens (now (tags .entry)) (now (values .entry))) shape at ⌝ }
 {

@@ -1,0 +1,10 @@
+-- Where rewriting stops, and that this and its needs do not depend on the id of `condact`.
+pub mod Stops
+pub mod Condact
+-- What rewriting ends with and what it needs, by the ids of new names.
+pub mod Ends
+pub mod Growth
+pub mod Yields
+pub mod Output
+-- A sheet's nodes one by one.
+pub mod Nodes

@@ -1,0 +1,252 @@
+-- A sheet's nodes one by one: each has its clocks (`clockings-form`, `node-here`), where no clock fault is found no clock is too deep
+-- (`all-within`), its faults are its clock faults, else the one that rewriting stops at (`node-faults`, `no-faults`).
+use Prim.Native.Nat.{ℕ, zero, suc, _+_, _-_, _≤_, _<_}
+use mathlib.Core.Path.{_≡_, refl, sym, ap, ap₂, _∙_, subst}
+use mathlib.Core.List.{List, [], _∷_, _++_, map, cons≢nil, List·Memᴰ, List·Memᴰ·head, List·Memᴰ·tail}
+use mathlib.Core.Bool.{Bool, true, false, _&&_, false≢true}
+use mathlib.Core.Option.{Option, none, some}
+use native.Mathlib.Omega.{arith}
+use native.Mathlib.Numerals.{add-one}
+use lib.ListN.{length, drop, getElem?, drop-of-length-le}
+use Rattle.definitions.specs.declared.Refusal.{Refusal}
+use Rattle.definitions.specs.Lists.{choose, any, all, join, numbered, Letters}
+use Rattle.definitions.specs.Tokens.{TagValue}
+use Rattle.definitions.specs.Tree.{Node, Sheet}
+use Rattle.definitions.specs.Reading.{got, times}
+use Rattle.definitions.specs.Grammar.{node}
+use Rattle.definitions.specs.InferClocks.{Formed, deep, formed, _>>=_, Clocks, Inferred, inferred, Finding, NodeFault, Clocked, Clocking, clockedBy, checkLeft, check, checkEquation, isTooDeep, clocking, clockFaults, usesClocks}
+use Rattle.definitions.specs.Refusals as answers
+use Rattle.definitions.specs.Refusals.{Answer, accepted, refused}
+use Rattle.definitions.specs.Output.{ClockedNode, rewritten, stoppedAt, nodeFaults}
+use Rattle.definitions.specs.Answer.{Input, clockings, firstOf, firstFaults}
+use Rattle.shapes.proofs.Facts.{All, all-nil, all-cons, and-left, and-right}
+use Rattle.shapes.proofs.Accepts.{Accepts, accepts, no-refused, accepts-after, is-accepted}
+use Rattle.grammar.proofs.Got.{times-cons}
+use Rattle.needs.specs.Need.{within}
+use Rattle.needs.proofs.Checked.{isSite, only-sites, sites-within}
+use Rattle.stateless.specs.Sheets.{Formings, NodeHere, withinAll, oneOf, faultsBy, firstFaultsFrom}
+use Rattle.stateless.proofs.Stops.{faultOf, stopped-at}
+
+-- ---- each node has its clocks
+formings-none : Formings [] []
+formings-none = record { same-nodes = refl; same-length = refl; each = all-nil _ }
+
+formings-more : (n : Node) (k : Clocking) (nodes : List Node) (ns : List ClockedNode) → clocking n ≡ formed k → Formings nodes ns → Formings (n ∷ nodes) (record { node = n; clocking = k } ∷ ns)
+formings-more n k nodes ns e h =
+    record { same-nodes = ap (λ (l : List Node). n ∷ l) (h .same-nodes); same-length = ap suc (h .same-length); each = all-cons _ _ ns e (h .each) }
+
+clockings-accept : (i : ℕ) (nodes : List Node) → Accepts (Formings nodes) (clockings i nodes)
+unfolding clockings
+clockings-accept i [] = accepts formings-none
+clockings-accept i (n ∷ nodes) = go (clocking n) refl (clockings-accept (suc i) nodes)
+  where
+    go : (u : Formed Clocking) → clocking n ≡ u → Accepts (Formings nodes) (clockings (suc i) nodes)
+        → Accepts (Formings (n ∷ nodes)) (elim u as (λ x. Answer (List ClockedNode)) [ deep ↦ refused (Refusal.Deep i) | formed k ↦ (answers._>>=_ (clockings (suc i) nodes) (λ rest. accepted (record { node = n; clocking = k } ∷ rest))) ])
+    go deep e h = no-refused
+    go (formed k) e h = accepts-after _ h (λ ns q. accepts (formings-more n k nodes ns e q))
+
+-- THE LAW: nodes whose clocks are all formed
+pub clockings-form : (i : ℕ) (nodes : List Node) (ns : List ClockedNode) → clockings i nodes ≡ accepted ns → Formings nodes ns
+clockings-form i nodes ns e = is-accepted (clockings i nodes) ns e (clockings-accept i nodes)
+
+-- ---- the nodes from node i on
+here-from : (nodes : List Node) (ns : List ClockedNode) (i : ℕ) → map (λ n. n .node) ns ≡ nodes → i < length ns
+    → (n : ClockedNode) × (getElem? nodes i ≡ some (n .node)) × (getElem? ns i ≡ some n) × (drop i nodes ≡ n .node ∷ drop (suc i) nodes) × (drop i ns ≡ n ∷ drop (suc i) ns) × List·Memᴰ n ns
+here-from nodes [] i e h = absurd (omega arith)
+here-from nodes (n ∷ ns) zero e h = (n, ap (λ (l : List Node). getElem? l 0) (sym e), refl, sym e ∙ ap (λ (l : List Node). n .node ∷ drop 1 l) e, refl, List·Memᴰ·head refl)
+here-from nodes (n ∷ ns) (suc i) e h =
+    let r = here-from (map (λ n. n .node) ns) ns i refl (omega arith) in
+    (r .0, ap (λ (l : List Node). getElem? l (suc i)) (sym e) ∙ r .1, r .2, ap (drop (suc i)) (sym e) ∙ (r .3 ∙ ap (λ (l : List Node). r .0 .node ∷ drop (suc (suc i)) l) e), r .4, List·Memᴰ·tail (r .5))
+
+-- THE LAW: node i, the nodes left and the nodes left behind it
+pub node-here : {nodes : List Node} {ns : List ClockedNode} → Formings nodes ns → (i : ℕ) → i < length nodes → NodeHere nodes ns i
+node-here {nodes} {ns} h i l =
+    let r = here-from nodes ns i (h .same-nodes) (omega (arith, h .same-length, l)) in
+    let s = add-one i in
+    record {
+      clocked = r .0;
+      node-here = r .1;
+      here = r .2;
+      nodes-left = r .3 ∙ ap (λ (j : ℕ). r .0 .node ∷ drop j nodes) (sym s);
+      left = r .4 ∙ ap (λ (j : ℕ). r .0 ∷ drop j ns) (sym s);
+      forms = h .each (r .0) (r .5);
+      member = r .5;
+    }
+
+-- behind the last node none is left
+pub none-left : {nodes : List Node} {ns : List ClockedNode} → Formings nodes ns → (i : ℕ) → length nodes ≤ i → drop i ns ≡ []
+none-left {nodes} {ns} h i l = drop-of-length-le ns {i = i} (omega (arith, h .same-length, l))
+
+cons-eq : {A : Type 0} {a b : A} {l m : List A} → a ∷ l ≡ b ∷ m → (a ≡ b) × (l ≡ m)
+cons-eq e = (cc, cc)
+
+-- a walk over tokens: the nodes left stand there, from node i on
+pub nodes-start : (M : ℕ) (ts : List TagValue) (count at q : ℕ) (nodes : List Node) → times count (node M) ts at ≡ got nodes q → times (count - 0) (node M) ts at ≡ got (drop 0 nodes) q
+nodes-start M ts count at q nodes g = let k : count - 0 ≡ count = omega arith in rw k g
+
+module _ (M : ℕ) (ts : List TagValue) (count i place q : ℕ) {nodes : List Node} {ns : List ClockedNode} (few : i < count) (all-read : count ≡ length nodes) (h : Formings nodes ns)
+    (items : times (count - i) (node M) ts place ≡ got (drop i nodes) q) where
+  -- node i stands at this place, and the nodes left behind it where it ends
+  pub node-read : (u : NodeHere nodes ns i) × (p : ℕ) × (node M ts place ≡ got (u .clocked .node) p) × (times (count - (i + 1)) (node M) ts p ≡ got (drop (i + 1) nodes) q)
+  node-read =
+      let u = node-here h i (omega (arith, few, all-read)) in
+      let c = times-cons (node M) ts (count - i) place (drop i nodes) q (λ y. omega (arith, few, y)) items in
+      let d : c .0 ∷ c .2 ≡ u .clocked .node ∷ drop (i + 1) nodes = sym (c .5) ∙ u .nodes-left in
+      let k : count - (i + 1) ≡ count - i - 1 = omega arith in
+      (u, c .1, c .3 ∙ ap (λ (n : Node). got n (c .1)) (cons-eq d .0), rw k (c .4 ∙ ap (λ (l : List Node). got l q) (cons-eq d .1)))
+
+-- ---- what is found in a node
+not-deep : {A : Type 0} {B : Type 0} (a : A) → deep ≡ formed a → B
+not-deep {A} {B} a e = absurd (subst is-deep e tt)
+  where
+    is-deep : Formed A → Type 0
+    is-deep deep = Unit {0}
+    is-deep (formed b) = ⊥
+
+formed-eq : {A : Type 0} (a b : A) → formed a ≡ formed b → a ≡ b
+formed-eq {A} a b e = ap un e
+  where
+    un : Formed A → A
+    un deep = a
+    un (formed c) = c
+
+formed-after : {A B : Type 0} (a : Formed A) (f : A → Formed B) (b : B) → a >>= f ≡ formed b → (x : A) × (a ≡ formed x) × (f x ≡ formed b)
+formed-after deep f b e = not-deep b e
+formed-after (formed x) f b e = (x, refl, e)
+
+-- what `clocking` says when it forms
+pub record Checks (n : Node) (k : Clocking) : Type 0 where
+  pub inference : inferred n ≡ formed (record { passes = k .passes; clocks = k .names })
+  pub equations : clockedBy (k .names) (n .equations) ≡ formed (k .equations)
+  pub findings : k .findings ≡ join (numbered (checkEquation n (k .names)) 0 (k .equations))
+  pub shallow : any isTooDeep (k .findings) ≡ false
+
+pub node-checks : (n : Node) (k : Clocking) → clocking n ≡ formed k → Checks n k
+unfolding clocking
+node-checks n k q =
+    let a = formed-after (inferred n) _ k q in
+    let b = formed-after (clockedBy (a .0 .clocks) (n .equations)) _ k (a .2) in
+    end (a .0) (a .1) (b .0) (b .1) (any isTooDeep (found-in (a .0) (b .0))) refl (b .2)
+  where
+    found-in : Inferred → List Clocked → List Finding
+    found-in r es = join (numbered (checkEquation n (r .clocks)) 0 es)
+
+    whole : Inferred → List Clocked → Clocking
+    whole r es = record { passes = r .passes; names = r .clocks; equations = es; findings = found-in r es }
+
+    end : (r : Inferred) → inferred n ≡ formed r → (es : List Clocked) → clockedBy (r .clocks) (n .equations) ≡ formed es
+        → (u : Bool) → any isTooDeep (found-in r es) ≡ u → choose u deep (formed (whole r es)) ≡ formed k → Checks n k
+    end r i es f true d e = not-deep k e
+    end r i es f false d e = subst (Checks n) (formed-eq (whole r es) k e) (record { inference = i; equations = f; findings = refl; shallow = d })
+
+-- the equations with their clocks
+pub clocked : (n : Node) (k : Clocking) → clocking n ≡ formed k → clockedBy (k .names) (n .equations) ≡ formed (k .equations)
+clocked n k e = node-checks n k e .equations
+
+-- ---- where no clock fault is found, no clock is too deep
+all-split : {A : Type 0} (p : A → Bool) (a b : List A) → all p (a ++ b) ≡ true → (all p a ≡ true) × (all p b ≡ true)
+all-split p [] b h = (refl, h)
+all-split p (x ∷ a) b h =
+    let r = all-split p a b (and-right (p x) (all p (a ++ b)) h) in
+    (both (p x) (all p a) (and-left (p x) (all p (a ++ b)) h) (r .0), r .1)
+  where
+    both : (u v : Bool) → u ≡ true → v ≡ true → u && v ≡ true
+    both u v e f = rw (e, f)
+
+module _ (n : Node) (clocks : Clocks) where
+  equations-within : (i : ℕ) (es : List Clocked) → all isSite (join (numbered (checkEquation n clocks) i es)) ≡ true → withinAll es ≡ true
+  unfolding withinAll checkEquation
+  equations-within i [] h = refl
+  equations-within i (e ∷ es) h =
+      let a = all-split isSite (checkEquation n clocks i e) (join (numbered (checkEquation n clocks) (suc i) es)) h in
+      let b = all-split isSite (checkLeft clocks i n (e .clock) (e .equation .left)) (check clocks i (e .clock) (e .equation .right)) (a .0) in
+      let u = sites-within clocks i (e .equation .right) (e .clock) (b .1) in
+      let v = equations-within (suc i) es (a .1) in
+      rw (u, v)
+
+-- THE LAW
+pub all-within : (n : Node) (k : Clocking) → clocking n ≡ formed k → clockFaults (k .findings) ≡ [] → withinAll (k .equations) ≡ true
+all-within n k e f =
+    let c = node-checks n k e in
+    equations-within n (k .names) 0 (k .equations) (ap (all isSite) (sym (c .findings)) ∙ only-sites (k .findings) (c .shallow) f)
+
+pub within-head : (e : Clocked) (es : List Clocked) → withinAll (e ∷ es) ≡ true → within (e .clock) (e .equation .right) ≡ true
+unfolding withinAll
+within-head e es h = and-left _ (withinAll es) h
+
+pub within-tail : (e : Clocked) (es : List Clocked) → withinAll (e ∷ es) ≡ true → withinAll es ≡ true
+unfolding withinAll
+within-tail e es h = and-right (within (e .clock) (e .equation .right)) _ h
+
+pub within-each : (es : List Clocked) → withinAll es ≡ true → All (λ e. within (e .clock) (e .equation .right) ≡ true) es
+within-each [] h = all-nil _
+within-each (e ∷ es) h = all-cons _ e es (within-head e es h) (within-each es (within-tail e es h))
+
+-- ---- a node's faults
+module _ (names : List Letters) (sheet : Sheet) (n : ClockedNode) where
+  -- THE LAW: a node's faults are its clock faults, else the one that rewriting stops at, if it uses clocks
+  pub node-faults : nodeFaults names sheet n ≡ faultsBy (clockFaults (n .clocking .findings)) (usesClocks (n .node)) (faultOf sheet names n)
+  unfolding nodeFaults
+  node-faults = go (clockFaults (n .clocking .findings)) (usesClocks (n .node)) (stoppedAt names sheet (rewritten names sheet names n)) (faultOf sheet names n) (stopped-at names sheet names n)
+    where
+      go : (l : List NodeFault) (u : Bool) (o p : Option NodeFault) → o ≡ p
+          → _≡_ {A = List NodeFault} (elim l as (λ x. List NodeFault) [ f ∷ rest ↦ f ∷ rest | [] ↦ (elim (choose u o none) as (λ x. List NodeFault) [ none ↦ [] | some f ↦ f ∷ [] ]) ]) (faultsBy l u p)
+      go (f ∷ l) u o p e = refl
+      go [] false o p e = refl
+      go [] true o p e = one o ∙ ap oneOf e
+        where
+          one : (o : Option NodeFault) → _≡_ {A = List NodeFault} (elim o as (λ x. List NodeFault) [ none ↦ [] | some f ↦ f ∷ [] ]) (oneOf o)
+          one none = refl
+          one (some f) = refl
+
+  -- the same case by case: it has clock faults; it uses no clocks; it does
+  pub clock-faulty : (f : NodeFault) (fs : List NodeFault) → clockFaults (n .clocking .findings) ≡ f ∷ fs → nodeFaults names sheet n ≡ f ∷ fs
+  clock-faulty f fs e = node-faults ∙ ap (λ (l : List NodeFault). faultsBy l (usesClocks (n .node)) (faultOf sheet names n)) e
+
+  pub unclocked-faultless : clockFaults (n .clocking .findings) ≡ [] → usesClocks (n .node) ≡ false → nodeFaults names sheet n ≡ []
+  unclocked-faultless e u = node-faults ∙ ap₂ (λ (l : List NodeFault) (b : Bool). faultsBy l b (faultOf sheet names n)) e u
+
+  pub rewriting-faulty : clockFaults (n .clocking .findings) ≡ [] → usesClocks (n .node) ≡ true → nodeFaults names sheet n ≡ oneOf (faultOf sheet names n)
+  rewriting-faulty e u = node-faults ∙ ap₂ (λ (l : List NodeFault) (b : Bool). faultsBy l b (faultOf sheet names n)) e u
+
+  -- a node without faults has no clock fault, and its rewriting does not stop
+  pub faultless : nodeFaults names sheet n ≡ [] → (clockFaults (n .clocking .findings) ≡ []) × (usesClocks (n .node) ≡ true → faultOf sheet names n ≡ none)
+  faultless h = go (clockFaults (n .clocking .findings)) (usesClocks (n .node)) (faultOf sheet names n) (sym node-faults ∙ h)
+    where
+      no-one : (o : Option NodeFault) → oneOf o ≡ [] → o ≡ none
+      no-one none e = refl
+      no-one (some f) e = absurd (cons≢nil e)
+
+      go : (l : List NodeFault) (u : Bool) (o : Option NodeFault) → faultsBy l u o ≡ [] → (l ≡ []) × (u ≡ true → o ≡ none)
+      go (f ∷ l) u o e = absurd (cons≢nil e)
+      go [] false o e = (refl, λ t. absurd (false≢true t))
+      go [] true o e = (refl, λ t. no-one o e)
+
+-- ---- each faulty node's first fault, from node i on
+module _ (r : Input) where
+  pub first-faults : (ns : List ClockedNode) → firstFaults r ns ≡ firstFaultsFrom r 0 ns
+  unfolding firstFaults firstFaultsFrom
+  first-faults ns = refl
+
+  pub faults-end : (i : ℕ) → firstFaultsFrom r i [] ≡ []
+  unfolding firstFaultsFrom
+  faults-end i = refl
+
+  pub faults-step : (i : ℕ) (n : ClockedNode) (rest : List ClockedNode) → firstFaultsFrom r i (n ∷ rest) ≡ firstOf i (nodeFaults (r .names) (r .sheet) n) ++ firstFaultsFrom r (i + 1) rest
+  unfolding firstFaultsFrom
+  faults-step i n rest = ap (λ (j : ℕ). firstOf i (nodeFaults (r .names) (r .sheet) n) ++ join (numbered (λ i n. firstOf i (nodeFaults (r .names) (r .sheet) n)) j rest)) (sym (add-one i))
+
+  -- where there is none, no node has a fault
+  pub no-node-faulty : (i : ℕ) (ns : List ClockedNode) → firstFaultsFrom r i ns ≡ [] → All (λ n. nodeFaults (r .names) (r .sheet) n ≡ []) ns
+  no-node-faulty i [] h = all-nil _
+  no-node-faulty i (n ∷ ns) h = go (nodeFaults (r .names) (r .sheet) n) refl (sym (faults-step i n ns) ∙ h) (no-node-faulty (i + 1) ns)
+    where
+      go : (l : List NodeFault) → nodeFaults (r .names) (r .sheet) n ≡ l → firstOf i l ++ firstFaultsFrom r (i + 1) ns ≡ []
+          → (firstFaultsFrom r (i + 1) ns ≡ [] → All (λ n. nodeFaults (r .names) (r .sheet) n ≡ []) ns) → All (λ n. nodeFaults (r .names) (r .sheet) n ≡ []) (n ∷ ns)
+      go [] e q rest = all-cons _ n ns e (rest q)
+      go (f ∷ fs) e q rest = absurd (cons≢nil q)
+
+  -- THE LAW: then every node's clocks fit, and its rewriting, if it uses clocks, does not stop
+  pub no-faults : (ns : List ClockedNode) → firstFaultsFrom r 0 ns ≡ []
+      → All (λ n. (clockFaults (n .clocking .findings) ≡ []) × (usesClocks (n .node) ≡ true → faultOf (r .sheet) (r .names) n ≡ none)) ns
+  no-faults ns h n m = faultless (r .names) (r .sheet) n (no-node-faulty 0 ns h n m)

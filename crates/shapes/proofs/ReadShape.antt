@@ -60,7 +60,7 @@ module _ (M N : ℕ) (small : M ≤ N) (ts : List TagValue) (wide : All (λ k. W
   ty-read zero p = gives-after _ (gives-limited noArray (token (typeTokenOf M)) ts p (type-read p)) (λ k q u. typed-ends k (u .0 .0) _ (λ p. refuses) p q (u .0 .1))
   ty-read (suc d) p = gives-after _ (gives-limited shortEnough (token (typeTokenOf M)) ts p (type-read p)) (λ k q u. typed-ends k (u .0 .0) (ty M d) (ty-read d) p q (u .0 .1))
 
-  declaration-read : Read (ShapedDeclared N) declaredTokens (declaration M)
+  pub declaration-read : Read (ShapedDeclared N) declaredTokens (declaration M)
   unfolding declaration declaredTokens
   declaration-read p = gives-after _ (name-read p) (λ x q u. gives-after _ (ty-read deepestType q) (λ a q₁ v. gives ((v .0, u .0), u .1 then v .1)))
 
@@ -70,7 +70,7 @@ module _ (M N : ℕ) (small : M ≤ N) (ts : List TagValue) (wide : All (λ k. W
   names-join (x ∷ xs) = ap {B = List Token} (λ z. Token.Name x ∷ z) (names-join xs)
 
   -- n names
-  names-read : (n : ℕ) (p : ℕ) → Gives (λ xs q. All (λ x. x < N) xs × (length xs ≡ n) × Stands ts (nameTokens xs) p q) (times n (name M) ts p)
+  pub names-read : (n : ℕ) (p : ℕ) → Gives (λ xs q. All (λ x. x < N) xs × (length xs ≡ n) × Stands ts (nameTokens xs) p q) (times n (name M) ts p)
   names-read n p = go (times-gives ts wide (λ x. x < N) (λ x. Token.Name x ∷ []) n (name M) name-read p)
     where
       go : {g : Got (List ℕ)} → Gives (λ xs q. All (λ x. x < N) xs × (length xs ≡ n) × Stands ts (join (map (λ x. Token.Name x ∷ []) xs)) p q) g → Gives (λ xs q. All (λ x. x < N) xs × (length xs ≡ n) × Stands ts (nameTokens xs) p q) g
@@ -82,7 +82,7 @@ module _ (M N : ℕ) (small : M ≤ N) (ts : List TagValue) (wide : All (λ k. W
   counted-as {n} {m} {p} {q} e s = subst⁻¹ (λ (z : ℕ). Stands ts (Token.Count z ∷ []) p q) e s
 
   -- definitions
-  abbrev defined : TypeDef → List Token
+  abbrev pub defined : TypeDef → List Token
   unfolding definitionTokens
   defined d = definitionTokens (d .name) (d .body)
 
@@ -93,7 +93,7 @@ module _ (M N : ℕ) (small : M ≤ N) (ts : List TagValue) (wide : All (λ k. W
       gives-after _ (times-gives ts wide (ShapedDeclared N) declaredTokens n (declaration M) declaration-read q) (λ fs q₁ v. gives ((v .0, h), s then counted-as (v .1) (u .1) then v .2)))
   definition-ends (DefinitionToken.Alias x) h p₀ p s = gives-after _ (ty-read deepestType p) (λ a q u. gives ((u .0, h), s then u .1))
 
-  typeDef-read : Read (ShapedDefinition N) defined (typeDef M)
+  pub typeDef-read : Read (ShapedDefinition N) defined (typeDef M)
   unfolding typeDef
   typeDef-read p = gives-after _ (token-gives ts wide (ProperDefinition N) Token.Definition (definitionTokenOf M) (λ tag v w. definition-decoded M N small tag v w) p) (λ k q u. definition-ends k (u .0) p q (u .1))
 
@@ -192,12 +192,12 @@ module _ (M N : ℕ) (small : M ≤ N) (ts : List TagValue) (wide : All (λ k. W
   expr-read zero p = gives-after _ (gives-limited (λ h. false) (token (exprTokenOf M)) ts p (head-read p)) (λ h q u. form-ends _ (λ p. refuses) h (u .0 .0) p q (u .0 .1))
   expr-read (suc d) p = gives-after _ (head-read p) (λ h q u. form-ends (expr M d) (expr-read d) h (u .0) p q (u .1))
 
-  equation-read : Read (ShapedEquation N) equationTokens (equation M)
+  pub equation-read : Read (ShapedEquation N) equationTokens (equation M)
   unfolding equation equationTokens codeOf
   equation-read p = gives-after _ (counted-gives ts wide Token.Count 3 1 mostLeft (λ n. refl) p) (λ n q u. gives-after _ (names-read n q) (λ xs q₁ v. gives-after _ (expr-read deepestExpr q₁) (λ e q₂ w.
       gives ((w .0, v .0), counted-as (v .1) (u .1) then v .2 then w .1))))
 
-  probe-read : Read (ShapedProbe N) probeTokens (probe M)
+  pub probe-read : Read (ShapedProbe N) probeTokens (probe M)
   unfolding probe
   probe-read p = gives-after _ (name-read p) (λ l q u. gives-after _ (name-read q) (λ n q₁ v. gives ((u .0, v .0), u .1 then v .1)))
 

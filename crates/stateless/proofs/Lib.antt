@@ -8,3 +8,4 @@ pub mod Yields
 pub mod Output
 -- A sheet's nodes one by one.
 pub mod Nodes
+pub mod Answers

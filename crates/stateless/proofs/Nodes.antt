@@ -1,14 +1,20 @@
--- A sheet's nodes one by one: each has its clocks (`clockings-form`, `node-here`), where no clock fault is found no clock is too deep
--- (`all-within`), its faults are its clock faults, else the one that rewriting stops at (`node-faults`, `no-faults`).
+-- A sheet's nodes one by one: each has its clocks (`clockings-form`, `node-here`, `node-read`), where no clock fault is found no clock is too
+-- deep (`all-within`), its faults are its clock faults, else the one that rewriting stops at (`node-faults`, `no-faults`). For loops over
+-- nodes, faults, names and tokens of the output from node i on (`faults-left`, `names-left`, `tokens-left`) and up to it (`..-front`).
 use Prim.Native.Nat.{ℕ, zero, suc, _+_, _-_, _≤_, _<_}
 use mathlib.Core.Path.{_≡_, refl, sym, ap, ap₂, _∙_, subst}
-use mathlib.Core.List.{List, [], _∷_, _++_, map, cons≢nil, List·Memᴰ, List·Memᴰ·head, List·Memᴰ·tail}
+use mathlib.Core.List.{List, [], _∷_, _++_, map, append-assoc, append-nil, cons≢nil, List·Memᴰ, List·Memᴰ·head, List·Memᴰ·tail}
 use mathlib.Core.Bool.{Bool, true, false, _&&_, false≢true}
-use mathlib.Core.Option.{Option, none, some}
+use mathlib.Core.Option.{Option, none, some, Option·some-injective, Option·none-ne-some}
 use native.Mathlib.Omega.{arith}
 use native.Mathlib.Numerals.{add-one}
-use lib.ListN.{length, drop, getElem?, drop-of-length-le}
+use lib.Dec.{leb}
+use lib.ListN.{length, take, drop, getElem?, drop-of-length-le, length-map}
+use lib.Seq.{length-take-le, take-all}
+use borrow.Author.Tests.{le-leb, lt-leb}
 use Rattle.definitions.specs.declared.Refusal.{Refusal}
+use Rattle.definitions.specs.declared.FaultRecord.{FaultRecord}
+use Rattle.definitions.specs.declared.Token.{Token}
 use Rattle.definitions.specs.Lists.{choose, any, all, join, numbered, Letters}
 use Rattle.definitions.specs.Tokens.{TagValue}
 use Rattle.definitions.specs.Tree.{Node, Sheet}
@@ -17,14 +23,14 @@ use Rattle.definitions.specs.Grammar.{node}
 use Rattle.definitions.specs.InferClocks.{Formed, deep, formed, _>>=_, Clocks, Inferred, inferred, Finding, NodeFault, Clocked, Clocking, clockedBy, checkLeft, check, checkEquation, isTooDeep, clocking, clockFaults, usesClocks}
 use Rattle.definitions.specs.Refusals as answers
 use Rattle.definitions.specs.Refusals.{Answer, accepted, refused}
-use Rattle.definitions.specs.Output.{ClockedNode, rewritten, stoppedAt, nodeFaults}
+use Rattle.definitions.specs.Output.{ClockedNode, rewritten, stoppedAt, nodeFaults, withNewNames, outputNames, outputNode, namesOut, sheetOut, definitionTokens, nodeTokens, sheetTokens, withinLimits}
 use Rattle.definitions.specs.Answer.{Input, clockings, firstOf, firstFaults}
 use Rattle.shapes.proofs.Facts.{All, all-nil, all-cons, and-left, and-right}
 use Rattle.shapes.proofs.Accepts.{Accepts, accepts, no-refused, accepts-after, is-accepted}
 use Rattle.grammar.proofs.Got.{times-cons}
 use Rattle.needs.specs.Need.{within}
 use Rattle.needs.proofs.Checked.{isSite, only-sites, sites-within}
-use Rattle.stateless.specs.Sheets.{Formings, NodeHere, withinAll, oneOf, faultsBy, firstFaultsFrom}
+use Rattle.stateless.specs.Sheets.{Formings, NodeHere, withinAll, oneOf, faultsBy, firstFaultsFrom, headTokens, outputTokens}
 use Rattle.stateless.proofs.Stops.{faultOf, stopped-at}
 
 -- ---- each node has its clocks
@@ -58,6 +64,11 @@ here-from nodes (n ∷ ns) (suc i) e h =
     let r = here-from (map (λ n. n .node) ns) ns i refl (omega arith) in
     (r .0, ap (λ (l : List Node). getElem? l (suc i)) (sym e) ∙ r .1, r .2, ap (drop (suc i)) (sym e) ∙ (r .3 ∙ ap (λ (l : List Node). r .0 .node ∷ drop (suc (suc i)) l) e), r .4, List·Memᴰ·tail (r .5))
 
+front-more : {A : Type 0} (l : List A) (i : ℕ) (a : A) → getElem? l i ≡ some a → take (suc i) l ≡ take i l ++ (a ∷ [])
+front-more [] i a e = absurd (Option·none-ne-some a e)
+front-more (b ∷ l) zero a e = ap (λ x. x ∷ []) (Option·some-injective b a e)
+front-more (b ∷ l) (suc i) a e = ap (λ (r : List _). b ∷ r) (front-more l i a e)
+
 -- THE LAW: node i, the nodes left and the nodes left behind it
 pub node-here : {nodes : List Node} {ns : List ClockedNode} → Formings nodes ns → (i : ℕ) → i < length nodes → NodeHere nodes ns i
 node-here {nodes} {ns} h i l =
@@ -70,12 +81,18 @@ node-here {nodes} {ns} h i l =
       nodes-left = r .3 ∙ ap (λ (j : ℕ). r .0 .node ∷ drop j nodes) (sym s);
       left = r .4 ∙ ap (λ (j : ℕ). r .0 ∷ drop j ns) (sym s);
       forms = h .each (r .0) (r .5);
+      front = ap (λ (j : ℕ). take j ns) s ∙ front-more ns i (r .0) (r .2);
+      before = length-take-le i ns (omega (arith, h .same-length, l));
       member = r .5;
     }
 
 -- behind the last node none is left
 pub none-left : {nodes : List Node} {ns : List ClockedNode} → Formings nodes ns → (i : ℕ) → length nodes ≤ i → drop i ns ≡ []
 none-left {nodes} {ns} h i l = drop-of-length-le ns {i = i} (omega (arith, h .same-length, l))
+
+-- and all are before
+pub all-before : {nodes : List Node} {ns : List ClockedNode} → Formings nodes ns → (i : ℕ) → length nodes ≤ i → take i ns ≡ ns
+all-before {nodes} {ns} h i l = take-all i ns (omega (arith, h .same-length, l))
 
 cons-eq : {A : Type 0} {a b : A} {l m : List A} → a ∷ l ≡ b ∷ m → (a ≡ b) × (l ≡ m)
 cons-eq e = (cc, cc)
@@ -113,6 +130,13 @@ formed-eq {A} a b e = ap un e
 formed-after : {A B : Type 0} (a : Formed A) (f : A → Formed B) (b : B) → a >>= f ≡ formed b → (x : A) × (a ≡ formed x) × (f x ≡ formed b)
 formed-after deep f b e = not-deep b e
 formed-after (formed x) f b e = (x, refl, e)
+
+-- a node's clocks are formed once, and then none is too deep
+pub same-clocking : (n : Node) (k l : Clocking) → clocking n ≡ formed k → clocking n ≡ formed l → k ≡ l
+same-clocking n k l e f = formed-eq k l (sym e ∙ f)
+
+pub not-too-deep : (n : Node) (k : Clocking) → clocking n ≡ formed k → clocking n ≡ deep → ⊥
+not-too-deep n k e f = not-deep k (sym f ∙ e)
 
 -- what `clocking` says when it forms
 pub record Checks (n : Node) (k : Clocking) : Type 0 where
@@ -250,3 +274,118 @@ module _ (r : Input) where
   pub no-faults : (ns : List ClockedNode) → firstFaultsFrom r 0 ns ≡ []
       → All (λ n. (clockFaults (n .clocking .findings) ≡ []) × (usesClocks (n .node) ≡ true → faultOf (r .sheet) (r .names) n ≡ none)) ns
   no-faults ns h n m = faultless (r .names) (r .sheet) n (no-node-faulty 0 ns h n m)
+
+-- ---- from node i on, and up to node i
+append-joined : {A B : Type 0} (f : A → List B) (l m : List A) → join (map f (l ++ m)) ≡ join (map f l) ++ join (map f m)
+append-joined f [] m = refl
+append-joined f (a ∷ l) m = ap (λ k. f a ++ k) (append-joined f l m) ∙ sym (append-assoc (f a) (join (map f l)) (join (map f m)))
+
+append-numbered : {A B : Type 0} (f : ℕ → A → List B) (i : ℕ) (l m : List A) → join (numbered f i (l ++ m)) ≡ join (numbered f i l) ++ join (numbered f (i + length l) m)
+append-numbered f i [] m = let e : i + 0 ≡ i = omega arith in rw e
+append-numbered f i (a ∷ l) m =
+    let e : i + suc (length l) ≡ suc i + length l = omega arith in
+    rw e (ap (λ k. f i a ++ k) (append-numbered f (suc i) l m) ∙ sym (append-assoc (f i a) (join (numbered f (suc i) l)) (join (numbered f (suc i + length l) m))))
+
+module _ (r : Input) {nodes : List Node} {ns : List ClockedNode} {i : ℕ} (u : NodeHere nodes ns i) where
+  pub faults-left : firstFaultsFrom r i (drop i ns) ≡ firstOf i (nodeFaults (r .names) (r .sheet) (u .clocked)) ++ firstFaultsFrom r (i + 1) (drop (i + 1) ns)
+  faults-left = ap (firstFaultsFrom r i) (u .left) ∙ faults-step r i (u .clocked) (drop (i + 1) ns)
+
+  pub faults-front : firstFaultsFrom r 0 (take (i + 1) ns) ≡ firstFaultsFrom r 0 (take i ns) ++ firstOf i (nodeFaults (r .names) (r .sheet) (u .clocked))
+  unfolding firstFaultsFrom
+  faults-front =
+      let e : 0 + length (take i ns) ≡ i = omega (arith, u .before) in
+      ap (firstFaultsFrom r 0) (u .front)
+      ∙ (append-numbered (λ i n. firstOf i (nodeFaults (r .names) (r .sheet) n)) 0 (take i ns) (u .clocked ∷ [])
+      ∙ ap (λ (k : List FaultRecord). firstFaultsFrom r 0 (take i ns) ++ k) (append-nil _ ∙ ap (λ (j : ℕ). firstOf j (nodeFaults (r .names) (r .sheet) (u .clocked))) e))
+
+-- ---- the output's names, node by node
+module _ (names : List Letters) (sheet : Sheet) where
+  pub names-out : (ns : List ClockedNode) → namesOut names sheet ns ≡ outputNames names sheet names ns
+  unfolding namesOut
+  names-out ns = refl
+
+  pub names-end : (all : List Letters) → outputNames names sheet all [] ≡ all
+  unfolding outputNames
+  names-end all = refl
+
+  pub names-step : (all : List Letters) (n : ClockedNode) (rest : List ClockedNode) → outputNames names sheet all (n ∷ rest) ≡ outputNames names sheet (withNewNames names sheet all n) rest
+  unfolding outputNames
+  names-step all n rest = refl
+
+  names-append : (all : List Letters) (l m : List ClockedNode) → outputNames names sheet all (l ++ m) ≡ outputNames names sheet (outputNames names sheet all l) m
+  unfolding outputNames
+  names-append all [] m = refl
+  names-append all (n ∷ l) m = names-append (withNewNames names sheet all n) l m
+
+  -- a node that uses no clocks adds none
+  pub names-same : (all : List Letters) (n : ClockedNode) → usesClocks (n .node) ≡ false → withNewNames names sheet all n ≡ all
+  unfolding withNewNames
+  names-same all n f = rw f
+
+  module _ {nodes : List Node} {ns : List ClockedNode} {i : ℕ} (u : NodeHere nodes ns i) (all : List Letters) where
+    pub names-left : outputNames names sheet all (drop i ns) ≡ outputNames names sheet (withNewNames names sheet all (u .clocked)) (drop (i + 1) ns)
+    names-left = ap (outputNames names sheet all) (u .left) ∙ names-step all (u .clocked) (drop (i + 1) ns)
+
+    pub names-front : outputNames names sheet all (take (i + 1) ns) ≡ withNewNames names sheet (outputNames names sheet all (take i ns)) (u .clocked)
+    unfolding outputNames
+    names-front = ap (outputNames names sheet all) (u .front) ∙ names-append all (take i ns) (u .clocked ∷ [])
+
+  -- ---- the output's tokens, node by node
+  -- THE LAW: the tokens of the types and the number of nodes, then each node's
+  pub out-tokens : (ns : List ClockedNode) → sheetTokens (sheetOut names sheet ns) ≡ headTokens (sheet .types) (length ns) ++ outputTokens names sheet (namesOut names sheet ns) ns
+  unfolding sheetTokens sheetOut headTokens outputTokens
+  out-tokens ns =
+      let types = join (map (λ d. definitionTokens (d .name) (d .body)) (sheet .types)) in
+      let e : join (map nodeTokens (map (outputNode names sheet (namesOut names sheet ns)) ns)) ≡ outputTokens names sheet (namesOut names sheet ns) ns = joined-map (outputNode names sheet (namesOut names sheet ns)) nodeTokens ns in
+      ap₂ (λ (k : ℕ) (l : List Token). Token.Types (length (sheet .types)) ∷ (types ++ (Token.Nodes k ∷ l))) (length-map ns (outputNode names sheet (namesOut names sheet ns))) e
+      ∙ ap (λ (l : List Token). Token.Types (length (sheet .types)) ∷ l) (sym (append-assoc types (Token.Nodes (length ns) ∷ []) (outputTokens names sheet (namesOut names sheet ns) ns)))
+    where
+      joined-map : {A B C : Type 0} (f : A → B) (g : B → List C) (l : List A) → join (map g (map f l)) ≡ join (map (λ a. g (f a)) l)
+      joined-map f g [] = refl
+      joined-map f g (a ∷ l) = ap (λ k. g (f a) ++ k) (joined-map f g l)
+
+  module _ (all : List Letters) where
+    pub tokens-end : outputTokens names sheet all [] ≡ []
+    unfolding outputTokens
+    tokens-end = refl
+
+    pub tokens-step : (n : ClockedNode) (rest : List ClockedNode) → outputTokens names sheet all (n ∷ rest) ≡ nodeTokens (outputNode names sheet all n) ++ outputTokens names sheet all rest
+    unfolding outputTokens
+    tokens-step n rest = refl
+
+    module _ {nodes : List Node} {ns : List ClockedNode} {i : ℕ} (u : NodeHere nodes ns i) where
+      pub tokens-left : outputTokens names sheet all (drop i ns) ≡ nodeTokens (outputNode names sheet all (u .clocked)) ++ outputTokens names sheet all (drop (i + 1) ns)
+      tokens-left = ap (outputTokens names sheet all) (u .left) ∙ tokens-step (u .clocked) (drop (i + 1) ns)
+
+      pub tokens-front : outputTokens names sheet all (take (i + 1) ns) ≡ outputTokens names sheet all (take i ns) ++ nodeTokens (outputNode names sheet all (u .clocked))
+      unfolding outputTokens
+      tokens-front =
+          ap (outputTokens names sheet all) (u .front)
+          ∙ (append-joined (λ n. nodeTokens (outputNode names sheet all n)) (take i ns) (u .clocked ∷ []) ∙ ap (λ (k : List Token). outputTokens names sheet all (take i ns) ++ k) (append-nil _))
+
+-- ---- the limits of an output
+module _ (names : List Letters) (out : Sheet) where
+  pub limits-kept : length names ≤ 1024 → length (join names) ≤ 16384 → length (sheetTokens out) ≤ 8192 → withinLimits names out ≡ true
+  unfolding withinLimits
+  limits-kept a b c = rw (le-leb (length names) 1024 a, le-leb (length (join names)) 16384 b, le-leb (length (sheetTokens out)) 8192 c)
+
+  pub many-names : 1024 < length names → withinLimits names out ≡ false
+  unfolding withinLimits
+  many-names h = rw (lt-leb (length names) 1024 h)
+
+  pub many-letters : 16384 < length (join names) → withinLimits names out ≡ false
+  unfolding withinLimits
+  many-letters h = rw (lt-leb (length (join names)) 16384 h) (and-none (leb (length names) 1024) (leb (length (sheetTokens out)) 8192))
+    where
+      and-none : (a b : Bool) → a && false && b ≡ false
+      and-none true b = refl
+      and-none false b = refl
+
+  pub many-tokens : 8192 < length (sheetTokens out) → withinLimits names out ≡ false
+  unfolding withinLimits
+  many-tokens h = rw (lt-leb (length (sheetTokens out)) 8192 h) (and-none (leb (length names) 1024) (leb (length (join names)) 16384))
+    where
+      and-none : (a b : Bool) → a && b && false ≡ false
+      and-none true true = refl
+      and-none true false = refl
+      and-none false b = refl

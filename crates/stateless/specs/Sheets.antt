@@ -4,7 +4,7 @@ use mathlib.Core.Path.{_≡_}
 use mathlib.Core.List.{List, [], _∷_, _++_, map, List·Memᴰ}
 use mathlib.Core.Bool.{Bool, true, false, _&&_}
 use mathlib.Core.Option.{Option, none, some}
-use lib.ListN.{length, drop, getElem?}
+use lib.ListN.{length, take, drop, getElem?}
 use Rattle.definitions.specs.declared.FaultRecord.{FaultRecord}
 use Rattle.definitions.specs.declared.Token.{Token}
 use Rattle.definitions.specs.Lists.{join, numbered, Letters}
@@ -21,13 +21,15 @@ pub record Formings (nodes : List Node) (ns : List ClockedNode) : Type 0 where
   pub same-length : length ns ≡ length nodes
   pub each : All (λ n. clocking (n .node) ≡ formed (n .clocking)) ns
 
--- node i with its clocks: the nodes left begin with it
+-- node i with its clocks: the nodes left begin with it, those up to it end in it
 pub record NodeHere (nodes : List Node) (ns : List ClockedNode) (i : ℕ) : Type 0 where
   pub clocked : ClockedNode
   pub node-here : getElem? nodes i ≡ some (clocked .node)
   pub here : getElem? ns i ≡ some clocked
   pub nodes-left : drop i nodes ≡ clocked .node ∷ drop (i + 1) nodes
   pub left : drop i ns ≡ clocked ∷ drop (i + 1) ns
+  pub front : take (i + 1) ns ≡ take i ns ++ (clocked ∷ [])
+  pub before : length (take i ns) ≡ i
   pub forms : clocking (clocked .node) ≡ formed (clocked .clocking)
   pub member : List·Memᴰ clocked ns
 

@@ -1,0 +1,218 @@
+-- What rewriting a sheet and the text of a fault answer, by what is known of the sheet's nodes: one law for each outcome.
+use Prim.Native.Nat.{ℕ, zero, suc, _+_, _*_, _≤_, _<_}
+use mathlib.Core.Path.{_≡_, refl, ap, _∙_}
+use mathlib.Core.List.{List, [], _∷_}
+use mathlib.Core.Bool.{Bool, true, false, _&&_}
+use mathlib.Core.Option.{some, Option·some-injective, Option·none-ne-some}
+use native.Mathlib.Omega.{arith}
+use lib.Dec.{eqb, leb}
+use lib.ListN.{length, getElem?}
+use borrow.Author.Tests.{le-leb, lt-leb}
+use Rattle.definitions.specs.declared.Refusal.{Refusal}
+use Rattle.definitions.specs.declared.FaultRecord.{FaultRecord}
+use Rattle.definitions.specs.Lists.{sum, Letters}
+use Rattle.definitions.specs.Tree.{Sheet}
+use Rattle.definitions.specs.Refusals.{Answer, accepted, refused, faulty, must, lending, _>>=_, fine, down, told}
+use Rattle.definitions.specs.Reading.{Got, got, rejected}
+use Rattle.definitions.specs.Bytes.{mostNames, mostLetters, fewestTokens, mostTokens, M, L, T, lengths, letters, cut, badName, parts}
+use Rattle.definitions.specs.Grammar.{sheet}
+use Rattle.definitions.specs.Types.{firstCycle}
+use Rattle.definitions.specs.InferClocks.{NodeFault}
+use Rattle.definitions.specs.Output.{lettersOf, ClockedNode, nodeFaults, namesOut, sheetOut, withinLimits, written}
+use Rattle.definitions.specs.Texts.{faultText}
+use Rattle.definitions.specs.Answer.{Input, input, answered, clockings, unlessFaulty, rewriteAnswer, itemAt, nodeAt, textAnswer}
+use Rattle.stateless.specs.Sheets.{NodeHere, firstFaultsFrom}
+use Rattle.stateless.proofs.Nodes.{first-faults}
+
+-- ---- reading a sheet meets no fault: it accepts or refuses
+data Plain {A : Type 0} : Answer A → Type 0 where
+  accepts : {a : A} → Plain (accepted a)
+  refuses : {r : Refusal} → Plain (refused r)
+
+plain-after : {A B : Type 0} {a : Answer A} (f : A → Answer B) → Plain a → ((x : A) → Plain (f x)) → Plain (a >>= f)
+plain-after f (accepts {a}) h = h a
+plain-after f refuses h = refuses
+
+plain-got : {A : Type 0} (g : Got A) → Plain (answered g)
+plain-got (got a p) = accepts
+plain-got (rejected r) = refuses
+
+-- a test, then the rest
+tested : {A : Type 0} (b : Bool) (r : Refusal) {a : Answer A} → Plain a → Plain (must b r >>= λ _. a)
+tested true r h = h
+tested false r h = refuses
+
+plain-parts : (bytes : List ℕ) → Plain (parts bytes)
+unfolding parts
+plain-parts bytes =
+    let bad = badName [] (cut (lengths bytes) (letters bytes)) in
+    tested (leb 12 (length bytes)) Refusal.Short
+    (tested (leb (M bytes) mostNames) (Refusal.Size 0)
+    (tested (leb (L bytes) mostLetters) (Refusal.Size 1)
+    (tested (leb fewestTokens (T bytes) && leb (T bytes) mostTokens) (Refusal.Size 2)
+    (tested (eqb (length bytes) (12 + M bytes + L bytes + 5 * T bytes)) Refusal.Length
+    (tested (eqb (sum (lengths bytes)) (L bytes)) (Refusal.Name (M bytes))
+    (tested (eqb bad (M bytes)) (Refusal.Name bad) accepts))))))
+
+plain-input : (bytes : List ℕ) → Plain (input bytes)
+unfolding input
+plain-input bytes =
+    plain-after _ (plain-parts bytes) (λ p.
+    plain-after _ (plain-got (sheet (length (p .names)) (p .tokens) 0)) (λ s.
+    tested (eqb (firstCycle (s .types) [] (s .types)) (length (s .types))) (Refusal.Cycle (firstCycle (s .types) [] (s .types))) accepts))
+
+down-eq : (r x : Refusal) → down r ≡ down x → r ≡ x
+down-eq r x e = cc
+
+-- THE LAW: what is told of reading is what it refuses
+pub input-refused : (bytes : List ℕ) (x : Refusal) → told (input bytes) ≡ down x → input bytes ≡ refused x
+input-refused bytes x e = go (plain-input bytes) e
+  where
+    go : {a : Answer Input} → Plain a → told a ≡ down x → a ≡ refused x
+    go accepts h = let z : _≡_ {A = ℕ} 0 1 = cc in absurd (omega arith)
+    go (refuses {r}) h = ap refused (down-eq r x h)
+
+pub input-accepted : (bytes : List ℕ) → told (input bytes) ≡ fine → (r : Input) × (input bytes ≡ accepted r)
+input-accepted bytes e = go (plain-input bytes) e
+  where
+    go : {a : Answer Input} → Plain a → told a ≡ fine → (r : Input) × (a ≡ accepted r)
+    go (accepts {a = r}) h = (r, refl)
+    go refuses h = let z : _≡_ {A = ℕ} 0 1 = cc in absurd (omega arith)
+
+-- ---- what is lent
+lent-enough : {A : Type 0} (needed lent : ℕ) (a : A) → needed ≤ lent → lending needed lent >>= (λ _. accepted a) ≡ accepted a
+lent-enough needed lent a h = rw (le-leb needed lent h)
+
+lent-less : {A : Type 0} (needed lent : ℕ) (a : A) → lent < needed → lending needed lent >>= (λ _. accepted a) ≡ refused (Refusal.Lent needed)
+lent-less needed lent a h = rw (lt-leb needed lent h)
+
+-- ---- rewriting a sheet
+-- the output's names, and its sheet
+abbrev pub allNames : Input → List ClockedNode → List Letters
+allNames r ns = namesOut (r .names) (r .sheet) ns
+
+abbrev pub outSheet : Input → List ClockedNode → Sheet
+outSheet r ns = sheetOut (r .names) (r .sheet) ns
+
+module _ (bytes : List ℕ) (lent : ℕ) where
+  -- refusals 1 to 7
+  pub rewrite-refused : (x : Refusal) → told (input bytes) ≡ down x → rewriteAnswer bytes lent ≡ refused x
+  unfolding rewriteAnswer
+  rewrite-refused x e = rw (input-refused bytes x e)
+
+  module _ (r : Input) (reading : input bytes ≡ accepted r) where
+    -- 9
+    pub rewrite-deep : (x : Refusal) → clockings 0 (r .sheet .nodes) ≡ refused x → rewriteAnswer bytes lent ≡ refused x
+    unfolding rewriteAnswer
+    rewrite-deep x e = rw (reading, e)
+
+    module _ (ns : List ClockedNode) (clocks : clockings 0 (r .sheet .nodes) ≡ accepted ns) where
+      -- what follows where every node has its clocks
+      after-faults : Answer (List ℕ)
+      after-faults = must (withinLimits (allNames r ns) (outSheet r ns)) Refusal.Large >>= λ _. lending (length (written (allNames r ns) (outSheet r ns))) lent >>= λ _. accepted (written (allNames r ns) (outSheet r ns))
+
+      clocked-answer : rewriteAnswer bytes lent ≡ (unlessFaulty (firstFaultsFrom r 0 ns) >>= λ _. after-faults)
+      unfolding rewriteAnswer after-faults
+      clocked-answer = rw (reading, clocks, first-faults r ns)
+
+      -- 10, by the number of faulty nodes, and by their faults
+      pub rewrite-faulty : 0 < length (firstFaultsFrom r 0 ns) → rewriteAnswer bytes lent ≡ faulty (firstFaultsFrom r 0 ns)
+      rewrite-faulty h = clocked-answer ∙ go (firstFaultsFrom r 0 ns) h
+        where
+          go : (l : List FaultRecord) → 0 < length l → (unlessFaulty l >>= λ _. after-faults) ≡ faulty l
+          go [] h = absurd (omega arith)
+          go (f ∷ l) h = refl
+
+      pub rewrite-faulty-by : (f : FaultRecord) (fs : List FaultRecord) → firstFaultsFrom r 0 ns ≡ f ∷ fs → rewriteAnswer bytes lent ≡ faulty (f ∷ fs)
+      rewrite-faulty-by f fs e = clocked-answer ∙ ap (λ (l : List FaultRecord). unlessFaulty l >>= λ _. after-faults) e
+
+      module _ (none-faulty : firstFaultsFrom r 0 ns ≡ []) where
+        faultless-answer : rewriteAnswer bytes lent ≡ after-faults
+        faultless-answer = clocked-answer ∙ ap (λ (l : List FaultRecord). unlessFaulty l >>= λ _. after-faults) none-faulty
+
+        -- 11
+        pub rewrite-large : withinLimits (allNames r ns) (outSheet r ns) ≡ false → rewriteAnswer bytes lent ≡ refused Refusal.Large
+        unfolding after-faults
+        rewrite-large w = faultless-answer ∙ ap (λ (b : Bool). must b Refusal.Large >>= λ _. lending (length (written (allNames r ns) (outSheet r ns))) lent >>= λ _. accepted (written (allNames r ns) (outSheet r ns))) w
+
+        module _ (within : withinLimits (allNames r ns) (outSheet r ns) ≡ true) where
+          limited-answer : rewriteAnswer bytes lent ≡ (lending (length (written (allNames r ns) (outSheet r ns))) lent >>= λ _. accepted (written (allNames r ns) (outSheet r ns)))
+          unfolding after-faults
+          limited-answer = faultless-answer ∙ ap (λ (b : Bool). must b Refusal.Large >>= λ _. lending (length (written (allNames r ns) (outSheet r ns))) lent >>= λ _. accepted (written (allNames r ns) (outSheet r ns))) within
+
+          -- 12
+          pub rewrite-lent : lent < length (written (allNames r ns) (outSheet r ns)) → rewriteAnswer bytes lent ≡ refused (Refusal.Lent (length (written (allNames r ns) (outSheet r ns))))
+          rewrite-lent h = limited-answer ∙ lent-less (length (written (allNames r ns) (outSheet r ns))) lent (written (allNames r ns) (outSheet r ns)) h
+
+          -- none
+          pub rewrite-accepted : length (written (allNames r ns) (outSheet r ns)) ≤ lent → rewriteAnswer bytes lent ≡ accepted (written (allNames r ns) (outSheet r ns))
+          rewrite-accepted h = limited-answer ∙ lent-enough (length (written (allNames r ns) (outSheet r ns))) lent (written (allNames r ns) (outSheet r ns)) h
+
+-- ---- an item of a list
+pub item-missing : {A : Type 0} (l : List A) (k : ℕ) → length l ≤ k → itemAt l k ≡ refused Refusal.Missing
+item-missing [] k h = refl
+item-missing (a ∷ l) zero h = absurd (omega arith)
+item-missing (a ∷ l) (suc k) h = item-missing l k (omega arith)
+
+pub item-there : {A : Type 0} (l : List A) (k : ℕ) (a : A) → getElem? l k ≡ some a → itemAt l k ≡ accepted a
+item-there [] k a e = absurd (Option·none-ne-some a e)
+item-there (b ∷ l) zero a e = ap accepted (Option·some-injective b a e)
+item-there (b ∷ l) (suc k) a e = item-there l k a e
+
+item-some : {A : Type 0} (l : List A) (k : ℕ) → k < length l → (a : A) × (itemAt l k ≡ accepted a)
+item-some [] k h = absurd (omega arith)
+item-some (a ∷ l) zero h = (a, refl)
+item-some (a ∷ l) (suc k) h = item-some l k (omega arith)
+
+-- ---- node k, which the queries ask for
+module _ (r : Input) (k : ℕ) where
+  -- 8
+  pub node-missing : length (r .sheet .nodes) ≤ k → nodeAt r k ≡ refused Refusal.Missing
+  unfolding nodeAt
+  node-missing h = rw (item-missing (r .sheet .nodes) k h)
+
+  -- 9
+  pub node-deep : k < length (r .sheet .nodes) → (x : Refusal) → clockings 0 (r .sheet .nodes) ≡ refused x → nodeAt r k ≡ refused x
+  unfolding nodeAt
+  node-deep h x e = rw (item-some (r .sheet .nodes) k h .1, e)
+
+  pub node-there : (ns : List ClockedNode) → clockings 0 (r .sheet .nodes) ≡ accepted ns → (u : NodeHere (r .sheet .nodes) ns k) → nodeAt r k ≡ accepted (u .clocked)
+  unfolding nodeAt
+  node-there ns e u = rw (item-there (r .sheet .nodes) k (u .clocked .node) (u .node-here), e, item-there ns k (u .clocked) (u .here))
+
+-- ---- the text of fault j of node k
+module _ (bytes : List ℕ) (k j lent : ℕ) where
+  -- refusals 1 to 7
+  pub text-refused : (x : Refusal) → told (input bytes) ≡ down x → textAnswer bytes k j lent ≡ refused x
+  unfolding textAnswer
+  text-refused x e = rw (input-refused bytes x e)
+
+  module _ (r : Input) (reading : input bytes ≡ accepted r) where
+    -- 8, no such node
+    pub text-no-node : length (r .sheet .nodes) ≤ k → textAnswer bytes k j lent ≡ refused Refusal.Missing
+    unfolding textAnswer
+    text-no-node h = rw (reading, node-missing r k h)
+
+    -- 9
+    pub text-deep : k < length (r .sheet .nodes) → (x : Refusal) → clockings 0 (r .sheet .nodes) ≡ refused x → textAnswer bytes k j lent ≡ refused x
+    unfolding textAnswer
+    text-deep h x e = rw (reading, node-deep r k h x e)
+
+    module _ (ns : List ClockedNode) (clocks : clockings 0 (r .sheet .nodes) ≡ accepted ns) (u : NodeHere (r .sheet .nodes) ns k) where
+      -- 8, no such fault
+      pub text-no-fault : length (nodeFaults (r .names) (r .sheet) (u .clocked)) ≤ j → textAnswer bytes k j lent ≡ refused Refusal.Missing
+      unfolding textAnswer
+      text-no-fault h = rw (reading, node-there r k ns clocks u, item-missing (nodeFaults (r .names) (r .sheet) (u .clocked)) j h)
+
+      module _ (f : NodeFault) (there : getElem? (nodeFaults (r .names) (r .sheet) (u .clocked)) j ≡ some f) where
+        text-answer : textAnswer bytes k j lent ≡ (lending (length (faultText (lettersOf (r .names)) (f .fault))) lent >>= λ _. accepted (faultText (lettersOf (r .names)) (f .fault)))
+        unfolding textAnswer
+        text-answer = rw (reading, node-there r k ns clocks u, item-there (nodeFaults (r .names) (r .sheet) (u .clocked)) j f there)
+
+        -- 12
+        pub text-lent : lent < length (faultText (lettersOf (r .names)) (f .fault)) → textAnswer bytes k j lent ≡ refused (Refusal.Lent (length (faultText (lettersOf (r .names)) (f .fault))))
+        text-lent h = text-answer ∙ lent-less (length (faultText (lettersOf (r .names)) (f .fault))) lent (faultText (lettersOf (r .names)) (f .fault)) h
+
+        -- none
+        pub text-accepted : length (faultText (lettersOf (r .names)) (f .fault)) ≤ lent → textAnswer bytes k j lent ≡ accepted (faultText (lettersOf (r .names)) (f .fault))
+        text-accepted h = text-answer ∙ lent-enough (length (faultText (lettersOf (r .names)) (f .fault))) lent (faultText (lettersOf (r .names)) (f .fault)) h

@@ -9,11 +9,11 @@ use native.Mathlib.Omega.{arith}
 use types.Run.{miss}
 use Rattle.definitions.specs.declared.Condition.{Condition}
 use Rattle.definitions.specs.Lists.{choose}
-use Rattle.definitions.specs.Tree.{Declared, TypeDef, Head, Expr, Exprs, Node}
+use Rattle.definitions.specs.Tree.{Declared, TypeDef, Expr, Exprs, Node}
 use Rattle.definitions.specs.Clock.{Clock, isBase, parent}
 use Rattle.definitions.specs.Declock.{Shape, bare, other, calls, operatorOutputs}
 use Rattle.operands.specs.declared.Role.{Role}
-use Rattle.operands.specs.Role.{roleOfHead, roleOfExpr, operandsOf}
+use Rattle.operands.specs.Role.{roleOfExpr}
 use Rattle.operands.proofs.Roles.{Among}
 use Rattle.callees.specs.Callees.{isThere}
 use Rattle.stateless.specs.Yield.{shapeAfter}

@@ -1,8 +1,6 @@
 -- `rewritten_shape::shape_after` meets its contract.
 -- Assumes nothing.
-use mathlib.Core.Path.{refl}
 use Prim.Native.Nat.{_-_, _^_}
-use native.Mathlib.Omega.{arith}
 use lib.ListN.{length}
 use denote.Ref.{now}
 use Rattle.operands.proofs.Roles.{arm}

@@ -1,0 +1,57 @@
+-- `left_defaults::put_left_default` meets its contract: by where the name's type was found.
+-- Assumes nothing.
+use Rattle.left_defaults.proofs.Laws.{wrote-declared, wrote-basic, not-unknown}
+use borrow.Author.Needs.{needs}
+use Rattle.left_defaults.proofs.put_left_default.Statement.{statement}
+use Rattle.left_defaults.proofs.put_left_default.Tie as tie
+use Rattle.left_defaults.proofs.put_left_default.Reads as reads
+use Rattle.left_defaults.proofs.put_left_default.Lts as lts
+use Rattle.defaults.proofs.default_literal.Reads as default-literal-reads
+use Rattle.defaults.proofs.emit_default.Reads as emit-default-reads
+use Rattle.defaults.proofs.emit_literal.Reads as emit-literal-reads
+use Rattle.operand_type.proofs.last_type.Reads as last-type-reads
+
+last-type-requires : tie.Need-last-type-requires
+last-type-requires c κs = search needs
+
+enum-known-found : tie.Need-enum-known-found
+enum-known-found c = search needs
+
+emit-default-requires : tie.Need-emit-default-requires
+emit-default-requires c κs = search needs
+
+enum-known-found-2 : tie.Need-enum-known-found-2
+enum-known-found-2 c = search needs
+
+default-literal-requires : tie.Need-default-literal-requires
+default-literal-requires c κs = search needs
+
+emit-literal-requires : tie.Need-emit-literal-requires
+emit-literal-requires c κs = search needs
+
+enum-told : tie.Need-enum-told
+enum-told c = search needs
+
+returns : tie.Need-returns
+returns c = λ ts l n u t d free. wrote-declared ts l n _ _ _ free _ (c .before .before .before .before .before .before .last-type .ensures n u d) _ _ u _ d _ (c .before .before .before .before .found .given .1) λ a q e g h. c .emit-default .ensures ts a q e t g h
+
+returns-2 : tie.Need-returns-2
+returns-2 c = λ ts l n u t d free. wrote-basic ts l n _ _ _ free _ (c .before .before .before .before .before .before .before .last-type .ensures n u d) _ _ _ _ (c .before .before .before .before .before .found2 .given .1) (c .before .before .before .default-literal .ensures) (c .emit-literal .ensures)
+
+returns-3 : tie.Need-returns-3
+returns-3 c = λ ts l n u t d free. absurd (not-unknown ts l n _ _ _ free _ (c .before .before .last-type .ensures n u d) (c .enum-told .given .1))
+
+pub put-left-default-spec : {M : Type 1} → statement M
+put-left-default-spec =
+    tie.close
+    (tie.spec
+    last-type-requires
+    enum-known-found
+    emit-default-requires
+    enum-known-found-2
+    default-literal-requires
+    emit-literal-requires
+    enum-told
+    returns
+    returns-2
+    returns-3)

@@ -1,0 +1,4 @@
+-- What the proofs of several functions use, and those of other crates.
+pub mod Typed
+pub mod Laws
+pub mod Equations

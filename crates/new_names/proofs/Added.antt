@@ -6,7 +6,6 @@ use mathlib.Core.List.{List, [], _∷_, _++_, map}
 use native.Mathlib.Nat.{zero-add}
 use native.Mathlib.Numerals.{add-one}
 use native.Mathlib.Omega.{arith}
-use lib.Dec.{leb}
 use lib.ListN.{length, getD, take, drop, set}
 use lib.Seq.{getD-take, length-take-le}
 use borrow.Author.Tests.{lt-leb}
@@ -18,7 +17,6 @@ use Rattle.definitions.specs.Output.{stemLetters, idOf, condactId, addName, add
 use Rattle.spelling.specs.Writing.{overAt}
 use Rattle.spelling.proofs.Writing.{over-nothing, over-front, over-past, over-set, over-then, over-take, length-over}
 use Rattle.fresh.specs.declared.Counts.{Counts}
-use Rattle.fresh.specs.Places.{lettersAt}
 use Rattle.fresh.specs.Table.{namesOf, within, Sound, Holds}
 use Rattle.fresh.specs.Free.{newNumber, newNumbers, takenOf}
 use Rattle.fresh.proofs.Free.{new-letters}

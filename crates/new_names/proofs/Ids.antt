@@ -17,7 +17,7 @@ use Rattle.grammar.proofs.Parts.{counted-within}
 use Rattle.grammar.proofs.Longer.{name-grows}
 use Rattle.grammar.proofs.Got.{same, tagged-value, times-nil, times-cons, declaration-got, declarations-got, node-got}
 use Rattle.spelling.specs.Writing.{overAt}
-use Rattle.spelling.proofs.Writing.{over-nothing, over-set, over-then, over-take, length-over}
+use Rattle.spelling.proofs.Writing.{over-nothing, over-set, over-then, over-take}
 use Rattle.new_names.specs.Names.{nameOf}
 
 pub map-append : {A B : Type 0} (f : A → B) (a b : List A) → map f (a ++ b) ≡ map f a ++ map f b

@@ -1,6 +1,7 @@
 // A node's new names: the ids that the node declares, the numbers free for its new names, these names added to the output's, and
 // their ids there.
-// `starts` and `letters` are the input's names; `lengths` and `text`, with counts, a table of the output's names.
+// `starts` and `letters` are the input's names; `lengths` and `text`, with counts, a table of the output's names. A table that is
+// full stays full: there are then no places for the names that it is to hold (`Holds`).
 use fresh::Counts;
 use grammar::Read;
 use layout::NodeLayout;

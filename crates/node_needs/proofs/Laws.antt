@@ -1,5 +1,5 @@
 -- What equations need, one by one.
-use Prim.Native.Nat.{ℕ, suc, _-_, _*_, _≤_, _<_}
+use Prim.Native.Nat.{ℕ, suc, _-_, _<_}
 use mathlib.Core.Path.{_≡_, refl, sym, ap, _∙_}
 use mathlib.Core.Bool.{Bool, true, false}
 use mathlib.Core.List.{List, [], _∷_}

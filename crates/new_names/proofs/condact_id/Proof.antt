@@ -1,12 +1,9 @@
 -- `new_names::condact_id` meets its contract. Assumes nothing.
-use Prim.Native.Nat.{_-_}
 use mathlib.Core.Path.{_∙_}
-use denote.Ref.{now}
 use Rattle.definitions.specs.Lists.{bytes}
 use Rattle.fresh.specs.Table.{namesOf}
 use Rattle.fresh.proofs.Table.{used-names, used-letters, used-within}
 use Rattle.new_names.proofs.Added.{id-fits}
-use borrow.Author.Needs.{needs}
 use Rattle.new_names.proofs.condact_id.Statement.{statement}
 use Rattle.new_names.proofs.condact_id.Tie as tie
 

@@ -1,5 +1,4 @@
 -- `new_names::declared_ids` meets its contract. Assumes nothing.
-use denote.Ref.{now}
 use Rattle.new_names.proofs.Ids.{three-put}
 use borrow.Author.Needs.{needs}
 use Rattle.new_names.proofs.declared_ids.Statement.{statement}

@@ -1,15 +1,12 @@
 -- `new_names::id_of` meets its contract. Assumes nothing.
-use Prim.Native.Nat.{_-_}
 use mathlib.Core.Path.{_∙_}
 use mathlib.Core.List.{_++_}
-use denote.Ref.{now}
 use Rattle.definitions.specs.Lists.{decimal}
 use Rattle.definitions.specs.Output.{stemLetters}
 use Rattle.spelling.specs.Stems.{stemOf}
 use Rattle.fresh.specs.Table.{namesOf}
 use Rattle.fresh.proofs.Table.{used-names, used-letters, used-within}
 use Rattle.new_names.proofs.Added.{id-fits}
-use borrow.Author.Needs.{needs}
 use Rattle.new_names.proofs.id_of.Statement.{statement}
 use Rattle.new_names.proofs.id_of.Tie as tie
 

@@ -1,4 +1,5 @@
 -- `node_needs::gates_right` meets its contract. Assumes nothing.
+use native.Mathlib.Omega.{arith}
 use Rattle.clock.specs.Value.{valueOf}
 use Rattle.stateless.specs.Yield.{shapeAfter}
 use Rattle.rewritten_shape.specs.After.{afterOf}
@@ -8,7 +9,7 @@ use Rattle.node_needs.proofs.gates_right.Statement.{statement}
 use Rattle.node_needs.proofs.gates_right.Tie as tie
 
 returns : tie.Need-returns
-returns c = λ e q types l node g h. one-left (c .before .before .before .args .condact) (c .before .before .before .args .left) (shapeAfter types l node (c .before .before .before .args .condact) (valueOf (c .before .before .before .args .c)) e) (c .if1 .taken)
+returns c = λ e q types l node g h. one-left (c .before .before .before .args .condact) (c .before .before .before .args .left) (shapeAfter types l node (c .before .before .before .args .condact) (valueOf (c .before .before .before .args .c)) e) (omega (arith, c .if1 .taken))
 
 shape-after-requires : tie.Need-shape-after-requires
 shape-after-requires c κs = search needs

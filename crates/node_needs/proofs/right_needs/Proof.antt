@@ -1,6 +1,5 @@
 -- `node_needs::right_needs` meets its contract. Assumes nothing.
 use mathlib.Core.Path.{_∙_}
-use denote.Ref.{now}
 use Rattle.clock.specs.Value.{valueOf}
 use Rattle.node_needs.proofs.Laws.{right-base, right-flagged}
 use borrow.Author.Needs.{needs}

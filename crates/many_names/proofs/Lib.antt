@@ -1,0 +1,5 @@
+pub mod Pigeons
+pub mod Numbers
+pub mod Named
+pub mod Many
+pub mod Large

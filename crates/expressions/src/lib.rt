@@ -1,7 +1,8 @@
 // Rewriting an expression of an accepted sheet onto the base clock: its tokens, or those of the equations or the declarations
 // of the holds that it makes, or nothing, to learn how many holds there are. `tags` and `values` are the sheet's tokens, `places`
 // and `type_places` those of its nodes and type definitions; `flags` and `firsts` have the clocks with flags, whose ids are in
-// `flag_ids` and `first_ids`; `hold_ids` has the ids of holds by their numbers. `otags` and `ovalues` are the output's tokens.
+// `flag_ids` and `first_ids`; `hold_ids` has the ids of holds by their numbers. `otags` and `ovalues` are the output's tokens, of which w
+// are written.
 use clock::Clock;
 use definitions::ExprToken;
 use definitions::Token;
@@ -25,7 +26,7 @@ ghost use Rattle.expressions.specs.Made.{mostHolds, Made, MadeAll, Fine,
 
 // Where the next token goes, how many holds there are, and where what was walked ends.
 pub struct Walked {
-    pub w: usize,
+    pub next: usize,
     pub holds: u32,
     pub end: usize,
 }
@@ -53,7 +54,7 @@ pub fn expr(
 ) -> Walked
     requires { ⌜ length (now values) ≡ length (now tags) ⌝ }
     requires { ⌜ (k .nodes ≤ 16) × (k .types ≤ 32) ⌝ }
-    ensures { λ r. ⌜ ((g : Grounds (now (tags .entry)) (now (values .entry)) (now (places .entry)) (now («type_places» .entry)) (now (flags .entry)) (now (firsts .entry)) k layout) (ids : Ids) (e : Expr) (q : ℕ) → ids ≡ idsOf (now (flags .entry)) (now (firsts .entry)) (now («flag_ids» .entry)) (now («first_ids» .entry)) (now («hold_ids» .entry)) k → Fine (k .names) (tokens (now (tags .entry)) (now (values .entry))) (g .types) (g .nodes) (g .node) ids (valueOf c) n at e q → Made mode ids n (yield (g .types) (g .nodes) (g .node) ids (valueOf c) n e) q (out (now (otags .entry)) (now (ovalues .entry)) w) (out (now (otags .exit)) (now (ovalues .exit)) (r .w)) r) ⌝ }
+    ensures { λ r. ⌜ ((g : Grounds (now (tags .entry)) (now (values .entry)) (now (places .entry)) (now («type_places» .entry)) (now (flags .entry)) (now (firsts .entry)) k layout) (ids : Ids) (e : Expr) (q : ℕ) → ids ≡ idsOf (now (flags .entry)) (now (firsts .entry)) (now («flag_ids» .entry)) (now («first_ids» .entry)) (now («hold_ids» .entry)) k → Fine (k .names) (tokens (now (tags .entry)) (now (values .entry))) (g .types) (g .nodes) (g .node) ids (valueOf c) n at e q → Made mode ids n (yield (g .types) (g .nodes) (g .node) ids (valueOf c) n e) q (out (now (otags .entry)) (now (ovalues .entry)) w) (out (now (otags .exit)) (now (ovalues .exit)) (r .next)) r) ⌝ }
 {
     let v = copying::view(tags, values, k.names, at);
     let first = v.first;
@@ -62,7 +63,7 @@ pub fn expr(
     let role = v.role;
     if first <= at {
         return Walked {
-            w: w,
+            next: w,
             holds: n,
             end: at,
         };
@@ -107,12 +108,12 @@ pub fn expr(
                 n,
                 place,
             );
-            let b = r.w;
+            let b = r.next;
             let holds = r.holds;
             let o = operands::after_operand(tags, gap, r.end);
             let end = o.next;
             Walked {
-                w: b,
+                next: b,
                 holds: holds,
                 end: end,
             }
@@ -153,7 +154,7 @@ pub fn expr(
                 count,
                 first,
             );
-            let inner = r.w;
+            let inner = r.next;
             let holds = r.holds;
             let end = r.end;
             let b = openings::closing(
@@ -169,7 +170,7 @@ pub fn expr(
                 inner,
             );
             Walked {
-                w: b,
+                next: b,
                 holds: holds,
                 end: end,
             }
@@ -203,11 +204,11 @@ pub fn exprs(
 ) -> Walked
     requires { ⌜ length (now values) ≡ length (now tags) ⌝ }
     requires { ⌜ (k .nodes ≤ 16) × (k .types ≤ 32) ⌝ }
-    ensures { λ r. ⌜ ((g : Grounds (now (tags .entry)) (now (values .entry)) (now (places .entry)) (now («type_places» .entry)) (now (flags .entry)) (now (firsts .entry)) k layout) (ids : Ids) (es : Exprs) (q : ℕ) → ids ≡ idsOf (now (flags .entry)) (now (firsts .entry)) (now («flag_ids» .entry)) (now («first_ids» .entry)) (now («hold_ids» .entry)) k → FineAll (k .names) (tokens (now (tags .entry)) (now (values .entry))) (g .types) (g .nodes) (g .node) ids (valueOf here) (valueOf rest) n gap count at es q → MadeAll (k .names) (tokens (now (tags .entry)) (now (values .entry))) mode ids n (yields (g .types) (g .nodes) (g .node) ids (valueOf here) (valueOf rest) n es) gap count at q (out (now (otags .entry)) (now (ovalues .entry)) w) (out (now (otags .exit)) (now (ovalues .exit)) (r .w)) r) ⌝ }
+    ensures { λ r. ⌜ ((g : Grounds (now (tags .entry)) (now (values .entry)) (now (places .entry)) (now («type_places» .entry)) (now (flags .entry)) (now (firsts .entry)) k layout) (ids : Ids) (es : Exprs) (q : ℕ) → ids ≡ idsOf (now (flags .entry)) (now (firsts .entry)) (now («flag_ids» .entry)) (now («first_ids» .entry)) (now («hold_ids» .entry)) k → FineAll (k .names) (tokens (now (tags .entry)) (now (values .entry))) (g .types) (g .nodes) (g .node) ids (valueOf here) (valueOf rest) n gap count at es q → MadeAll (k .names) (tokens (now (tags .entry)) (now (values .entry))) mode ids n (yields (g .types) (g .nodes) (g .node) ids (valueOf here) (valueOf rest) n es) gap count at q (out (now (otags .entry)) (now (ovalues .entry)) w) (out (now (otags .exit)) (now (ovalues .exit)) (r .next)) r) ⌝ }
 {
     if count == 0 {
         return Walked {
-            w: w,
+            next: w,
             holds: n,
             end: at,
         };
@@ -234,7 +235,7 @@ pub fn exprs(
         n,
         place,
     );
-    let inner = r.w;
+    let inner = r.next;
     let holds = r.holds;
     let end = r.end;
     let o = operands::after_operand(tags, gap, end);
@@ -243,7 +244,7 @@ pub fn exprs(
     let b = openings::put_span(otags, ovalues, inner, mode, tags, values, end, next);
     if next <= at {
         return Walked {
-            w: b,
+            next: b,
             holds: holds,
             end: at,
         };
@@ -297,7 +298,7 @@ pub fn hold(
 ) -> Walked
     requires { ⌜ length (now values) ≡ length (now tags) ⌝ }
     requires { ⌜ (k .nodes ≤ 16) × (k .types ≤ 32) ⌝ }
-    ensures { λ r. ⌜ ((g : Grounds (now (tags .entry)) (now (values .entry)) (now (places .entry)) (now («type_places» .entry)) (now (flags .entry)) (now (firsts .entry)) k layout) (ids : Ids) (e : Expr) (q : ℕ) (a : Ty) → ids ≡ idsOf (now (flags .entry)) (now (firsts .entry)) (now («flag_ids» .entry)) (now («first_ids» .entry)) (now («hold_ids» .entry)) k → Fine (k .names) (tokens (now (tags .entry)) (now (values .entry))) (g .types) (g .nodes) (g .node) ids (valueOf c) n at e q → flag ≡ ids .flag (valueOf c) → operandType (declared (g .node)) e ≡ some a → held (g .types) (g .nodes) (g .node) ids (valueOf c) a (yield (g .types) (g .nodes) (g .node) ids (valueOf c) n e) .after ≤ mostHolds → Made mode ids n (held (g .types) (g .nodes) (g .node) ids (valueOf c) a (yield (g .types) (g .nodes) (g .node) ids (valueOf c) n e)) q (out (now (otags .entry)) (now (ovalues .entry)) w) (out (now (otags .exit)) (now (ovalues .exit)) (r .w)) r) ⌝ }
+    ensures { λ r. ⌜ ((g : Grounds (now (tags .entry)) (now (values .entry)) (now (places .entry)) (now («type_places» .entry)) (now (flags .entry)) (now (firsts .entry)) k layout) (ids : Ids) (e : Expr) (q : ℕ) (a : Ty) → ids ≡ idsOf (now (flags .entry)) (now (firsts .entry)) (now («flag_ids» .entry)) (now («first_ids» .entry)) (now («hold_ids» .entry)) k → Fine (k .names) (tokens (now (tags .entry)) (now (values .entry))) (g .types) (g .nodes) (g .node) ids (valueOf c) n at e q → flag ≡ ids .flag (valueOf c) → operandType (declared (g .node)) e ≡ some a → held (g .types) (g .nodes) (g .node) ids (valueOf c) a (yield (g .types) (g .nodes) (g .node) ids (valueOf c) n e) .after ≤ mostHolds → Made mode ids n (held (g .types) (g .nodes) (g .node) ids (valueOf c) a (yield (g .types) (g .nodes) (g .node) ids (valueOf c) n e)) q (out (now (otags .entry)) (now (ovalues .entry)) w) (out (now (otags .exit)) (now (ovalues .exit)) (r .next)) r) ⌝ }
 {
     let m = openings::inner_mode(mode);
     let r = expr(
@@ -320,11 +321,10 @@ pub fn hold(
         n,
         at,
     );
-    let inner = r.w;
+    let inner = r.next;
     let holds = r.holds;
     let end = r.end;
-    let number = holds as usize;
-    let x = openings::id_at(hold_ids, number);
+    let x = openings::hold_id(hold_ids, holds);
     let more = openings::next_hold(holds);
     match mode {
         Mode::Equations => {
@@ -349,7 +349,7 @@ pub fn hold(
                 n,
                 at,
             );
-            let value = s.w;
+            let value = s.next;
             let b = defaults::emit_two(
                 otags,
                 ovalues,
@@ -358,7 +358,7 @@ pub fn hold(
                 Token::Expression(ExprToken::Var(x)),
             );
             Walked {
-                w: b,
+                next: b,
                 holds: more,
                 end: end,
             }
@@ -376,7 +376,7 @@ pub fn hold(
                 x,
             );
             Walked {
-                w: b,
+                next: b,
                 holds: more,
                 end: end,
             }
@@ -391,7 +391,7 @@ pub fn hold(
                 Token::Expression(ExprToken::Var(x)),
             );
             Walked {
-                w: b,
+                next: b,
                 holds: more,
                 end: end,
             }

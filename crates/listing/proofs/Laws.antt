@@ -56,7 +56,7 @@ module _ (f : ℕ → Clock) (o : List ℕ) where
       let e : i + suc n ≡ i + 1 + n = omega arith in
       rw e (ap (λ (l : List Clock). f (getD o i 0) ∷ l) (picked-last (i + 1) n))
 
-  picked-length : (i n : ℕ) → length (picked f o i n) ≡ n
+  pub picked-length : (i n : ℕ) → length (picked f o i n) ≡ n
   unfolding picked
   picked-length i zero = refl
   picked-length i (suc n) = ap suc (picked-length (i + 1) n)
@@ -80,7 +80,7 @@ module _ (f : ℕ → Clock) (o : List ℕ) where
 -- ---- a line for each equation
 module _ (clocks : Clocks) where
   -- an equation with its clock, before others
-  clocked-cons : (e : Equation) (es : List Equation) (cs : List Clocked) → clockedBy clocks (e ∷ es) ≡ formed cs
+  pub clocked-cons : (e : Equation) (es : List Equation) (cs : List Clocked) → clockedBy clocks (e ∷ es) ≡ formed cs
       → (o : Option Clock) × (ds : List Clocked) × (natural clocks (e .right) ≡ formed o) × (clockedBy clocks es ≡ formed ds) × (cs ≡ record { clock = orBase o; equation = e } ∷ ds)
   unfolding clockedBy
   clocked-cons e es cs h = go (natural clocks (e .right)) (clockedBy clocks es) refl refl h

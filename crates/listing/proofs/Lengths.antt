@@ -60,7 +60,7 @@ few-sites (site c ∷ l) = go (isBase c) (few-sites l)
     go true h = omega arith
     go false h = omega arith
 
-few-faults : (l : List Finding) → length (clockFaults l) ≤ length l
+pub few-faults : (l : List Finding) → length (clockFaults l) ≤ length l
 unfolding clockFaults
 few-faults [] = omega arith
 few-faults (found f ∷ l) = omega (arith, few-faults l)

@@ -167,7 +167,7 @@ pub fn put_node(
 }
 
 // How long the listing of a node is.
-fn measure_node(
+pub fn measure_node(
     starts: &[u32],
     letters: &[u8],
     tags: &[u8],

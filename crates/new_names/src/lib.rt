@@ -183,6 +183,7 @@ pub fn add_locals(
     hold_numbers: &[u32],
 ) -> Counts
     requires { ⌜ Sound (now lengths) (now text) c ⌝ }
+    ensures { λ r. ⌜ Sound (now (lengths .exit)) (now (text .exit)) r ⌝ }
     ensures { λ r. ⌜ ((names : List Letters) (node : Node) (w : Needs) (flagRows firstRows : List ℕ) (all : List Letters) → Ordered (lettersOf names) flagRows (now («flag_order» .entry)) (l .flags) (w .flags) → Ordered (lettersOf names) firstRows (now («first_order» .entry)) (l .firsts) (w .firsts) → Numbered names node ck (now («flag_numbers» .entry)) (length (w .flags)) → Numbered names node first (now («first_numbers» .entry)) (length (w .firsts)) → Numbered names node hold (now («hold_numbers» .entry)) (w .holds) → l .holds ≡ w .holds → l .condact ≡ w .condact → Holds (now (lengths .entry)) (now (text .entry)) c all → Holds (now (lengths .exit)) (now (text .exit)) r (namesBy names all node w)) ⌝ }
 {
     let a = add_ordered(

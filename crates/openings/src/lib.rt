@@ -89,6 +89,13 @@ pub fn id_at(ids: &[u32], i: usize) -> u32
     if i < ids.len() { ids[i] } else { 0 }
 }
 
+// The id of a hold, by its number.
+pub fn hold_id(ids: &[u32], n: u32) -> u32
+    ensures { λ r. ⌜ r ≡ getD (now (ids .entry)) n 0 ⌝ }
+{
+    id_at(ids, n as usize)
+}
+
 // The id of a clock's flag: it stands at the clock's place among the n clocks with flags.
 pub fn flag_id(rows: &[u32], n: usize, ids: &[u32], c: Clock) -> u32
     ensures { λ r. ⌜ (17 * n ≤ length (now (rows .entry)) → r ≡ getD (now (ids .entry)) (clockPlace (valueOf c) (clocksIn (now (rows .entry)) n)) 0) ⌝ }

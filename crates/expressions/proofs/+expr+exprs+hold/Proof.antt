@@ -34,7 +34,7 @@ use Rattle.needs.proofs.here_on.Reads as here-on-reads
 use Rattle.needs.proofs.rest_on.Reads as rest-on-reads
 use Rattle.needs.proofs.turn_of.Reads as turn-of-reads
 use Rattle.openings.proofs.closing.Reads as closing-reads
-use Rattle.openings.proofs.id_at.Reads as id-at-reads
+use Rattle.openings.proofs.hold_id.Reads as hold-id-reads
 use Rattle.openings.proofs.inner_mode.Reads as inner-mode-reads
 use Rattle.openings.proofs.next_hold.Reads as next-hold-reads
 use Rattle.openings.proofs.opening.Reads as opening-reads
@@ -82,7 +82,7 @@ abbrev exprs-uses : ℕ → exprs-lts.Claims
 exprs-uses t = (operand-at-reads.Asked, operand-at-reads.Learnt, put-span-reads.Asked, put-span-reads.Learnt, expr-below t, expr.Post, after-operand-reads.Asked, after-operand-reads.Learnt, exprs-below t, exprs.Post)
 
 abbrev hold-uses : ℕ → hold-lts.Claims
-hold-uses t = (inner-mode-reads.Asked, inner-mode-reads.Learnt, expr-below t, expr.Post, id-at-reads.Asked, id-at-reads.Learnt, next-hold-reads.Asked, next-hold-reads.Learnt, put-hold-reads.Asked, put-hold-reads.Learnt, emit-two-reads.Asked, emit-two-reads.Learnt, put-declaration-reads.Asked, put-declaration-reads.Learnt, put-two-reads.Asked, put-two-reads.Learnt)
+hold-uses t = (inner-mode-reads.Asked, inner-mode-reads.Learnt, expr-below t, expr.Post, hold-id-reads.Asked, hold-id-reads.Learnt, next-hold-reads.Asked, next-hold-reads.Learnt, put-hold-reads.Asked, put-hold-reads.Learnt, emit-two-reads.Asked, emit-two-reads.Learnt, put-declaration-reads.Asked, put-declaration-reads.Learnt, put-two-reads.Asked, put-two-reads.Learnt)
 
 expr-view-requires : (t : ℕ) → expr-lts.Need-view-requires (expr-uses t) (expr-at t) expr.Post
 expr-view-requires t c κs = search needs
@@ -190,11 +190,8 @@ hold-inner-mode-requires t c κs = search needs
 hold-expr-requires : (t : ℕ) → hold-lts.Need-expr-requires (hold-uses t) (hold-at t) hold.Post
 hold-expr-requires t c κs = (omega (arith, c .before .before .before .before .before .before .before .before .before .before .pre .0), c .before .before .before .before .before .before .before .before .before .before .pre .1)
 
-hold-cast-number : (t : ℕ) → hold-lts.Need-cast-number (hold-uses t) (hold-at t) hold.Post
-hold-cast-number t c = search needs
-
-hold-id-at-requires : (t : ℕ) → hold-lts.Need-id-at-requires (hold-uses t) (hold-at t) hold.Post
-hold-id-at-requires t c κs = search needs
+hold-hold-id-requires : (t : ℕ) → hold-lts.Need-hold-id-requires (hold-uses t) (hold-at t) hold.Post
+hold-hold-id-requires t c κs = search needs
 
 hold-next-hold-requires : (t : ℕ) → hold-lts.Need-next-hold-requires (hold-uses t) (hold-at t) hold.Post
 hold-next-hold-requires t c κs = search needs
@@ -221,13 +218,13 @@ hold-put-two-requires : (t : ℕ) → hold-lts.Need-put-two-requires (hold-uses 
 hold-put-two-requires t c κs = search needs
 
 hold-returns : (t : ℕ) → hold-lts.Need-returns (hold-uses t) (hold-at t) hold.Post
-hold-returns t c = λ g ids e q a i f flagged typed few. hold-equation (g .types) (g .nodes) (g .node) ids (valueOf (c .before .before .before .before .before .before .before .before .before .before .before .before .before .before .before .before .before .before .before .before .before .before .before .before .args .c)) a (c .before .before .before .before .before .before .before .before .before .before .before .before .before .before .before .before .before .before .before .before .before .before .before .before .args .n) e q few (c .before .before .before .before .before .before .before .before .before .before .before .before .before .before .before .before .before .before .before .before .before .before .before .before .args .mode) (c .before .before .before .before .before .before .before .before .before .before .before .before .before .before .before .before .inner-mode .result) (c .before .before .before .before .before .before .before .before .before .before .before .before .before .before .before .before .inner-mode .ensures) _ _ (c .before .before .before .before .before .before .before .before .before .before .before .before .before .expr .result) (c .before .before .before .before .before .before .before .before .before .before .before .before .before .expr .ensures g ids e q i f) (now (c .before .before .before .before .before .before .before .before .before .before .before .before .before .before .before .before .before .before .before .before .before .before .before .before .args .hold-ids)) (λ l. ap (λ (z : Ids). z .hold l) i) (c .before .before .before .before .before .before .before .before .before .before .before .before .id-at .result) (c .before .before .before .before .before .before .before .before .before .before .before .before .id-at .ensures) (c .before .before .before .before .before .before .before .before .before .before .before .next-hold .result) (c .before .before .before .before .before .before .before .before .before .before .before .next-hold .ensures) _ refl refl (c .before .before .before .before .before .before .before .before .before .before .before .before .before .before .before .before .before .before .before .before .before .before .before .before .args .flag) _ _ _ _ flagged (c .before .before .before .before .before .before .before .before .before .enum-told .given .1) (c .before .before .before .before .before .before .put-hold .ensures) (c .before .before .before .expr2 .ensures g ids e q i f) (c .emit-two .ensures)
+hold-returns t c = λ g ids e q a i f flagged typed few. hold-equation (g .types) (g .nodes) (g .node) ids (valueOf (c .before .before .before .before .before .before .before .before .before .before .before .before .before .before .before .before .before .before .before .before .before .before .before .before .args .c)) a (c .before .before .before .before .before .before .before .before .before .before .before .before .before .before .before .before .before .before .before .before .before .before .before .before .args .n) e q few (c .before .before .before .before .before .before .before .before .before .before .before .before .before .before .before .before .before .before .before .before .before .before .before .before .args .mode) (c .before .before .before .before .before .before .before .before .before .before .before .before .before .before .before .before .inner-mode .result) (c .before .before .before .before .before .before .before .before .before .before .before .before .before .before .before .before .inner-mode .ensures) _ _ (c .before .before .before .before .before .before .before .before .before .before .before .before .before .expr .result) (c .before .before .before .before .before .before .before .before .before .before .before .before .before .expr .ensures g ids e q i f) (now (c .before .before .before .before .before .before .before .before .before .before .before .before .before .before .before .before .before .before .before .before .before .before .before .before .args .hold-ids)) (λ l. ap (λ (z : Ids). z .hold l) i) (c .before .before .before .before .before .before .before .before .before .before .before .before .hold-id .result) (c .before .before .before .before .before .before .before .before .before .before .before .before .hold-id .ensures) (c .before .before .before .before .before .before .before .before .before .before .before .next-hold .result) (c .before .before .before .before .before .before .before .before .before .before .before .next-hold .ensures) _ refl refl (c .before .before .before .before .before .before .before .before .before .before .before .before .before .before .before .before .before .before .before .before .before .before .before .before .args .flag) _ _ _ _ flagged (c .before .before .before .before .before .before .before .before .before .enum-told .given .1) (c .before .before .before .before .before .before .put-hold .ensures) (c .before .before .before .expr2 .ensures g ids e q i f) (c .emit-two .ensures)
 
 hold-returns-2 : (t : ℕ) → hold-lts.Need-returns-2 (hold-uses t) (hold-at t) hold.Post
-hold-returns-2 t c = λ g ids e q a i f flagged typed few. hold-declaration (g .types) (g .nodes) (g .node) ids (valueOf (c .before .before .before .before .before .before .before .before .before .before .before .before .before .before .before .before .before .before .args .c)) a (c .before .before .before .before .before .before .before .before .before .before .before .before .before .before .before .before .before .before .args .n) e q few (c .before .before .before .before .before .before .before .before .before .before .before .before .before .before .before .before .before .before .args .mode) (c .before .before .before .before .before .before .before .before .before .before .inner-mode .result) (c .before .before .before .before .before .before .before .before .before .before .inner-mode .ensures) _ _ (c .before .before .before .before .before .before .before .expr .result) (c .before .before .before .before .before .before .before .expr .ensures g ids e q i f) (now (c .before .before .before .before .before .before .before .before .before .before .before .before .before .before .before .before .before .before .args .hold-ids)) (λ l. ap (λ (z : Ids). z .hold l) i) (c .before .before .before .before .before .before .id-at .result) (c .before .before .before .before .before .before .id-at .ensures) (c .before .before .before .before .before .next-hold .result) (c .before .before .before .before .before .next-hold .ensures) _ refl refl _ (c .before .before .before .enum-told2 .given .1) (c .put-declaration .ensures e q (g .node) (g .end) a (f .stands) (g .laid) typed)
+hold-returns-2 t c = λ g ids e q a i f flagged typed few. hold-declaration (g .types) (g .nodes) (g .node) ids (valueOf (c .before .before .before .before .before .before .before .before .before .before .before .before .before .before .before .before .before .before .args .c)) a (c .before .before .before .before .before .before .before .before .before .before .before .before .before .before .before .before .before .before .args .n) e q few (c .before .before .before .before .before .before .before .before .before .before .before .before .before .before .before .before .before .before .args .mode) (c .before .before .before .before .before .before .before .before .before .before .inner-mode .result) (c .before .before .before .before .before .before .before .before .before .before .inner-mode .ensures) _ _ (c .before .before .before .before .before .before .before .expr .result) (c .before .before .before .before .before .before .before .expr .ensures g ids e q i f) (now (c .before .before .before .before .before .before .before .before .before .before .before .before .before .before .before .before .before .before .args .hold-ids)) (λ l. ap (λ (z : Ids). z .hold l) i) (c .before .before .before .before .before .before .hold-id .result) (c .before .before .before .before .before .before .hold-id .ensures) (c .before .before .before .before .before .next-hold .result) (c .before .before .before .before .before .next-hold .ensures) _ refl refl _ (c .before .before .before .enum-told2 .given .1) (c .put-declaration .ensures e q (g .node) (g .end) a (f .stands) (g .laid) typed)
 
 hold-returns-3 : (t : ℕ) → hold-lts.Need-returns-3 (hold-uses t) (hold-at t) hold.Post
-hold-returns-3 t c = λ g ids e q a i f flagged typed few. hold-plain (g .types) (g .nodes) (g .node) ids (valueOf (c .before .before .before .before .before .before .before .before .before .before .before .before .before .before .before .before .before .args .c)) a (c .before .before .before .before .before .before .before .before .before .before .before .before .before .before .before .before .before .args .n) e q few (c .before .before .before .before .before .before .before .before .before .before .before .before .before .before .before .before .before .args .mode) (c .before .before .before .before .before .before .before .before .before .inner-mode .result) (c .before .before .before .before .before .before .before .before .before .inner-mode .ensures) _ _ (c .before .before .before .before .before .before .expr .result) (c .before .before .before .before .before .before .expr .ensures g ids e q i f) (now (c .before .before .before .before .before .before .before .before .before .before .before .before .before .before .before .before .before .args .hold-ids)) (λ l. ap (λ (z : Ids). z .hold l) i) (c .before .before .before .before .before .id-at .result) (c .before .before .before .before .before .id-at .ensures) (c .before .before .before .before .next-hold .result) (c .before .before .before .before .next-hold .ensures) _ refl refl _ (c .before .before .before .match .keys3) (c .put-two .ensures)
+hold-returns-3 t c = λ g ids e q a i f flagged typed few. hold-plain (g .types) (g .nodes) (g .node) ids (valueOf (c .before .before .before .before .before .before .before .before .before .before .before .before .before .before .before .before .before .args .c)) a (c .before .before .before .before .before .before .before .before .before .before .before .before .before .before .before .before .before .args .n) e q few (c .before .before .before .before .before .before .before .before .before .before .before .before .before .before .before .before .before .args .mode) (c .before .before .before .before .before .before .before .before .before .inner-mode .result) (c .before .before .before .before .before .before .before .before .before .inner-mode .ensures) _ _ (c .before .before .before .before .before .before .expr .result) (c .before .before .before .before .before .before .expr .ensures g ids e q i f) (now (c .before .before .before .before .before .before .before .before .before .before .before .before .before .before .before .before .before .args .hold-ids)) (λ l. ap (λ (z : Ids). z .hold l) i) (c .before .before .before .before .before .hold-id .result) (c .before .before .before .before .before .hold-id .ensures) (c .before .before .before .before .next-hold .result) (c .before .before .before .before .next-hold .ensures) _ refl refl _ (c .before .before .before .match .keys3) (c .put-two .ensures)
 
 pub +expr+exprs+hold-spec : {M : Type 1} → statement M
 +expr+exprs+hold-spec = close μ-expr μ-exprs μ-hold (λ t. expr-lts.spec (expr-uses t)
@@ -266,8 +263,7 @@ pub +expr+exprs+hold-spec : {M : Type 1} → statement M
     hold.Post
     (hold-inner-mode-requires t)
     (hold-expr-requires t)
-    (hold-cast-number t)
-    (hold-id-at-requires t)
+    (hold-hold-id-requires t)
     (hold-next-hold-requires t)
     (hold-enum-told t)
     (hold-put-hold-requires t)

@@ -1,0 +1,41 @@
+-- A sheet in its tables, the faults of its nodes, and the list that first faults are put in.
+use Prim.Native.Nat.{ℕ}
+use mathlib.Core.Path.{_≡_}
+use mathlib.Core.List.{List, map}
+use mathlib.Core.Option.{Option, none, some}
+use lib.ListN.{length, getElem?}
+use Rattle.definitions.specs.declared.FaultRecord.{FaultRecord}
+use Rattle.definitions.specs.Lists.{choose}
+use Rattle.definitions.specs.Bytes.{tokens}
+use Rattle.definitions.specs.InferClocks.{NodeFault}
+use Rattle.definitions.specs.Output.{condactId, ClockedNode, nodeFaults}
+use Rattle.definitions.specs.Answer.{Input}
+use Rattle.fault.specs.Value.{faultOf}
+use Rattle.typedefs.specs.Table.{Table}
+use Rattle.defaults.specs.Has.{Has}
+use Rattle.callees.specs.Callees.{Standing}
+use Rattle.query.specs.Words.{recordWords, entriesOver}
+use Rattle.first_faults.specs.declared.Tables.{Tables}
+use Rattle.first_faults.specs.declared.FaultFound.{FaultFound}
+
+-- the sheet r in its tables: its nodes and its types' definitions stand where these say, which of the definitions have a default, and
+-- the id of `condact` among its names
+pub record Tabled (gs vs : List ℕ) (t : Tables) (r : Input) : Type 0 where
+  pub nodes : Standing (t .names) gs vs (t .places) (t .nodes) (r .sheet .nodes)
+  pub types : Table (t .names) (tokens gs vs) (t .defs) (t .types) (r .sheet .types)
+  pub defaulted : Has (r .sheet .types) (t .types) (t .types) (t .has)
+  pub condact : t .condact ≡ condactId (r .names)
+
+-- the fault that an answer says, with its equation
+abbrev pub foundOf : FaultFound → Option NodeFault
+foundOf a = choose (a .found) (some (record { equation = a .equation; fault = faultOf (a .fault) })) none
+
+-- fault j of a node, from 0, if there are this node and this fault
+abbrev pub faultIn : Input → Option ClockedNode → ℕ → Option NodeFault
+faultIn r none j = none
+faultIn r (some n) j = getElem? (nodeFaults (r .names) (r .sheet) n) j
+
+-- so many fault records, over the front of a lent list as far as it reaches in whole entries
+pub record Recorded (lent : List ℕ) (fs : List FaultRecord) (m : ℕ) (now : List ℕ) : Type 0 where
+  pub counted : m ≡ length fs
+  pub written : now ≡ entriesOver 3 (map recordWords fs) lent

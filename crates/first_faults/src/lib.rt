@@ -1,0 +1,281 @@
+// The faults of an accepted sheet's nodes, whose clocks are all formed: fault j of node k, and each faulty node's first fault.
+// `tags` and `values` are as long as each other. `env` and `table` are the tables that clocks and findings stand in.
+use fault::Fault;
+use infer_clocks::NodeClocked;
+use layout::NodeLayout;
+use rewriting_faults::FirstFault;
+use rewriting_faults::Scope;
+ghost use mathlib.Core.Path.{_≡_};
+ghost use mathlib.Core.List.{List, [], _∷_, _++_};
+ghost use mathlib.Core.Bool.{true};
+ghost use mathlib.Core.Option.{none};
+ghost use Prim.Native.Nat.{ℕ, _+_, _≤_, _<_};
+ghost use lib.ListN.{length, getElem?};
+ghost use Rattle.definitions.specs.declared.FaultRecord.{FaultRecord};
+ghost use Rattle.definitions.specs.Bytes.{tokens};
+ghost use Rattle.definitions.specs.Tree.{Node};
+ghost use Rattle.definitions.specs.Reading.{got};
+ghost use Rattle.definitions.specs.Grammar.{sheet};
+ghost use Rattle.definitions.specs.InferClocks.{NodeFault, Clocking, formed, clocking, clockFaults};
+ghost use Rattle.definitions.specs.Refusals.{accepted};
+ghost use Rattle.definitions.specs.Output.{condactId, ClockedNode, nodeFaults};
+ghost use Rattle.definitions.specs.Answer.{Input, clockings, firstOf};
+ghost use Rattle.environment.specs.Environment.{Agrees};
+ghost use Rattle.spelling.specs.Writing.{overAt};
+ghost use Rattle.findings.specs.Findings.{findingsIn};
+ghost use Rattle.layout.specs.Laid.{Laid};
+ghost use Rattle.infer_clocks.specs.Clocked.{Tells};
+ghost use Rattle.stateless.specs.Faults.{oldFault};
+ghost use Rattle.stateless.specs.Sheets.{firstFaultsFrom};
+ghost use Rattle.rewriting_faults.specs.Met.{toldOf};
+ghost use Rattle.query.specs.Standing.{Roomy};
+ghost use Rattle.first_faults.specs.Faults.{Tabled, foundOf, faultIn, Recorded};
+
+// A sheet: how many names it has and the id of `condact` among them, how many nodes and types' definitions; where each of these
+// stands, and for each definition 1 if it has a default.
+pub struct Tables {
+    pub names: u32,
+    pub condact: u32,
+    pub nodes: usize,
+    pub types: usize,
+    pub places: [usize; 16],
+    pub defs: [usize; 32],
+    pub has: [u8; 32],
+}
+
+// Whether there is such a fault, in which equation, and which it is.
+pub struct FaultFound {
+    pub found: bool,
+    pub equation: u32,
+    pub fault: Fault,
+}
+
+fn wide(x: u32) -> usize
+    ensures { λ r. ⌜ r ≡ x ⌝ }
+{
+    x as usize
+}
+
+// A number up to the most that there can be.
+fn at_most(x: usize, most: usize) -> usize
+    ensures { λ r. ⌜ (r ≤ most) × (x ≤ most → r ≡ x) ⌝ }
+{
+    if x <= most { x } else { most }
+}
+
+// A number below n as a word.
+fn word_below(x: usize, n: u32) -> u32
+    ensures { λ r. ⌜ (x < n → r ≡ x) ⌝ }
+{
+    if x < wide(n) {
+        return x as u32;
+    }
+    0
+}
+
+// The tables of a sheet.
+pub fn tables_of(tags: &[u8], values: &[u32], names: u32, condact: u32) -> Tables
+    requires { ⌜ length (now values) ≡ length (now tags) ⌝ }
+    ensures { λ r. ⌜ (r .names ≡ names) × (r .nodes ≤ 16) × (r .types ≤ 32) ⌝ }
+    ensures { λ r. ⌜ ((i : Input) (q : ℕ) → sheet names (tokens (now (tags .entry)) (now (values .entry))) 0 ≡ got (i .sheet) q → condact ≡ condactId (i .names) → Tabled (now (tags .entry)) (now (values .entry)) r i) ⌝ }
+{
+    let whole = layout::sheet_at(tags, values, names);
+    let t = whole.types;
+    let n = whole.nodes;
+    let types = at_most(wide(t.count), 32);
+    let nodes = at_most(wide(n.count), 16);
+    let defs = typedefs::definition_places(tags, values, names, types, t.at);
+    let has = defaults::has_defaults(tags, values, names, &defs, types);
+    let places = layout::node_places(tags, values, names, nodes, n.at);
+    Tables {
+        names,
+        condact,
+        nodes,
+        types,
+        places,
+        defs,
+        has,
+    }
+}
+
+// No such fault.
+fn no_fault() -> FaultFound
+    ensures { λ r. ⌜ foundOf r ≡ none ⌝ }
+{
+    let any = fault::not_single_call();
+    FaultFound {
+        found: false,
+        equation: 0,
+        fault: any,
+    }
+}
+
+// Clock fault j by n findings, among which there are m faults.
+fn clock_fault(table: &[u32], n: usize, m: usize, j: usize) -> FaultFound
+    ensures { λ r. ⌜ (m ≡ length (clockFaults (findingsIn (now (table .entry)) n)) → foundOf r ≡ getElem? (clockFaults (findingsIn (now (table .entry)) n)) j) ⌝ }
+{
+    if m <= j {
+        return no_fault();
+    }
+    let f = findings::nth_fault(table, n, j);
+    let fault = f.fault;
+    FaultFound {
+        found: true,
+        equation: f.equation,
+        fault,
+    }
+}
+
+// What rewriting met in one of so many equations.
+fn met_fault(f: FirstFault, count: u32) -> FaultFound
+    ensures { λ r. ⌜ ((f .found ≡ true → f .equation < count) → foundOf r ≡ toldOf f) ⌝ }
+{
+    let found = f.found;
+    let fault = f.fault;
+    let equation = word_below(f.equation, count);
+    FaultFound {
+        found,
+        equation,
+        fault,
+    }
+}
+
+// The first fault that rewriting meets in a node with this layout, whose clocks fit.
+fn rewriting_fault(tags: &[u8], values: &[u32], t: Tables, l: NodeLayout, env: &[u32]) -> FaultFound
+    requires { ⌜ length (now values) ≡ length (now tags) ⌝ }
+    requires { ⌜ (t .nodes ≤ 16) × (t .types ≤ 32) ⌝ }
+    ensures { λ r. ⌜ ((i : Input) (n : Node) (q : ℕ) (k : Clocking) → Tabled (now (tags .entry)) (now (values .entry)) t i → Laid (t .names) (tokens (now (tags .entry)) (now (values .entry))) n q l → clocking n ≡ formed k → Agrees (now (env .entry)) (t .names) (k .names) → clockFaults (k .findings) ≡ [] → foundOf r ≡ oldFault (i .sheet .types) (i .sheet .nodes) n (condactId (i .names)) 0 (k .equations)) ⌝ }
+{
+    let places = t.places;
+    let defs = t.defs;
+    let has = t.has;
+    let s = Scope {
+        names: t.names,
+        nodes: t.nodes,
+        types: t.types,
+        layout: l,
+    };
+    let f = rewriting_faults::first_fault(tags, values, &places, &defs, &has, env, s, t.condact);
+    let e = l.equations;
+    met_fault(f, e.count)
+}
+
+// Fault j of a node with this layout, whose clocks are inferred and which has n findings: its clock faults, else rewriting's first.
+fn clocked_fault(
+    tags: &[u8],
+    values: &[u32],
+    t: Tables,
+    l: NodeLayout,
+    env: &[u32],
+    table: &[u32],
+    n: usize,
+    j: usize,
+) -> FaultFound
+    requires { ⌜ length (now values) ≡ length (now tags) ⌝ }
+    requires { ⌜ (t .nodes ≤ 16) × (t .types ≤ 32) ⌝ }
+    ensures { λ r. ⌜ ((i : Input) (node : Node) (q : ℕ) (k : Clocking) (passes : ℕ) → Tabled (now (tags .entry)) (now (values .entry)) t i → Laid (t .names) (tokens (now (tags .entry)) (now (values .entry))) node q l → clocking node ≡ formed k → Tells (now (env .entry)) (now (table .entry)) (t .names) passes n k → foundOf r ≡ getElem? (nodeFaults (i .names) (i .sheet) (record { node = node; clocking = k })) j) ⌝ }
+{
+    let m = findings::fault_count(table, n);
+    if 0 < m {
+        return clock_fault(table, n, m, j);
+    }
+    if 0 < j {
+        return no_fault();
+    }
+    let e = l.equations;
+    if sheet::equations_use_clocks(tags, values, t.names, e.count, e.at) {
+        return rewriting_fault(tags, values, t, l, env);
+    }
+    no_fault()
+}
+
+// Fault j of node k.
+pub fn fault_at(
+    tags: &[u8],
+    values: &[u32],
+    t: Tables,
+    k: usize,
+    j: usize,
+    env: &mut [u32],
+    table: &mut [u32],
+) -> FaultFound
+    requires { ⌜ length (now values) ≡ length (now tags) ⌝ }
+    requires { ⌜ (t .nodes ≤ 16) × (t .types ≤ 32) ⌝ }
+    ensures { λ r. ⌜ ((i : Input) (ns : List ClockedNode) → Tabled (now (tags .entry)) (now (values .entry)) t i → clockings 0 (i .sheet .nodes) ≡ accepted ns → Roomy (t .names) (length (now (tags .entry))) (now (env .entry)) (now (table .entry)) → foundOf r ≡ faultIn i (getElem? ns k) j) ⌝ }
+{
+    if t.nodes <= k {
+        return no_fault();
+    }
+    let places = t.places;
+    let at = places[k];
+    let l = layout::node_at(tags, values, t.names, at);
+    let mut marks = [0u8; 1024];
+    let mut ports = [0u32; 1024];
+    let clocked = infer_clocks::clock_laid(
+        tags,
+        values,
+        t.names,
+        l,
+        env,
+        &mut marks,
+        &mut ports,
+        table,
+    );
+    match clocked {
+        NodeClocked::Deep => no_fault(),
+        NodeClocked::Clocked(_, n) => clocked_fault(tags, values, t, l, env, table, n, j),
+    }
+}
+
+// A fault record in the three words from b on.
+fn put_record(list: &mut [u32], b: usize, node: u32, number: u32, equation: u32)
+    requires { ⌜ b + 3 ≤ length (now list) ⌝ }
+    ensures { λ _. ⌜ now (list .exit) ≡ overAt b (node ∷ number ∷ equation ∷ []) (now (list .entry)) ⌝ }
+{
+    list[b] = node;
+    list[b + 1] = number;
+    list[b + 2] = equation;
+}
+
+// A node's first fault, if it has one, behind m others, as far as the list reaches: how many there are then.
+fn add_fault(list: &mut [u32], m: usize, node: u32, f: FaultFound) -> usize
+    requires { ⌜ m < 4294967296 ⌝ }
+    ensures { λ r. ⌜ r ≤ m + 1 ⌝ }
+    ensures { λ r. ⌜ ((lent : List ℕ) (l : List FaultRecord) (fs : List NodeFault) → Recorded lent l m (now (list .entry)) → foundOf f ≡ getElem? fs 0 → Recorded lent (l ++ firstOf node fs) r (now (list .exit))) ⌝ }
+{
+    if f.found {
+        let room = list.len() / 3;
+        if room <= m {
+            return m + 1;
+        }
+        let fault = f.fault;
+        let number = fault::fault_number(fault);
+        put_record(list, 3 * m, node, number, f.equation);
+        return m + 1;
+    }
+    m
+}
+
+// Each faulty node's first fault, in order, as far as the list reaches in whole entries: how many nodes are faulty.
+pub fn write_first_faults(
+    tags: &[u8],
+    values: &[u32],
+    t: Tables,
+    env: &mut [u32],
+    table: &mut [u32],
+    list: &mut [u32],
+) -> usize
+    requires { ⌜ length (now values) ≡ length (now tags) ⌝ }
+    requires { ⌜ (t .nodes ≤ 16) × (t .types ≤ 32) ⌝ }
+    ensures { λ r. ⌜ ((i : Input) (ns : List ClockedNode) → Tabled (now (tags .entry)) (now (values .entry)) t i → clockings 0 (i .sheet .nodes) ≡ accepted ns → Roomy (t .names) (length (now (tags .entry))) (now (env .entry)) (now (table .entry)) → Recorded (now (list .entry)) (firstFaultsFrom i 0 ns) r (now (list .exit))) ⌝ }
+{
+    let mut m: usize = 0;
+    let mut k: usize = 0;
+    while k < t.nodes {
+        let f = fault_at(tags, values, t, k, 0, env, table);
+        let node = word_below(k, 16);
+        m = add_fault(list, m, node, f);
+        k += 1;
+    }
+    m
+}

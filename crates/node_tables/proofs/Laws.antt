@@ -1,0 +1,85 @@
+-- What a node's working tables say.
+-- Assumes nothing.
+use Prim.Native.Nat.{ℕ, _*_, _≤_}
+use mathlib.Core.Path.{_≡_, sym, ap, _∙_, subst}
+use mathlib.Core.Bool.{true, false, true≢false, false≢true}
+use mathlib.Core.Logic.{inl, inr}
+use mathlib.Core.List.{List, map}
+use native.Mathlib.Omega.{arith}
+use lib.ListN.{length, take}
+use Rattle.definitions.specs.Lists.{Letters}
+use Rattle.definitions.specs.Tree.{Node}
+use Rattle.definitions.specs.Clock.{Clock, inChainOrder}
+use Rattle.definitions.specs.Declock.{Stem, declared}
+use Rattle.definitions.specs.Output.{lettersOf}
+use Rattle.spelling.specs.Writing.{overAt}
+use Rattle.rows.specs.Rows.{clocksIn, Has}
+use Rattle.rows.proofs.Distinct.{Distinct}
+use Rattle.order.specs.Order.{rowOf, picked, Below}
+use Rattle.needs.specs.declared.Counts.{Counts}
+use Rattle.needs.specs.Need.{Needs, Counted}
+use Rattle.many_names.specs.Many.{TooMany}
+use Rattle.many_names.proofs.Large.{flags-past, firsts-past, holds-past, flags-fit, firsts-fit, holds-fit}
+use Rattle.new_names.specs.Names.{nameOf, Numbered, Ordered}
+use Rattle.new_names.proofs.Ids.{ids-front, map-length}
+use Rattle.new_names.proofs.Added.{rows-ordered}
+use Rattle.node_needs.proofs.Apart.{Apart}
+use Rattle.node_tables.specs.declared.Tables.{Tables}
+use Rattle.node_tables.specs.Filled.{Many, Few, Sorted, AllNumbered, Told}
+
+-- ---- rows in chain order
+pub sorted-rows : (letters : ℕ → Letters) (rows order : List ℕ) (n k : ℕ) {x : ℕ} → x ≡ n → k ≤ x → picked (rowOf rows) order 0 k ≡ inChainOrder letters (clocksIn rows x) → Below order k x → Sorted letters rows order n k
+sorted-rows letters rows order n k e a b d =
+    record { few = omega arith; sorted = b ∙ ap (λ (i : ℕ). inChainOrder letters (clocksIn rows i)) e; below = λ i u. omega (arith, d i u) }
+
+sorted-ordered : (letters : ℕ → Letters) (names : List Letters) (rows order : List ℕ) (n k : ℕ) (clocks : List Clock) → letters ≡ lettersOf names → 17 * n ≤ length rows → Has rows n clocks → Distinct clocks
+    → Sorted letters rows order n k → Ordered (lettersOf names) rows order k clocks
+sorted-ordered letters names rows order n k clocks e room h d s =
+    subst (λ (f : ℕ → Letters). Ordered f rows order k clocks) e (rows-ordered letters rows order n k clocks room h d (s .few) (s .sorted) (s .below))
+
+-- ---- numbers
+-- the ids that a node declares stand at the front of their table
+pub front-ids : (node : Node) (n : ℕ) (out : List ℕ) {after : List ℕ} → length out ≡ 128 → length (declared node) ≤ 128 → (n ≡ length (declared node)) × (after ≡ overAt 0 (map nameOf (declared node)) out)
+    → (n ≤ 128) × (take n after ≡ map nameOf (declared node))
+front-ids node n out l few h =
+    let m : length (map nameOf (declared node)) ≡ length (declared node) = map-length nameOf (declared node) in
+    (omega (arith, h .0), ids-front (map nameOf (declared node)) out n (omega (arith, h .0)) (omega (arith, h .0)) (h .1))
+
+pub numbered-same : (names : List Letters) (node : Node) (stem : Stem) (numbers : List ℕ) (m n : ℕ) → m ≡ n → Numbered names node stem numbers m → Numbered names node stem numbers n
+numbered-same names node stem numbers m n e h = subst (λ (i : ℕ). Numbered names node stem numbers i) e h
+
+-- ---- the tables
+module _ (w : Needs) {flags firsts : List ℕ} {s : Counts} (a : length flags ≡ 17408) (b : length firsts ≡ 17408) (h : Counted flags firsts s w) where
+  many-needed : Many s → TooMany w
+  many-needed (inl u) = flags-past h a u
+  many-needed (inr (inl u)) = firsts-past h b u
+  many-needed (inr (inr u)) = holds-past h u
+
+  module _ (names : List Letters) (node : Node) {flagOrder firstOrder flagNumbers firstNumbers holdNumbers : List ℕ} where
+    -- more is needed than there are places for
+    pub told-full : {r : Tables} → r .full ≡ true → Many s → Told names node w flags firsts flagOrder firstOrder flagNumbers firstNumbers holdNumbers r
+    told-full e u = record { kept = λ z. absurd (true≢false (sym e ∙ z)); past = λ z. many-needed u }
+
+    -- the tables are filled
+    pub told-filled : Apart w → Few s → (letters : ℕ → Letters) → letters ≡ lettersOf names → {k j x : ℕ} → Sorted letters flags flagOrder (s .flags) k → Sorted letters firsts firstOrder (s .firsts) j
+        → AllNumbered names node s flagNumbers firstNumbers holdNumbers → x ≡ s .holds
+        → Told names node w flags firsts flagOrder firstOrder flagNumbers firstNumbers holdNumbers (record { rows = s; locals = record { flags = k; firsts = j; holds = x; condact = s .condact }; full = false })
+    told-filled apart few letters e {k} {j} {x} f g all y =
+        let p : 17 * s .flags ≤ length flags = omega (arith, few .flags) in
+        let q : 17 * s .firsts ≤ length firsts = omega (arith, few .firsts) in
+        let held : s .holds ≡ w .holds = holds-fit h (few .holds) in
+        record {
+          kept = λ z.
+              record {
+                counted = h;
+                few = few;
+                flag-order = sorted-ordered letters names flags flagOrder (s .flags) k (w .flags) e p (h .flagged) (apart .flags) f;
+                first-order = sorted-ordered letters names firsts firstOrder (s .firsts) j (w .firsts) e q (h .first-flagged) (apart .firsts) g;
+                flag-numbers = numbered-same names node _ flagNumbers (s .flags) (length (w .flags)) (sym (flags-fit h a (few .flags))) (all .flags);
+                first-numbers = numbered-same names node _ firstNumbers (s .firsts) (length (w .firsts)) (sym (firsts-fit h b (few .firsts))) (all .firsts);
+                hold-numbers = numbered-same names node _ holdNumbers (s .holds) (w .holds) held (all .holds);
+                held = y ∙ held;
+                gated = h .gated;
+              };
+          past = λ z. absurd (false≢true z);
+        }

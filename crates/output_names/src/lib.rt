@@ -1,0 +1,255 @@
+// The output's names: the input's, then those of each node's new locals, of an accepted sheet without faults.
+// `starts` and `letters` are the input's names, `names` is how many there are; `lengths` and `text`, with counts, a table of the
+// output's names; `places` has the places of the sheet's nodes, `nodes` is how many there are; `condact` is the id of `condact`.
+use fresh::Counts;
+use infer_clocks::NodeClocked;
+use layout::NodeLayout;
+use node_tables::Tables;
+ghost use mathlib.Core.Path.{_≡_};
+ghost use mathlib.Core.List.{List};
+ghost use Prim.Native.Nat.{ℕ, _≤_, _<_};
+ghost use lib.ListN.{length};
+ghost use Rattle.definitions.specs.Lists.{sum, Letters};
+ghost use Rattle.definitions.specs.Bytes.{cut, tokens};
+ghost use Rattle.definitions.specs.Tree.{Node, Sheet};
+ghost use Rattle.definitions.specs.Reading.{got};
+ghost use Rattle.definitions.specs.Grammar.{node};
+ghost use Rattle.definitions.specs.Output.{ClockedNode, withNewNames, namesOut};
+ghost use Rattle.definitions.specs.Answer.{Input};
+ghost use Rattle.environment.specs.Environment.{Agrees};
+ghost use Rattle.fresh.specs.Table.{Sound, Holds};
+ghost use Rattle.layout.specs.Laid.{Laid};
+ghost use Rattle.needs.specs.Need.{Needs};
+ghost use Rattle.stateless.specs.Rewritten.{namesBy};
+ghost use Rattle.many_names.specs.Many.{TooMany};
+ghost use Rattle.node_tables.specs.Filled.{Told};
+ghost use Rattle.output_names.specs.Faultless.{nodeNeeds, Faultless, Ready};
+
+fn wide(x: u32) -> usize
+    ensures { λ r. ⌜ r ≡ x ⌝ }
+{
+    x as usize
+}
+
+fn narrow(x: usize) -> u32
+    requires { ⌜ x ≤ 1024 ⌝ }
+    ensures { λ r. ⌜ r ≡ x ⌝ }
+{
+    x as u32
+}
+
+// The table marked as full, of more names than it has places for.
+fn mark_full(lengths: &[u8], text: &[u8], c: Counts) -> Counts
+    requires { ⌜ Sound (now lengths) (now text) c ⌝ }
+    ensures { λ r. ⌜ Sound (now (lengths .entry)) (now (text .entry)) r ⌝ }
+    ensures { λ r. ⌜ ((all : List Letters) → length (now (lengths .entry)) < length all → Holds (now (lengths .entry)) (now (text .entry)) r all) ⌝ }
+{
+    Counts {
+        names: c.names,
+        letters: c.letters,
+        full: true,
+    }
+}
+
+// The names of a node's new locals added, by its working tables; the table is full, where they are.
+fn add_tables(
+    lengths: &mut [u8; 1024],
+    text: &mut [u8; 16384],
+    c: Counts,
+    t: Tables,
+    flag_numbers: &[u32; 1024],
+    flag_order: &[u32; 1024],
+    first_numbers: &[u32; 1024],
+    first_order: &[u32; 1024],
+    hold_numbers: &[u32; 1024],
+) -> Counts
+    requires { ⌜ Sound (now lengths) (now text) c ⌝ }
+    ensures { λ r. ⌜ Sound (now (lengths .exit)) (now (text .exit)) r ⌝ }
+    ensures { λ r. ⌜ ((names : List Letters) (n : Node) (w : Needs) (flags firsts : List ℕ) (all : List Letters) → Told names n w flags firsts (now («flag_order» .entry)) (now («first_order» .entry)) (now («flag_numbers» .entry)) (now («first_numbers» .entry)) (now («hold_numbers» .entry)) t → (TooMany w → 1024 < length (namesBy names all n w)) → Holds (now (lengths .entry)) (now (text .entry)) c all → Holds (now (lengths .exit)) (now (text .exit)) r (namesBy names all n w)) ⌝ }
+{
+    let locals = t.locals;
+    if t.full {
+        return mark_full(lengths, text, c);
+    }
+    new_names::add_locals(
+        lengths,
+        text,
+        c,
+        locals,
+        flag_numbers,
+        flag_order,
+        first_numbers,
+        first_order,
+        hold_numbers,
+    )
+}
+
+// The same of a node with this layout, whose names' clocks `env` has.
+fn add_clocked(
+    lengths: &mut [u8; 1024],
+    text: &mut [u8; 16384],
+    c: Counts,
+    starts: &[u32],
+    letters: &[u8],
+    tags: &[u8],
+    values: &[u32],
+    names: u32,
+    places: &[usize; 16],
+    nodes: usize,
+    l: NodeLayout,
+    env: &[u32; 17408],
+    condact: u32,
+) -> Counts
+    requires { ⌜ length (now values) ≡ length (now tags) ⌝ }
+    requires { ⌜ nodes ≤ 16 ⌝ }
+    requires { ⌜ Sound (now lengths) (now text) c ⌝ }
+    ensures { λ r. ⌜ Sound (now (lengths .exit)) (now (text .exit)) r ⌝ }
+    ensures { λ r. ⌜ ((old : List Letters) (s : Sheet) (n : ClockedNode) (p q : ℕ) (all : List Letters) → Ready (now (starts .entry)) (now (letters .entry)) (now (tags .entry)) (now (values .entry)) (now (places .entry)) names nodes condact old s n → node names (tokens (now (tags .entry)) (now (values .entry))) p ≡ got (n .node) q → Laid names (tokens (now (tags .entry)) (now (values .entry))) (n .node) q l → Agrees (now (env .entry)) names (n .clocking .names) → Holds (now (lengths .entry)) (now (text .entry)) c all → Holds (now (lengths .exit)) (now (text .exit)) r (namesBy old all (n .node) (nodeNeeds old s n))) ⌝ }
+{
+    let mut flags = [0u32; 17408];
+    let mut firsts = [0u32; 17408];
+    let mut flag_order = [0u32; 1024];
+    let mut first_order = [0u32; 1024];
+    let mut flag_numbers = [0u32; 1024];
+    let mut first_numbers = [0u32; 1024];
+    let mut hold_numbers = [0u32; 1024];
+    let t = node_tables::fill_tables(
+        starts,
+        letters,
+        tags,
+        values,
+        names,
+        places,
+        nodes,
+        l,
+        env,
+        condact,
+        &mut flags,
+        &mut firsts,
+        &mut flag_order,
+        &mut first_order,
+        &mut flag_numbers,
+        &mut first_numbers,
+        &mut hold_numbers,
+    );
+    add_tables(
+        lengths,
+        text,
+        c,
+        t,
+        &flag_numbers,
+        &flag_order,
+        &first_numbers,
+        &first_order,
+        &hold_numbers,
+    )
+}
+
+// The names that the node at a place adds: none, if it uses no clocks.
+fn add_node(
+    lengths: &mut [u8; 1024],
+    text: &mut [u8; 16384],
+    c: Counts,
+    starts: &[u32],
+    letters: &[u8],
+    tags: &[u8],
+    values: &[u32],
+    names: u32,
+    places: &[usize; 16],
+    nodes: usize,
+    at: usize,
+    condact: u32,
+) -> Counts
+    requires { ⌜ length (now values) ≡ length (now tags) ⌝ }
+    requires { ⌜ nodes ≤ 16 ⌝ }
+    requires { ⌜ Sound (now lengths) (now text) c ⌝ }
+    ensures { λ r. ⌜ Sound (now (lengths .exit)) (now (text .exit)) r ⌝ }
+    ensures { λ r. ⌜ ((old : List Letters) (s : Sheet) (n : ClockedNode) (q : ℕ) (all : List Letters) → Ready (now (starts .entry)) (now (letters .entry)) (now (tags .entry)) (now (values .entry)) (now (places .entry)) names nodes condact old s n → node names (tokens (now (tags .entry)) (now (values .entry))) at ≡ got (n .node) q → Holds (now (lengths .entry)) (now (text .entry)) c all → Holds (now (lengths .exit)) (now (text .exit)) r (withNewNames old s all n)) ⌝ }
+{
+    let uses = sheet::node_uses_clocks(tags, values, names, at);
+    if uses {
+        let mut env = [0u32; 17408];
+        let mut marks = [0u8; 1024];
+        let mut ports = [0u32; 1024];
+        let mut table = [0u32; 155648];
+        let l = layout::node_at(tags, values, names, at);
+        let clocked = infer_clocks::clock_laid(
+            tags,
+            values,
+            names,
+            l,
+            &mut env,
+            &mut marks,
+            &mut ports,
+            &mut table,
+        );
+        return match clocked {
+            NodeClocked::Deep => c,
+            NodeClocked::Clocked(_, _) => add_clocked(
+                lengths,
+                text,
+                c,
+                starts,
+                letters,
+                tags,
+                values,
+                names,
+                places,
+                nodes,
+                l,
+                &env,
+                condact,
+            ),
+        };
+    }
+    c
+}
+
+// The output's names, in a table: the input's, of these lengths, then those that each node adds.
+pub fn sheet_names(
+    given: &[u8],
+    starts: &[u32],
+    letters: &[u8],
+    tags: &[u8],
+    values: &[u32],
+    names: u32,
+    lengths: &mut [u8; 1024],
+    text: &mut [u8; 16384],
+) -> Counts
+    requires { ⌜ length (now values) ≡ length (now tags) ⌝ }
+    requires { ⌜ sum (now given) ≡ length (now letters) ⌝ }
+    requires { ⌜ length (now given) ≤ 1024 ⌝ }
+    requires { ⌜ length (now letters) ≤ 16384 ⌝ }
+    ensures { λ c. ⌜ Sound (now (lengths .exit)) (now (text .exit)) c ⌝ }
+    ensures { λ c. ⌜ ((bytes : List ℕ) (r : Input) (ns : List ClockedNode) → Faultless (now (starts .entry)) (now (letters .entry)) (now (tags .entry)) (now (values .entry)) names bytes r ns → r .names ≡ cut (now (given .entry)) (now (letters .entry)) → Holds (now (lengths .exit)) (now (text .exit)) c (namesOut (r .names) (r .sheet) ns)) ⌝ }
+{
+    let mut c = fresh::copy_names(given, letters, lengths, text);
+    let condact = narrow(fresh::find_condact(given, letters));
+    let whole = layout::sheet_at(tags, values, names);
+    let span = whole.nodes;
+    let n = wide(span.count);
+    if 16 < n {
+        return c;
+    }
+    let places = layout::node_places(tags, values, names, n, span.at);
+    let mut i: usize = 0;
+    while i < n {
+        let at = places[i];
+        c = add_node(
+            lengths,
+            text,
+            c,
+            starts,
+            letters,
+            tags,
+            values,
+            names,
+            &places,
+            n,
+            at,
+            condact,
+        );
+        i += 1;
+    }
+    c
+}

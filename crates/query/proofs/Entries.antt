@@ -1,0 +1,222 @@
+-- Entries written over the front of a lent list, one after another. Assumes nothing.
+use mathlib.Core.Path.{_≡_, refl, sym, _∙_, ap}
+use mathlib.Core.List.{List, [], _∷_, _++_, map}
+use mathlib.Core.Bool.{Bool, true, false}
+use Prim.Native.Nat.{ℕ, zero, suc, _+_, _-_, _*_, _/_, _≤_, _<_, min}
+use native.Mathlib.Omega.{arith}
+use native.Mathlib.Numerals.{add-one}
+use lib.Dec.{leb}
+use borrow.Author.Tests.{leb-true, leb-false}
+use mathlib.Core.Option.{Option}
+use lib.ListN.{length, getD, take, drop, length-append, length-map, List·getD-map}
+use lib.Seq.{take-suc, take-all}
+use Rattle.definitions.specs.Lists.{join, over, Letters}
+use Rattle.definitions.specs.Tokens.{TagValue}
+use Rattle.definitions.specs.Tree.{Expr, Equation}
+use Rattle.definitions.specs.Reading.{got, times}
+use Rattle.definitions.specs.Grammar.{equation}
+use Rattle.definitions.specs.Clock.{Clock, base}
+use Rattle.definitions.specs.InferClocks.{Formed, deep, formed, _>>=_, Natural, Clocks, Clocked, Finding, found, site, tooDeep, NodeFault, faultNumber, natural, orBase, clockedBy, chains, clockFaults}
+use Rattle.grammar.proofs.Got.{times-cons}
+use Rattle.grammar.proofs.Laws.{times-length}
+use Rattle.definitions.specs.Output.{ClockedNode}
+use Rattle.definitions.specs.Answer.{nodeClocks}
+use Rattle.listing.specs.declared.Told.{Told}
+use Rattle.listing.proofs.Laws.{clocked-cons, clocked-many, picked-length, node-clocked}
+use Rattle.listing.proofs.Lengths.{few-faults}
+use Rattle.query.specs.declared.NodeCounts.{NodeCounts}
+use Rattle.query.specs.Standing.{Clocked as Told′}
+use Rattle.environment.specs.Environment.{Agrees}
+use Rattle.operands.specs.Spread.{tree}
+use Rattle.layout.specs.declared.EquationLayout.{EquationLayout}
+use Rattle.layout.specs.Laid.{LaidEquation}
+use Rattle.findings.specs.Findings.{findingsIn, noFault}
+use Rattle.findings.proofs.Laws.{length-from}
+use Rattle.order.specs.Order.{rowOf, picked}
+use Rattle.spelling.specs.Writing.{overAt}
+use Rattle.spelling.proofs.Writing.{over-front, over-then}
+use Rattle.query.specs.Words.{clockWords, faultWords, entriesOver, clocksOver, faultsOver, countsOf, Written}
+use Rattle.query.proofs.Words.{join-last, words-long, over-in}
+
+-- the first i entries are written, b words in all
+pub record Entered {A : Type 0} (f : A → List ℕ) (l : List A) (lent : List ℕ) (i b : ℕ) (now : List ℕ) : Type 0 where
+  pub written : now ≡ over (join (map f (take i l))) lent
+  pub long : length (join (map f (take i l))) ≡ b
+
+take-map : {A B : Type 0} (f : A → B) (n : ℕ) (l : List A) → map f (take n l) ≡ take n (map f l)
+take-map f zero l = refl
+take-map f (suc n) [] = refl
+take-map f (suc n) (a ∷ l) = ap (λ r. f a ∷ r) (take-map f n l)
+
+-- as many as there are, or as there is room for
+take-least : {A : Type 0} (l : List A) (i room : ℕ) → i ≡ min (length l) room → take i l ≡ take room l
+take-least {A} l i room e = go (leb room (length l)) refl
+  where
+    go : (t : Bool) → leb room (length l) ≡ t → take i l ≡ take room l
+    go true f = let g : i ≡ room = omega (arith, leb-true room (length l) f) in ap (λ n. take n l) g
+    go false f = let k : length l < room = leb-false room (length l) f in take-all i l (omega arith) ∙ sym (take-all room l (omega arith))
+
+module _ {A : Type 0} (f : A → List ℕ) (l : List A) (lent : List ℕ) where
+  pub entered-none : Entered f l lent 0 0 lent
+  entered-none = record { written = refl; long = refl }
+
+  pub entered-more : (d a : A) (i b b′ : ℕ) (now after : List ℕ) → i < length l → a ≡ getD l i d → after ≡ overAt b (f a) now → b′ ≡ b + length (f a) → Entered f l lent i b now → Entered f l lent (i + 1) b′ after
+  entered-more d a i b b′ now after h e g k z =
+      let s : take i l ++ (a ∷ []) ≡ take (i + 1) l = ap (λ (y : A). take i l ++ (y ∷ [])) e ∙ (sym (take-suc l i d h) ∙ ap (λ (n : ℕ). take n l) (sym (add-one i))) in
+      let j : join (map f (take i l)) ++ f a ≡ join (map f (take (i + 1) l)) = sym (join-last f (take i l) a) ∙ ap (λ (x : List A). join (map f x)) s in
+      let p = join (map f (take i l)) in
+      record {
+        written = g ∙ (ap (λ (x : List ℕ). overAt b (f a) x) (z .written ∙ sym (over-front p lent)) ∙ (ap (λ (n : ℕ). overAt n (f a) (overAt 0 p lent)) (start b (length p) (z .long)) ∙ (over-then 0 p (f a) lent ∙ (over-front (p ++ f a) lent ∙ ap (λ (x : List ℕ). over x lent) j))));
+        long = ap length (sym j) ∙ (length-append p (f a) ∙ (ap (λ (n : ℕ). n + length (f a)) (z .long) ∙ sym k));
+      }
+    where
+      start : (b n : ℕ) → n ≡ b → b ≡ 0 + n
+      start b n h = omega arith
+
+  pub entered-all : (size i b : ℕ) (now : List ℕ) → i ≡ min (length l) (length lent / size) → Entered f l lent i b now → now ≡ entriesOver size (map f l) lent
+  unfolding entriesOver
+  entered-all size i b now h z = z .written ∙ ap (λ (x : List (List ℕ)). over (join x) lent) (ap (map f) (take-least l i (length lent / size) h) ∙ take-map f (length lent / size) l)
+
+-- ---- clocks
+module _ (l : List Clock) (lent : List ℕ) where
+  -- one clock more
+  pub clock-entered : (v : Clock) (i : ℕ) (now after : List ℕ) → i < length l → v ≡ getD l i base → after ≡ overAt (17 * i) (clockWords v) now → Entered clockWords l lent i (17 * i) now → Entered clockWords l lent (i + 1) (17 * (i + 1)) after
+  clock-entered v i now after h e g z = entered-more clockWords l lent base v i (17 * i) (17 * (i + 1)) now after h e g (omega (arith, words-long v)) z
+
+  -- all clocks, or as many as there is room for
+  pub clocks-entered : (m i most room : ℕ) (now : List ℕ) → m ≡ length l → room ≡ length lent / 17 → most ≡ min m room → i ≤ most → most ≤ i → Entered clockWords l lent i (17 * i) now → now ≡ clocksOver l lent
+  clocks-entered m i most room now k r e a b z = entered-all clockWords l lent 17 i (17 * i) now (let u : i ≡ most = omega arith in u ∙ (e ∙ (ap (λ (x : ℕ). min x room) k ∙ ap (λ (x : ℕ). min (length l) x) r))) z
+
+-- ---- the rows of chains
+picked-item : (f : ℕ → Clock) (o : List ℕ) (i n j : ℕ) → j < n → getD (picked f o i n) j base ≡ f (getD o (i + j) 0)
+unfolding picked
+picked-item f o i zero j h = absurd (omega arith)
+picked-item f o i (suc n) zero h = let e : i + 0 ≡ i = omega arith in rw e
+picked-item f o i (suc n) (suc j) h = let e : i + suc j ≡ i + 1 + j = omega arith in rw e (picked-item f o (i + 1) n j (omega arith))
+
+module _ (rows chain : List ℕ) (m : ℕ) (lent : List ℕ) where
+  pub row-entered : (i x y : ℕ) (v : Clock) (now after : List ℕ) → i < m → x ≡ getD chain i 0 → y ≡ x → v ≡ rowOf rows y → after ≡ overAt (17 * i) (clockWords v) now
+      → Entered clockWords (picked (rowOf rows) chain 0 m) lent i (17 * i) now → Entered clockWords (picked (rowOf rows) chain 0 m) lent (i + 1) (17 * (i + 1)) after
+  row-entered i x y v now after h a b e g z =
+      let o : 0 + i ≡ i = omega arith in
+      let w : v ≡ getD (picked (rowOf rows) chain 0 m) i base = e ∙ (ap (rowOf rows) (b ∙ (a ∙ ap (λ (j : ℕ). getD chain j 0) (sym o))) ∙ sym (picked-item (rowOf rows) chain 0 m i h)) in
+      clock-entered (picked (rowOf rows) chain 0 m) lent v i now after (omega (arith, picked-length (rowOf rows) chain 0 m)) w g z
+
+  pub rows-entered : (i most room : ℕ) (now : List ℕ) → room ≡ length lent / 17 → most ≡ min m room → i ≤ most → most ≤ i → Entered clockWords (picked (rowOf rows) chain 0 m) lent i (17 * i) now → now ≡ clocksOver (picked (rowOf rows) chain 0 m) lent
+  rows-entered i most room now r e a b z = clocks-entered (picked (rowOf rows) chain 0 m) lent m i most room now (sym (picked-length (rowOf rows) chain 0 m)) r e a b z
+
+-- the rows are these chains
+module _ (rows chain : List ℕ) (m : ℕ) (cs : List Clock) (h : picked (rowOf rows) chain 0 m ≡ cs) where
+  pub chains-many : m ≡ length cs
+  chains-many = sym (picked-length (rowOf rows) chain 0 m) ∙ ap length h
+
+  pub chains-written : (lent now : List ℕ) → now ≡ clocksOver (picked (rowOf rows) chain 0 m) lent → now ≡ clocksOver cs lent
+  chains-written lent now e = e ∙ ap (λ (l : List Clock). clocksOver l lent) h
+
+-- ---- the clocks of equations
+module _ (clocks : Clocks) where
+  -- the clock of equation i
+  clocked-item : (es : List Equation) (cs : List Clocked) (i : ℕ) (e : Equation) (rest : List Equation) → clockedBy clocks es ≡ formed cs → drop i es ≡ e ∷ rest
+      → (o : Option Clock) × (natural clocks (e .right) ≡ formed o) × (getD (map (λ (c : Clocked). c .clock) cs) i base ≡ orBase o) × (i < length (map (λ (c : Clocked). c .clock) cs))
+  clocked-item [] cs zero e rest h k = let z : _≡_ {A = ℕ} 0 1 = cc in absurd (omega arith)
+  clocked-item [] cs (suc i) e rest h k = let z : _≡_ {A = ℕ} 0 1 = cc in absurd (omega arith)
+  clocked-item (x ∷ es) cs zero e rest h k =
+      let a = clocked-cons clocks x es cs h in
+      let f : x ≡ e = cc in
+      (a .0, ap (λ (y : Equation). natural clocks (y .right)) (sym f) ∙ a .2, ap (λ (l : List Clocked). getD (map (λ (c : Clocked). c .clock) l) 0 base) (a .4), omega (arith, ap (λ (l : List Clocked). length (map (λ (c : Clocked). c .clock) l)) (a .4)))
+  clocked-item (x ∷ es) cs (suc i) e rest h k =
+      let a = clocked-cons clocks x es cs h in
+      let b = clocked-item es (a .1) i e rest (a .3) k in
+      (b .0, b .1, ap (λ (l : List Clocked). getD (map (λ (c : Clocked). c .clock) l) (suc i) base) (a .4) ∙ b .2, omega (arith, b .3, ap (λ (l : List Clocked). length (map (λ (c : Clocked). c .clock) l)) (a .4)))
+
+drop-next : {A : Type 0} (l : List A) (i : ℕ) (a : A) (rest : List A) → drop i l ≡ a ∷ rest → drop (i + 1) l ≡ rest
+drop-next [] zero a rest h = let z : _≡_ {A = ℕ} 0 1 = cc in absurd (omega arith)
+drop-next [] (suc i) a rest h = let z : _≡_ {A = ℕ} 0 1 = cc in absurd (omega arith)
+drop-next (b ∷ l) zero a rest h = cc
+drop-next (b ∷ l) (suc i) a rest h = let e : suc i + 1 ≡ suc (i + 1) = omega arith in rw e (drop-next l i a rest h)
+
+-- the same number of equations
+pub same-times : (M : ℕ) (ts : List TagValue) (n count at : ℕ) (es : List Equation) (q : ℕ) → n ≡ count → times count (equation M) ts at ≡ got es q → times n (equation M) ts at ≡ got es q
+same-times M ts n count at es q e g = rw e g
+
+-- the equations left, and the clocks written
+pub record Equations (M : ℕ) (ts : List TagValue) (es : List Equation) (cs : List Clocked) (q left place : ℕ) (lent : List ℕ) (i : ℕ) (now : List ℕ) : Type 0 where
+  pub items : times left (equation M) ts place ≡ got (drop i es) q
+  pub entered : Entered clockWords (map (λ (c : Clocked). c .clock) cs) lent i (17 * i) now
+
+module _ (M : ℕ) (ts : List TagValue) (es : List Equation) (cs : List Clocked) (q : ℕ) (lent : List ℕ) where
+  pub equations-none : (n at : ℕ) → times n (equation M) ts at ≡ got es q → Equations M ts es cs q (n - 0) at lent 0 lent
+  equations-none n at g = let k : n - 0 ≡ n = omega arith in record { items = rw k g; entered = entered-none clockWords (map (λ (c : Clocked). c .clock) cs) lent }
+
+  pub equation-entered : (clocks : Clocks) (env : List ℕ) (n i place : ℕ) (l : EquationLayout) (v : Clock) (now after : List ℕ) → i < n → Agrees env M clocks → clockedBy clocks es ≡ formed cs
+      → ((e : Equation) (q : ℕ) → equation M ts place ≡ got e q → LaidEquation M ts e q l)
+      → ((e : Expr) (q : ℕ) (clocks : Clocks) (o : Option Clock) → tree M ts (l .right) ≡ got e q → Agrees env M clocks → natural clocks e ≡ formed o → v ≡ orBase o)
+      → after ≡ overAt (17 * i) (clockWords v) now
+      → Equations M ts es cs q (n - i) place lent i now → Equations M ts es cs q (n - (i + 1)) (l .end) lent (i + 1) after
+  equation-entered clocks env n i place l v now after z a h L E g u =
+      let c = times-cons (equation M) ts (n - i) place (drop i es) q (λ y. omega (arith, y)) (u .items) in
+      let d = L (c .0) (c .1) (c .3) in
+      let b = clocked-item clocks es cs i (c .0) (c .2) h (c .5) in
+      let e : v ≡ orBase (b .0) = E (c .0 .right) (c .1) clocks (b .0) (d .right) a (b .1) in
+      let w : n - (i + 1) ≡ n - i - 1 = omega arith in
+      record { items = rw (d .ends, w, drop-next es i (c .0) (c .2) (c .5)) (c .4); entered = clock-entered (map (λ (c : Clocked). c .clock) cs) lent v i now after (b .3) (e ∙ sym (b .2)) g (u .entered) }
+
+  pub equations-entered : (clocks : Clocks) (n at i most room place left : ℕ) (now : List ℕ) → times n (equation M) ts at ≡ got es q → clockedBy clocks es ≡ formed cs → room ≡ length lent / 17 → most ≡ min n room → i ≤ most → most ≤ i
+      → Equations M ts es cs q left place lent i now → now ≡ clocksOver (map (λ (c : Clocked). c .clock) cs) lent
+  equations-entered clocks n at i most room place left now g h r e a b u =
+      clocks-entered (map (λ (c : Clocked). c .clock) cs) lent n i most room now (sym (clocked-many clocks es cs h ∙ times-length (equation M) ts n at es q g)) r e a b (u .entered)
+
+-- ---- faults
+default-any : {A : Type 0} (l : List A) (i : ℕ) (d e : A) → i < length l → getD l i d ≡ getD l i e
+default-any [] i d e h = absurd (omega arith)
+default-any (a ∷ l) zero d e h = refl
+default-any (a ∷ l) (suc i) d e h = default-any l i d e (omega arith)
+
+-- a number of each fault, read where it was written
+fault-number : (g : NodeFault → ℕ) (fs : List NodeFault) (s now : List ℕ) (i w : ℕ) → now ≡ over (map g fs) s → length fs ≤ length s → i < length fs → w ≡ getD now i 0 → w ≡ g (getD fs i noFault)
+fault-number g fs s now i w e h k r =
+    let m = length-map fs g in
+    r ∙ (ap (λ (l : List ℕ). getD l i 0) e ∙ (over-in (map g fs) s i (omega arith) (omega arith) ∙ (default-any (map g fs) i 0 (g noFault) (omega arith) ∙ List·getD-map g fs i noFault)))
+
+module _ (node : ℕ) (t : List ℕ) (n : ℕ) (lent : List ℕ) where
+  pub fault-entered : (i x y : ℕ) (ns es ns₀ es₀ now after : List ℕ) → n ≤ 4096 → length ns₀ ≡ 4096 → length es₀ ≡ 4096 → i < length (clockFaults (findingsIn t n))
+      → ns ≡ over (map (λ (f : NodeFault). faultNumber (f .fault)) (clockFaults (findingsIn t n))) ns₀ → es ≡ over (map (λ (f : NodeFault). f .equation) (clockFaults (findingsIn t n))) es₀
+      → x ≡ getD ns i 0 → y ≡ getD es i 0 → after ≡ overAt (3 * i) (node ∷ x ∷ y ∷ []) now
+      → Entered (faultWords node) (clockFaults (findingsIn t n)) lent i (3 * i) now → Entered (faultWords node) (clockFaults (findingsIn t n)) lent (i + 1) (3 * (i + 1)) after
+  fault-entered i x y ns es ns₀ es₀ now after few u v h a b p q g z =
+      let fs = clockFaults (findingsIn t n) in
+      let m : length (clockFaults (findingsIn t n)) ≤ 4096 = omega (arith, few-faults (findingsIn t n), length-from t 0 n) in
+      let e : x ≡ faultNumber (getD (clockFaults (findingsIn t n)) i noFault .fault) = fault-number (λ (f : NodeFault). faultNumber (f .fault)) (clockFaults (findingsIn t n)) ns₀ ns i x a (omega arith) h p in
+      let f : y ≡ getD (clockFaults (findingsIn t n)) i noFault .equation = fault-number (λ (f : NodeFault). f .equation) (clockFaults (findingsIn t n)) es₀ es i y b (omega arith) h q in
+      let k : after ≡ overAt (3 * i) (faultWords node (getD (clockFaults (findingsIn t n)) i noFault)) now = g ∙ (ap (λ (j : ℕ). overAt (3 * i) (node ∷ j ∷ y ∷ []) now) e ∙ ap (λ (j : ℕ). overAt (3 * i) (node ∷ faultNumber (getD (clockFaults (findingsIn t n)) i noFault .fault) ∷ j ∷ []) now) f) in
+      entered-more (faultWords node) (clockFaults (findingsIn t n)) lent noFault (getD (clockFaults (findingsIn t n)) i noFault) i (3 * i) (3 * (i + 1)) now after h refl k (omega arith) z
+
+  pub faults-entered : (m i most room : ℕ) (now : List ℕ) → m ≡ length (clockFaults (findingsIn t n)) → room ≡ length lent / 3 → most ≡ min m room → i ≤ most → most ≤ i
+      → Entered (faultWords node) (clockFaults (findingsIn t n)) lent i (3 * i) now → now ≡ faultsOver node (clockFaults (findingsIn t n)) lent
+  faults-entered m i most room now k r e a b z =
+      entered-all (faultWords node) (clockFaults (findingsIn t n)) lent 3 i (3 * i) now (let u : i ≡ most = omega arith in u ∙ (e ∙ (ap (λ (x : ℕ). min x room) k ∙ ap (λ (x : ℕ). min (length (clockFaults (findingsIn t n))) x) r))) z
+
+-- ---- a node
+counts-same : (a a′ b b′ c c′ d d′ e e′ : ℕ) → a ≡ a′ → b ≡ b′ → c ≡ c′ → d ≡ d′ → e ≡ e′
+    → _≡_ {A = NodeCounts} (record { name = a; passes = b; equations = c; chains = d; faults = e }) (record { name = a′; passes = b′; equations = c′; chains = d′; faults = e′ })
+counts-same a a′ b b′ c c′ d d′ e e′ p q r s t = rw (p, q, r, s, t)
+
+module _ (letters : ℕ → Letters) (ts : List TagValue) (env t : List ℕ) (told : Told) (n : ClockedNode) (z : Told′ (told .names) ts env t (told .number) told n) where
+  pub node-written : (es cs fs es′ cs′ fs′ : List ℕ) (node equations m f : ℕ) → told .findings ≤ 4096 → told .number < 16 → (told .number < 4294967296 → node ≡ told .number) → equations ≡ told .layout .equations .count
+      → ((clocks : Clocks) (l : List Equation) (q : ℕ) (ks : List Clocked) → Agrees env (told .names) clocks → times (told .layout .equations .count) (equation (told .names)) ts (told .layout .equations .at) ≡ got l q → clockedBy clocks l ≡ formed ks → es′ ≡ clocksOver (map (λ (c : Clocked). c .clock) ks) es)
+      → (told .findings ≤ 4096 → m ≡ length (chains letters (findingsIn t (told .findings)))) → (told .findings ≤ 4096 → cs′ ≡ clocksOver (chains letters (findingsIn t (told .findings))) cs)
+      → f ≡ length (clockFaults (findingsIn t (told .findings))) → (told .findings ≤ 4096 → fs′ ≡ faultsOver node (clockFaults (findingsIn t (told .findings))) fs)
+      → Written (told .number) (nodeClocks letters n) es cs fs es′ cs′ fs′ (record { name = told .layout .name; passes = told .passes; equations = equations; chains = m; faults = f })
+  unfolding nodeClocks
+  node-written es cs fs es′ cs′ fs′ node equations m f few small w e E C C′ F F′ =
+      let k = n .clocking in
+      let a = node-clocked (n .node) (n .clocking) (z .formed) in
+      let all = z .tells .all in
+      let x : node ≡ told .number = w (omega arith) in
+      record {
+        counts =
+            counts-same _ _ _ _ _ _ _ _ _ _ (z .laid .named) (sym (z .tells .made)) (e ∙ (z .laid .equations .many ∙ sym (clocked-many (k .names) (n .node .equations) (k .equations) a))) (C few ∙ ap (λ (l : List Finding). length (chains letters l)) all) (F ∙ ap (λ (l : List Finding). length (clockFaults l)) all);
+        equations = E (k .names) (n .node .equations) (told .layout .equations .end) (k .equations) (z .tells .named) (z .laid .equations .items) a;
+        chains = C′ few ∙ ap (λ (l : List Finding). clocksOver (chains letters l) cs) all;
+        faults = F′ few ∙ (ap (λ (j : ℕ). faultsOver j (clockFaults (findingsIn t (told .findings))) fs) x ∙ ap (λ (l : List Finding). faultsOver (told .number) (clockFaults l) fs) all);
+      }

@@ -1,0 +1,3 @@
+-- What the questions are answered from, and the words that they are answered in.
+pub mod Standing
+pub mod Words

@@ -1,0 +1,59 @@
+-- A sheet in the working tables, and what is told of its nodes.
+use Prim.Native.Nat.{ℕ, _*_, _≤_, _<_}
+use mathlib.Core.Path.{_≡_}
+use mathlib.Core.List.{List}
+use lib.ListN.{length}
+use Rattle.definitions.specs.declared.Refusal.{Refusal}
+use Rattle.definitions.specs.Tokens.{TagValue}
+use Rattle.definitions.specs.Tree.{Node}
+use Rattle.definitions.specs.Bytes.{tokens}
+use Rattle.definitions.specs.Reading.{got}
+use Rattle.definitions.specs.Grammar.{node, sheet}
+use Rattle.definitions.specs.Refusals.{Answer, accepted, refused}
+use Rattle.definitions.specs.InferClocks.{deep, formed, Clocking, clocking}
+use Rattle.definitions.specs.Output.{lettersOf, ClockedNode}
+use Rattle.definitions.specs.Answer.{Input, itemAt}
+use Rattle.fresh.specs.Places.{lettersAt}
+use Rattle.layout.specs.Laid.{Laid}
+use Rattle.infer_clocks.specs.Clocked.{Tells}
+use Rattle.listing.specs.declared.Told.{Told}
+use Rattle.query.specs.declared.NodePlace.{NodePlace}
+use Rattle.query.specs.declared.NodeAnswer.{NodeAnswer}
+
+-- the sheet r stands in these tables: the letters of its names by where they start, its tokens as tags and values
+pub record Standing (starts letters tags values : List ℕ) (M : ℕ) (r : Input) : Type 0 where
+  pub named : lettersAt starts letters ≡ lettersOf (r .names)
+  pub few-letters : length letters ≤ 16384
+  pub few-names : M ≤ 1024
+  pub few-tokens : length tags ≤ 4096
+  pub tree : sheet M (tokens tags values) 0 ≡ got (r .sheet) (length tags)
+
+-- the working tables have room for the clocks of M names, and for what so many tokens let be found
+pub record Roomy (M many : ℕ) (env table : List ℕ) : Type 0 where
+  pub few : M ≤ 1024
+  pub clocks : 17 * M ≤ length env
+  pub found : 38 * many ≤ length table
+
+-- where node k stands, or 8
+unfoldable pub Located : ℕ → List TagValue → List Node → ℕ → NodePlace → Type 0
+Located M ts ns k NodePlace.Missing = itemAt ns k ≡ refused Refusal.Missing
+Located M ts ns k (NodePlace.At p) = (n : Node) × (q : ℕ) × (itemAt ns k ≡ accepted n) × (node M ts p ≡ got n q) × (k < 16)
+
+-- node k laid out, with its clocks in the working tables
+pub record Clocked (M : ℕ) (ts : List TagValue) (env t : List ℕ) (k : ℕ) (told : Told) (n : ClockedNode) : Type 0 where
+  pub end : ℕ
+  pub laid : Laid M ts (n .node) end (told .layout)
+  pub formed : clocking (n .node) ≡ formed (n .clocking)
+  pub tells : Tells env t M (told .passes) (told .findings) (n .clocking)
+  pub number : told .number ≡ k
+  pub names : told .names ≡ M
+
+-- node k, which is n, with its clocks, or 9
+unfoldable pub ClockedAs : ℕ → List TagValue → List ℕ → List ℕ → ℕ → Node → NodeAnswer → Type 0
+ClockedAs M ts env t k n (NodeAnswer.Refused r) = (clocking n ≡ deep) × (r ≡ Refusal.Deep k)
+ClockedAs M ts env t k n (NodeAnswer.Node told) = (c : Clocking) × (clocking n ≡ formed c) × Clocked M ts env t k told (record { node = n; clocking = c })
+
+-- node k with its clocks, or 8 or 9
+unfoldable pub NodeTold : ℕ → List TagValue → List ℕ → List ℕ → ℕ → NodeAnswer → Answer ClockedNode → Type 0
+NodeTold M ts env t k (NodeAnswer.Refused r) v = v ≡ refused r
+NodeTold M ts env t k (NodeAnswer.Node told) v = (n : ClockedNode) × (v ≡ accepted n) × Clocked M ts env t k told n × (k < 16)

@@ -1,0 +1,476 @@
+// What the questions on a sheet's nodes are answered from, over the working tables: a node found and clocked, its clocks and faults
+// as words, the listings of all nodes. `tags` and `values` are as long as each other; `names` is the number of names.
+use clock::Clock;
+use definitions::Refusal;
+use infer_clocks::Deepest;
+use infer_clocks::NodeClocked;
+use layout::NodeLayout;
+use layout::Span;
+use listing::Told;
+ghost use mathlib.Core.Path.{_≡_};
+ghost use mathlib.Core.List.{List, [], _∷_, map};
+ghost use Prim.Native.Nat.{ℕ, _+_, _*_, _≤_, _<_, min};
+ghost use lib.ListN.{length, getD};
+ghost use Rattle.definitions.specs.Bytes.{tokens};
+ghost use Rattle.definitions.specs.Lists.{join, numbered};
+ghost use Rattle.definitions.specs.Tree.{Equation, Node, Sheet};
+ghost use Rattle.definitions.specs.Reading.{got, times};
+ghost use Rattle.definitions.specs.Grammar.{equation, sheet};
+ghost use Rattle.definitions.specs.InferClocks.{Clocks, Clocked, Clocking, formed, clockedBy, clocking, chains, clockFaults};
+ghost use Rattle.definitions.specs.Refusals.{accepted};
+ghost use Rattle.definitions.specs.Output.{lettersOf, ClockedNode};
+ghost use Rattle.definitions.specs.Answer.{Input, clockings, nodeAt, nodeClocks, nodeListing};
+ghost use Rattle.clock.specs.Value.{valueOf};
+ghost use Rattle.environment.specs.Environment.{Agrees};
+ghost use Rattle.findings.specs.Findings.{findingsIn};
+ghost use Rattle.fresh.specs.Places.{lettersAt};
+ghost use Rattle.order.specs.Order.{rowOf, picked};
+ghost use Rattle.spelling.specs.Writing.{overAt, farthest};
+ghost use Rattle.layout.specs.Laid.{Laid};
+ghost use Rattle.infer_clocks.specs.Clocked.{Deeply};
+ghost use Rattle.query.specs.Standing.{Standing, Roomy, Located, Clocked as Told′, ClockedAs, NodeTold};
+ghost use Rattle.query.specs.Words.{clockWords, clocksOver, faultsOver, Written, PutText};
+
+// Where a node stands.
+pub enum NodePlace {
+    Missing,
+    At(usize),
+}
+
+// A node laid out and clocked, or turned down.
+pub enum NodeAnswer {
+    Node(Told),
+    Refused(Refusal),
+}
+
+// A node's name and passes, and how many equations, chains and clock faults it has.
+pub struct NodeCounts {
+    pub name: u32,
+    pub passes: usize,
+    pub equations: usize,
+    pub chains: usize,
+    pub faults: usize,
+}
+
+fn wide(x: u32) -> usize
+    ensures { λ r. ⌜ r ≡ x ⌝ }
+{
+    x as usize
+}
+
+// Where node k stands, if the sheet has it.
+pub fn node_place(tags: &[u8], values: &[u32], names: u32, k: usize) -> NodePlace
+    requires { ⌜ length (now values) ≡ length (now tags) ⌝ }
+    ensures { λ r. ⌜ ((s : Sheet) (q : ℕ) → sheet names (tokens (now (tags .entry)) (now (values .entry))) 0 ≡ got s q → Located names (tokens (now (tags .entry)) (now (values .entry))) (s .nodes) k r) ⌝ }
+{
+    let whole = layout::sheet_at(tags, values, names);
+    let nodes = whole.nodes;
+    let n = wide(nodes.count);
+    if n <= k {
+        return NodePlace::Missing;
+    }
+    if 16 < n {
+        return NodePlace::Missing;
+    }
+    let places = layout::node_places(tags, values, names, n, nodes.at);
+    NodePlace::At(places[k])
+}
+
+// The first node in which too deep a clock is formed.
+pub fn first_deep(
+    tags: &[u8],
+    values: &[u32],
+    names: u32,
+    env: &mut [u32],
+    table: &mut [u32],
+) -> Deepest
+    requires { ⌜ length (now values) ≡ length (now tags) ⌝ }
+    ensures { λ r. ⌜ ((s : Sheet) (q : ℕ) → sheet names (tokens (now (tags .entry)) (now (values .entry))) 0 ≡ got s q → Roomy names (length (now (tags .entry))) (now (env .entry)) (now (table .entry)) → Deeply r (clockings 0 (s .nodes))) ⌝ }
+{
+    let whole = layout::sheet_at(tags, values, names);
+    let nodes = whole.nodes;
+    let mut marks = [0u8; 1024];
+    let mut ports = [0u32; 1024];
+    infer_clocks::first_deep(
+        tags,
+        values,
+        names,
+        nodes.count,
+        nodes.at,
+        env,
+        &mut marks,
+        &mut ports,
+        table,
+    )
+}
+
+// The same, with working tables of its own.
+pub fn deep_node(tags: &[u8], values: &[u32], names: u32) -> Deepest
+    requires { ⌜ length (now values) ≡ length (now tags) ⌝ }
+    ensures { λ r. ⌜ ((s : Sheet) (q : ℕ) → sheet names (tokens (now (tags .entry)) (now (values .entry))) 0 ≡ got s q → names ≤ 1024 → length (now (tags .entry)) ≤ 4096 → Deeply r (clockings 0 (s .nodes))) ⌝ }
+{
+    let mut env = [0u32; 17408];
+    let mut table = [0u32; 155648];
+    first_deep(tags, values, names, &mut env, &mut table)
+}
+
+// Node k, which has this layout, clocked; or refusal 9 at it.
+fn clock_laid(
+    tags: &[u8],
+    values: &[u32],
+    names: u32,
+    layout: NodeLayout,
+    k: usize,
+    env: &mut [u32],
+    table: &mut [u32],
+) -> NodeAnswer
+    requires { ⌜ length (now values) ≡ length (now tags) ⌝ }
+    ensures { λ r. ⌜ ((n : Node) (q : ℕ) → Laid names (tokens (now (tags .entry)) (now (values .entry))) n q layout → Roomy names (length (now (tags .entry))) (now (env .entry)) (now (table .entry)) → ClockedAs names (tokens (now (tags .entry)) (now (values .entry))) (now (env .exit)) (now (table .exit)) k n r) ⌝ }
+{
+    let mut marks = [0u8; 1024];
+    let mut ports = [0u32; 1024];
+    let clocked = infer_clocks::clock_laid(
+        tags,
+        values,
+        names,
+        layout,
+        env,
+        &mut marks,
+        &mut ports,
+        table,
+    );
+    match clocked {
+        NodeClocked::Deep => NodeAnswer::Refused(Refusal::Deep(k)),
+        NodeClocked::Clocked(passes, findings) => NodeAnswer::Node(Told {
+            layout,
+            number: k,
+            names,
+            passes,
+            findings,
+        }),
+    }
+}
+
+// Node k laid out and clocked; refusal 8 is told before 9.
+pub fn clock_at(
+    tags: &[u8],
+    values: &[u32],
+    names: u32,
+    k: usize,
+    env: &mut [u32],
+    table: &mut [u32],
+) -> NodeAnswer
+    requires { ⌜ length (now values) ≡ length (now tags) ⌝ }
+    ensures { λ r. ⌜ ((i : Input) (q : ℕ) → sheet names (tokens (now (tags .entry)) (now (values .entry))) 0 ≡ got (i .sheet) q → Roomy names (length (now (tags .entry))) (now (env .entry)) (now (table .entry)) → NodeTold names (tokens (now (tags .entry)) (now (values .entry))) (now (env .exit)) (now (table .exit)) k r (nodeAt i k)) ⌝ }
+{
+    let found = node_place(tags, values, names, k);
+    let NodePlace::At(at) = found else {
+        return NodeAnswer::Refused(Refusal::Missing);
+    };
+    let deep = first_deep(tags, values, names, env, table);
+    if let Deepest::At(i) = deep {
+        return NodeAnswer::Refused(Refusal::Deep(wide(i)));
+    }
+    let layout = layout::node_at(tags, values, names, at);
+    clock_laid(tags, values, names, layout, k, env, table)
+}
+
+fn least(a: usize, b: usize) -> usize
+    ensures { λ r. ⌜ r ≡ min a b ⌝ }
+{
+    if a < b { a } else { b }
+}
+
+// Word j of a clock in seventeen.
+fn clock_word(c: Clock, j: usize) -> u32
+    ensures { λ r. ⌜ r ≡ getD (clockWords (valueOf c)) j 0 ⌝ }
+{
+    let d = clock::depth_of(c);
+    if j == 0 {
+        return (d + 1) as u32;
+    }
+    let i = (j - 1) / 2;
+    if d <= i {
+        return 0;
+    }
+    let k = c.conditions[i];
+    if j % 2 == 1 {
+        return k.name;
+    }
+    let test = k.test;
+    flat::word_of(test)
+}
+
+// A clock in the seventeen words from b on.
+fn put_clock(list: &mut [u32], b: usize, c: Clock)
+    requires { ⌜ b + 17 ≤ length (now list) ⌝ }
+    ensures { λ r. ⌜ now (list .exit) ≡ overAt b (clockWords (valueOf c)) (now (list .entry)) ⌝ }
+{
+    let mut j: usize = 0;
+    while j < 17 {
+        let w = clock_word(c, j);
+        list[b + j] = w;
+        j += 1;
+    }
+}
+
+// The clocks of the equations that stand there.
+pub fn write_equations(
+    tags: &[u8],
+    values: &[u32],
+    names: u32,
+    env: &[u32],
+    s: Span,
+    list: &mut [u32],
+)
+    requires { ⌜ length (now values) ≡ length (now tags) ⌝ }
+    ensures { λ r. ⌜ ((clocks : Clocks) (es : List Equation) (q : ℕ) (cs : List Clocked) → Agrees (now (env .entry)) names clocks → times (s .count) (equation names) (tokens (now (tags .entry)) (now (values .entry))) (s .at) ≡ got es q → clockedBy clocks es ≡ formed cs → now (list .exit) ≡ clocksOver (map (λ c. c .clock) cs) (now (list .entry))) ⌝ }
+{
+    let room = list.len() / 17;
+    let n = wide(s.count);
+    let most = least(n, room);
+    let mut place = s.at;
+    let mut i: usize = 0;
+    while i < most {
+        let l = layout::equation_at(tags, values, names, place);
+        let right = l.right;
+        let end = l.end;
+        let c = infer_clocks::equation_clock(tags, values, names, env, right);
+        put_clock(list, 17 * i, c);
+        place = end;
+        i += 1;
+    }
+}
+
+// The clocks of m rows, in the order that `chain` says.
+fn write_rows(rows: &[u32], chain: &[u32], m: usize, list: &mut [u32])
+    ensures { λ r. ⌜ now (list .exit) ≡ clocksOver (picked (rowOf (now (rows .entry))) (now (chain .entry)) 0 m) (now (list .entry)) ⌝ }
+{
+    let room = list.len() / 17;
+    let most = least(m, room);
+    let mut i: usize = 0;
+    while i < most {
+        let row = wide(flat::word_at(chain, i));
+        let c = rows::get(rows, row);
+        put_clock(list, 17 * i, c);
+        i += 1;
+    }
+}
+
+// The chains of a node by its n findings: how many there are.
+pub fn write_chains(
+    starts: &[u32],
+    letters: &[u8],
+    table: &[u32],
+    n: usize,
+    list: &mut [u32],
+) -> usize
+    ensures { λ r. ⌜ (n ≤ 4096 → r ≡ length (chains (lettersAt (now (starts .entry)) (now (letters .entry))) (findingsIn (now (table .entry)) n))) ⌝ }
+    ensures { λ r. ⌜ (n ≤ 4096 → now (list .exit) ≡ clocksOver (chains (lettersAt (now (starts .entry)) (now (letters .entry))) (findingsIn (now (table .entry)) n)) (now (list .entry))) ⌝ }
+{
+    let mut rows = [0u32; 69632];
+    let mut chain = [0u32; 4096];
+    let m = infer_clocks::chain_rows(starts, letters, table, n, &mut rows, &mut chain);
+    write_rows(&rows, &chain, m, list);
+    m
+}
+
+// A fault in the three words from b on.
+fn put_fault(list: &mut [u32], b: usize, node: u32, number: u32, equation: u32)
+    requires { ⌜ b + 3 ≤ length (now list) ⌝ }
+    ensures { λ r. ⌜ now (list .exit) ≡ overAt b (node ∷ number ∷ equation ∷ []) (now (list .entry)) ⌝ }
+{
+    list[b] = node;
+    list[b + 1] = number;
+    list[b + 2] = equation;
+}
+
+// The clock faults of a node by its n findings: how many there are.
+pub fn write_faults(table: &[u32], n: usize, node: u32, list: &mut [u32]) -> usize
+    ensures { λ r. ⌜ r ≡ length (clockFaults (findingsIn (now (table .entry)) n)) ⌝ }
+    ensures { λ r. ⌜ (n ≤ 4096 → now (list .exit) ≡ faultsOver node (clockFaults (findingsIn (now (table .entry)) n)) (now (list .entry))) ⌝ }
+{
+    let mut numbers = [0u32; 4096];
+    let mut equations = [0u32; 4096];
+    let m = findings::write_faults(table, n, &mut numbers, &mut equations);
+    let room = list.len() / 3;
+    let most = least(m, room);
+    let mut i: usize = 0;
+    while i < most {
+        let number = flat::word_at(&numbers, i);
+        let equation = flat::word_at(&equations, i);
+        put_fault(list, 3 * i, node, number, equation);
+        i += 1;
+    }
+    m
+}
+
+// A number as a word, if it is one.
+fn narrow(x: usize) -> u32
+    ensures { λ r. ⌜ (x < 4294967296 → r ≡ x) ⌝ }
+{
+    if x < 4294967296 {
+        return x as u32;
+    }
+    0
+}
+
+// The clocks and faults of a node, over three lent lists.
+pub fn write_clocks(
+    starts: &[u32],
+    letters: &[u8],
+    tags: &[u8],
+    values: &[u32],
+    env: &[u32],
+    table: &[u32],
+    told: Told,
+    equations: &mut [u32],
+    chains: &mut [u32],
+    faults: &mut [u32],
+) -> NodeCounts
+    requires { ⌜ length (now values) ≡ length (now tags) ⌝ }
+    ensures { λ r. ⌜ ((n : ClockedNode) → Told′ (told .names) (tokens (now (tags .entry)) (now (values .entry))) (now (env .entry)) (now (table .entry)) (told .number) told n → told .findings ≤ 4096 → told .number < 16 → Written (told .number) (nodeClocks (lettersAt (now (starts .entry)) (now (letters .entry))) n) (now (equations .entry)) (now (chains .entry)) (now (faults .entry)) (now (equations .exit)) (now (chains .exit)) (now (faults .exit)) r) ⌝ }
+{
+    let l = told.layout;
+    let e = l.equations;
+    let n = told.findings;
+    let node = narrow(told.number);
+    write_equations(tags, values, told.names, env, e, equations);
+    let m = write_chains(starts, letters, table, n, chains);
+    let f = write_faults(table, n, node, faults);
+    NodeCounts {
+        name: l.name,
+        passes: told.passes,
+        equations: wide(e.count),
+        chains: m,
+        faults: f,
+    }
+}
+
+// The listing of a node put at a place of the lent bytes, as far as they reach: how long it is.
+fn put_at(
+    out: &mut [u8],
+    at: usize,
+    starts: &[u32],
+    letters: &[u8],
+    tags: &[u8],
+    values: &[u32],
+    env: &[u32],
+    table: &[u32],
+    told: Told,
+    rows: &mut [u32],
+    chain: &mut [u32],
+) -> usize
+    requires { ⌜ length (now values) ≡ length (now tags) ⌝ }
+    ensures { λ r. ⌜ r ≤ farthest ⌝ }
+    ensures { λ r. ⌜ ((n : ClockedNode) → Told′ (told .names) (tokens (now (tags .entry)) (now (values .entry))) (now (env .entry)) (now (table .entry)) (told .number) told n → 17 * told .findings ≤ length (now (rows .entry)) → told .findings ≤ length (now (chain .entry)) → length (now (letters .entry)) ≤ 16384 → length (now (tags .entry)) ≤ 4096 → told .findings ≤ 4096 → PutText (nodeListing (lettersAt (now (starts .entry)) (now (letters .entry))) (told .number) n) at (now (out .entry)) r (now (out .exit))) ⌝ }
+{
+    let m = listing::measure_node(starts, letters, tags, values, env, table, told, rows, chain);
+    if out.len() <= at {
+        return m;
+    }
+    let left = out.len() - at;
+    let to = at + least(m, left);
+    let part = &mut out[at..to];
+    listing::put_node(
+        part,
+        0,
+        starts,
+        letters,
+        tags,
+        values,
+        env,
+        table,
+        told,
+        rows,
+        chain,
+    );
+    m
+}
+
+// The same, with working tables of its own.
+fn put_told(
+    out: &mut [u8],
+    at: usize,
+    starts: &[u32],
+    letters: &[u8],
+    tags: &[u8],
+    values: &[u32],
+    env: &[u32],
+    table: &[u32],
+    told: Told,
+) -> usize
+    requires { ⌜ length (now values) ≡ length (now tags) ⌝ }
+    ensures { λ r. ⌜ r ≤ farthest ⌝ }
+    ensures { λ r. ⌜ ((n : ClockedNode) → Told′ (told .names) (tokens (now (tags .entry)) (now (values .entry))) (now (env .entry)) (now (table .entry)) (told .number) told n → length (now (letters .entry)) ≤ 16384 → length (now (tags .entry)) ≤ 4096 → told .findings ≤ 4096 → PutText (nodeListing (lettersAt (now (starts .entry)) (now (letters .entry))) (told .number) n) at (now (out .entry)) r (now (out .exit))) ⌝ }
+{
+    let mut rows = [0u32; 69632];
+    let mut chain = [0u32; 4096];
+    put_at(
+        out,
+        at,
+        starts,
+        letters,
+        tags,
+        values,
+        env,
+        table,
+        told,
+        &mut rows,
+        &mut chain,
+    )
+}
+
+// The same of node k, which has this layout and is clocked first.
+fn put_laid(
+    out: &mut [u8],
+    at: usize,
+    starts: &[u32],
+    letters: &[u8],
+    tags: &[u8],
+    values: &[u32],
+    names: u32,
+    layout: NodeLayout,
+    k: usize,
+) -> usize
+    requires { ⌜ length (now values) ≡ length (now tags) ⌝ }
+    ensures { λ r. ⌜ r ≤ farthest ⌝ }
+    ensures { λ r. ⌜ ((n : Node) (q : ℕ) (c : Clocking) → Laid names (tokens (now (tags .entry)) (now (values .entry))) n q layout → clocking n ≡ formed c → names ≤ 1024 → length (now (letters .entry)) ≤ 16384 → length (now (tags .entry)) ≤ 4096 → PutText (nodeListing (lettersAt (now (starts .entry)) (now (letters .entry))) k (record { node = n; clocking = c })) at (now (out .entry)) r (now (out .exit))) ⌝ }
+{
+    let mut env = [0u32; 17408];
+    let mut table = [0u32; 155648];
+    let answer = clock_laid(tags, values, names, layout, k, &mut env, &mut table);
+    let NodeAnswer::Node(told) = answer else {
+        return 0;
+    };
+    put_told(out, at, starts, letters, tags, values, &env, &table, told)
+}
+
+// The listings of all nodes one behind another over the front of the lent bytes, as far as they reach: how long they are.
+pub fn put_listings(
+    out: &mut [u8],
+    starts: &[u32],
+    letters: &[u8],
+    tags: &[u8],
+    values: &[u32],
+    names: u32,
+) -> usize
+    requires { ⌜ length (now values) ≡ length (now tags) ⌝ }
+    ensures { λ r. ⌜ ((i : Input) (ns : List ClockedNode) → Standing (now (starts .entry)) (now (letters .entry)) (now (tags .entry)) (now (values .entry)) names i → clockings 0 (i .sheet .nodes) ≡ accepted ns → PutText (join (numbered (nodeListing (lettersOf (i .names))) 0 ns)) 0 (now (out .entry)) r (now (out .exit))) ⌝ }
+{
+    let whole = layout::sheet_at(tags, values, names);
+    let nodes = whole.nodes;
+    let n = nodes.count;
+    let mut place = nodes.at;
+    let mut at: usize = 0;
+    let mut i: u32 = 0;
+    while i < n {
+        let one = layout::node_at(tags, values, names, place);
+        let k = wide(i);
+        let size = put_laid(out, at, starts, letters, tags, values, names, one, k);
+        at += size;
+        place = one.end;
+        i += 1;
+    }
+    at
+}

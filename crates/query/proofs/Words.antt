@@ -26,18 +26,18 @@ over-in (a ∷ l) [] i h k = absurd (omega arith)
 over-in (a ∷ l) (b ∷ s) zero h k = refl
 over-in (a ∷ l) (b ∷ s) (suc i) h k = over-in l s i (omega arith) (omega arith)
 
-over-after : (l s : List ℕ) (i : ℕ) → length l ≤ i → getD (over l s) i 0 ≡ getD s i 0
+pub over-after : (l s : List ℕ) (i : ℕ) → length l ≤ i → getD (over l s) i 0 ≡ getD s i 0
 over-after [] s i h = refl
 over-after (a ∷ l) [] i h = refl
 over-after (a ∷ l) (b ∷ s) zero h = absurd (omega arith)
 over-after (a ∷ l) (b ∷ s) (suc i) h = over-after l s i (omega arith)
 
-zero-at : (n i : ℕ) → getD (zeros n) i 0 ≡ 0
+pub zero-at : (n i : ℕ) → getD (zeros n) i 0 ≡ 0
 zero-at zero i = refl
 zero-at (suc n) zero = refl
 zero-at (suc n) (suc i) = zero-at n i
 
-zeros-long : (n : ℕ) → length (zeros n) ≡ n
+pub zeros-long : (n : ℕ) → length (zeros n) ≡ n
 zeros-long zero = refl
 zeros-long (suc n) = ap suc (zeros-long n)
 

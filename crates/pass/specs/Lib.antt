@@ -1,0 +1,2 @@
+-- The answers of the entry points.
+pub mod Answers

@@ -1,4 +1,6 @@
 -- `pass::listings_standing` meets its contract. Assumes nothing.
+use native.Mathlib.Omega.{arith}
+use denote.Ref.{now}
 use Rattle.pass.proofs.Given.{listings-deep, listings-there, listings-lent, listings-written}
 use borrow.Author.Needs.{needs}
 use Rattle.pass.proofs.listings_standing.Statement.{statement}
@@ -27,7 +29,7 @@ put-listings-requires c κs = search needs
 
 returns-2 : tie.Need-returns-2
 returns-2 c =
-    λ i s. let z = listings-there i _ (c .before .before .before .before .before .before .deep-node .ensures (i .sheet) _ (s .tree) (s .few-names) (s .few-tokens)) (c .before .before .before .before .enum-told .given .1) in listings-lent i (z .0) (z .1) _ _ _ _ (c .before .before .put-listings .ensures i (z .0) s (z .1)) (c .if1 .taken)
+    λ i s. let z = listings-there i _ (c .before .before .before .before .before .before .deep-node .ensures (i .sheet) _ (s .tree) (s .few-names) (s .few-tokens)) (c .before .before .before .before .enum-told .given .1) in listings-lent i (z .0) (z .1) (c .before .before .put-listings .result) _ _ (now (c .before .before .before .before .before .before .before .before .before .before .before .before .args .out)) (c .before .before .put-listings .ensures i (z .0) s (z .1)) (omega (arith, c .if1 .taken))
 
 put-listings-requires-2 : tie.Need-put-listings-requires-2
 put-listings-requires-2 c κs = search needs
@@ -37,7 +39,7 @@ same-length c = search needs
 
 returns-3 : tie.Need-returns-3
 returns-3 c =
-    λ i s. let z = listings-there i _ (c .before .before .before .before .before .before .before .before .before .before .deep-node .ensures (i .sheet) _ (s .tree) (s .few-names) (s .few-tokens)) (c .before .before .before .before .before .before .before .before .enum-told .given .1) in listings-written i (z .0) (z .1) _ _ _ _ _ _ (c .before .before .before .before .before .before .put-listings .ensures i (z .0) s (z .1)) (c .before .before .before .before .if1 .left) (c .before .before .put-listings2 .ensures i (z .0) s (z .1))
+    λ i s. let z = listings-there i _ (c .before .before .before .before .before .before .before .before .before .before .deep-node .ensures (i .sheet) _ (s .tree) (s .few-names) (s .few-tokens)) (c .before .before .before .before .before .before .before .before .enum-told .given .1) in listings-written i (z .0) (z .1) (c .before .before .before .before .before .before .put-listings .result) _ _ (now (c .before .before .before .before .before .before .before .before .before .before .before .before .before .before .before .before .args .out)) _ _ (c .before .before .before .before .before .before .put-listings .ensures i (z .0) s (z .1)) (omega (arith, c .before .before .before .before .if1 .left)) (c .before .before .put-listings2 .ensures i (z .0) s (z .1))
 
 pub listings-standing-spec : {M : Type 1} → statement M
 listings-standing-spec =

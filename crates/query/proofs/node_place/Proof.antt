@@ -17,7 +17,7 @@ wide-requires : tie.Need-wide-requires
 wide-requires c κs = search needs
 
 returns : tie.Need-returns
-returns c = λ s q g. let l = c .before .before .before .sheet-at .ensures s q g in located-none _ _ _ _ _ _ (c .before .wide .ensures) (l .nodes .many) (c .if1 .taken)
+returns c = λ s q g. let l = c .before .before .before .sheet-at .ensures s q g in located-none _ _ _ (c .before .before .before .before .before .before .args .k) (c .before .wide .result) _ (c .before .wide .ensures) (l .nodes .many) (omega (arith, c .if1 .taken))
 
 returns-2 : tie.Need-returns-2
 returns-2 c = λ s q g. let l = c .before .before .before .before .sheet-at .ensures s q g in absurd (omega (arith, l .few-nodes, c .before .before .wide .ensures, c .if2 .taken))
@@ -32,7 +32,7 @@ array-read-t14 : tie.Need-array-read-t14
 array-read-t14 c = search needs
 
 returns-3 : tie.Need-returns-3
-returns-3 c = λ s q g. let l = c .before .before .before .before .before .sheet-at .ensures s q g in located-at _ _ _ _ _ _ (c .before .before .before .wide .ensures) (l .nodes .many) _ _ _ (c .node-places .ensures) (l .nodes .items) (c .before .before .if1 .left) (c .before .if2 .left)
+returns-3 c = λ s q g. let l = c .before .before .before .before .before .sheet-at .ensures s q g in located-at _ _ _ (c .before .before .before .before .before .before .before .before .args .k) (c .before .before .before .wide .result) _ (c .before .before .before .wide .ensures) (l .nodes .many) _ _ _ (c .node-places .ensures) (l .nodes .items) (omega (arith, c .before .before .if1 .left)) (omega (arith, c .before .if2 .left))
 
 pub node-place-spec : {M : Type 1} → statement M
 node-place-spec =

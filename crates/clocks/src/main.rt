@@ -1,0 +1,123 @@
+// Prints the clocks of each node of the sheet on standard input, or of one node; or what the sheet is refused for.
+use arguments::Word;
+use definitions::Refusal;
+use libc::STDERR_FILENO;
+use libc::STDIN_FILENO;
+use libc::STDOUT_FILENO;
+use pass::ListingAnswer;
+
+// What is asked for: the listing of every node, or of one.
+enum Asked {
+    Every,
+    Node(usize),
+}
+
+fn help() {
+    io::write_all(
+        STDOUT_FILENO,
+        b"clocks [NODE]: prints the clocks of each node of the sheet on standard input, or of node NODE, counted from 0.
+
+NAME EQUATIONS PASSES CHAINS       the node's name, its number of equations, the passes made, its number of chains
+EQUATION CLOCK                     a line for each equation, counted from 0
+chain CLOCK                        a line for each clock other than base of a `pre` or `->`
+fault NODE FAULT EQUATION TEXT     a line for each clock fault
+
+A clock is base, and then a condition /NAME+ where the name is on, or /NAME- where it is not, for each it is sampled by.
+A sheet that is turned down is one line on standard error, `refused N PLACE`.
+",
+    );
+}
+
+fn wrong() {
+    io::write_all(
+        STDERR_FILENO,
+        b"clocks: NODE is a node's number, counted from 0; clocks --help says more\n",
+    );
+}
+
+fn show(fd: i32, out: &[u8], n: usize) {
+    io::write_all(fd, arguments::front(out, n));
+}
+
+fn refuse(r: Refusal) {
+    let mut out = [0u8; 64];
+    let n = arguments::put_refusal(&mut out, r);
+    show(STDERR_FILENO, &out, n);
+}
+
+fn listed(sheet: &[u8], asked: Asked, out: &mut [u8]) -> ListingAnswer {
+    match asked {
+        Asked::Every => pass::listings(sheet, out),
+        Asked::Node(k) => pass::listing(sheet, k, out),
+    }
+}
+
+fn listed_long(sheet: &[u8], asked: Asked, out: &mut [u8; 3407872]) -> ListingAnswer {
+    listed(sheet, asked, out)
+}
+
+fn show_long(out: &[u8; 3407872], n: usize) {
+    show(STDOUT_FILENO, out, n)
+}
+
+// A long listing. Each line comes of a token of its own, of which there are at most 4,096, and the longest, a fault's, is 819 bytes.
+fn print_long(sheet: &[u8], asked: Asked) {
+    let mut out = [0u8; 3407872];
+    let answer = listed_long(sheet, asked, &mut out);
+    match answer {
+        ListingAnswer::Written(n) => show_long(&out, n),
+        ListingAnswer::Refused(_) => {
+            io::write_all(
+                STDERR_FILENO,
+                b"clocks: the listing is longer than 3407872 bytes\n",
+            );
+        }
+    }
+}
+
+fn turn_down(sheet: &[u8], asked: Asked, r: Refusal) {
+    if let Refusal::Lent(_) = r {
+        print_long(sheet, asked);
+        return;
+    }
+    refuse(r);
+}
+
+fn print(sheet: &[u8], asked: Asked) {
+    let mut out = io::large_buffer();
+    let answer = listed(sheet, asked, &mut out);
+    match answer {
+        ListingAnswer::Written(n) => show(STDOUT_FILENO, &out, n),
+        ListingAnswer::Refused(r) => turn_down(sheet, asked, r),
+    }
+}
+
+fn answer(asked: Asked) {
+    let mut sheet = io::large_buffer();
+    let n = io::read_full(STDIN_FILENO, &mut sheet);
+    print(&sheet[..n], asked);
+}
+
+// What the one word says.
+fn obey() {
+    let mut word = io::buffer();
+    let n = os::arg(1, &mut word);
+    match arguments::meaning(&word[..n]) {
+        Word::Help => help(),
+        Word::Number(k) => answer(Asked::Node(k)),
+        Word::Other => wrong(),
+    }
+}
+
+fn main() {
+    let words = os::arg_count();
+    if words < 2 {
+        answer(Asked::Every);
+        return;
+    }
+    if 2 < words {
+        wrong();
+        return;
+    }
+    obey();
+}

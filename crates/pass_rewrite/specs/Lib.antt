@@ -1,0 +1,2 @@
+-- The text of a fault.
+pub mod Texts

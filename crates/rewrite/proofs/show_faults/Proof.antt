@@ -1,0 +1,91 @@
+-- `rewrite::show_faults` meets its contract: it is safe and ends. The measure is what is left of sixteen.
+-- Assumes nothing.
+use Prim.Native.Nat.{_-_}
+use borrow.Author.Needs.{needs}
+use Rattle.rewrite.proofs.show_faults.Statement.{statement}
+use Rattle.rewrite.proofs.show_faults.Tie as tie
+
+abbrev Inv-loop : tie.InvT-loop
+Inv-loop sheet count faults i₀ i = Unit {0}
+
+abbrev μ-loop : tie.MeasureT-loop
+μ-loop sheet count faults i₀ i = 16 - i
+
+loop-holds : tie.Need-loop-holds Inv-loop μ-loop
+loop-holds c = search needs
+
+returns : tie.Need-returns Inv-loop μ-loop
+returns c = search needs
+
+mul-show-fault : tie.Need-mul-show-fault Inv-loop μ-loop
+mul-show-fault c = search needs
+
+mul-show-fault-2 : tie.Need-mul-show-fault-2 Inv-loop μ-loop
+mul-show-fault-2 c = search needs
+
+element-copy-out-show-fault : tie.Need-element-copy-out-show-fault Inv-loop μ-loop
+element-copy-out-show-fault c = search needs
+
+mul-show-fault-3 : tie.Need-mul-show-fault-3 Inv-loop μ-loop
+mul-show-fault-3 c = search needs
+
+add-show-fault : tie.Need-add-show-fault Inv-loop μ-loop
+add-show-fault c = search needs
+
+mul-show-fault-4 : tie.Need-mul-show-fault-4 Inv-loop μ-loop
+mul-show-fault-4 c = search needs
+
+element-copy-out-show-fault-2 : tie.Need-element-copy-out-show-fault-2 Inv-loop μ-loop
+element-copy-out-show-fault-2 c = search needs
+
+mul-show-fault-5 : tie.Need-mul-show-fault-5 Inv-loop μ-loop
+mul-show-fault-5 c = search needs
+
+add-show-fault-2 : tie.Need-add-show-fault-2 Inv-loop μ-loop
+add-show-fault-2 c = search needs
+
+mul-show-fault-6 : tie.Need-mul-show-fault-6 Inv-loop μ-loop
+mul-show-fault-6 c = search needs
+
+element-copy-out-show-fault-3 : tie.Need-element-copy-out-show-fault-3 Inv-loop μ-loop
+element-copy-out-show-fault-3 c = search needs
+
+show-fault-requires : tie.Need-show-fault-requires Inv-loop μ-loop
+show-fault-requires c κs = search needs
+
+add-i : tie.Need-add-i Inv-loop μ-loop
+add-i c = search needs
+
+loop-less : tie.Need-loop-less Inv-loop μ-loop
+loop-less c = search needs
+
+loop-again : tie.Need-loop-again Inv-loop μ-loop
+loop-again c = search needs
+
+returns-2 : tie.Need-returns-2 Inv-loop μ-loop
+returns-2 c = search needs
+
+pub show-faults-spec : {M : Type 1} → statement M
+show-faults-spec =
+    tie.close
+    (tie.spec
+    Inv-loop
+    μ-loop
+    loop-holds
+    returns
+    mul-show-fault
+    mul-show-fault-2
+    element-copy-out-show-fault
+    mul-show-fault-3
+    add-show-fault
+    mul-show-fault-4
+    element-copy-out-show-fault-2
+    mul-show-fault-5
+    add-show-fault-2
+    mul-show-fault-6
+    element-copy-out-show-fault-3
+    show-fault-requires
+    add-i
+    loop-less
+    loop-again
+    returns-2)

@@ -1,0 +1,2 @@
+-- What rewriting a sheet answers, outcome by outcome.
+pub mod Outcomes

@@ -1,0 +1,166 @@
+-- What rewriting a sheet answers, by what the working tables say: one law for each outcome, in checking order.
+use Prim.Native.Nat.{ℕ, zero, suc, _/_, _≤_, _<_}
+use mathlib.Core.Path.{_≡_, refl, sym, ap, ap₂, _∙_}
+use mathlib.Core.List.{List, [], _∷_, map}
+use mathlib.Core.Bool.{Bool, true, false, _&&_, not}
+use native.Mathlib.Omega.{arith}
+use lib.Dec.{leb}
+use lib.ListN.{length, take}
+use borrow.Author.Tests.{le-leb, leb-true, leb-false}
+use Rattle.definitions.specs.declared.Refusal.{Refusal}
+use Rattle.definitions.specs.declared.FaultRecord.{FaultRecord}
+use Rattle.definitions.specs.Lists.{choose, join, over, bytes}
+use Rattle.definitions.specs.Tokens.{codeOf}
+use Rattle.definitions.specs.Bytes.{cut, tokens}
+use Rattle.definitions.specs.Refusals.{Answer, accepted, refused, faulty}
+use Rattle.definitions.specs.Output.{condactId, ClockedNode, sheetTokens, sheetBytes, withinLimits, written}
+use Rattle.definitions.specs.Answer.{Input, input, clockings, rewriteAnswer}
+use Rattle.fresh.specs.declared.Counts.{Counts}
+use Rattle.fresh.specs.Table.{namesOf, Holds}
+use Rattle.fresh.proofs.Places.{cut-length}
+use Rattle.fresh.proofs.Table.{id-most, holds-limits}
+use Rattle.emit.specs.Out.{out, emits}
+use Rattle.emit.proofs.Laws.{emits-long, emits-whole}
+use Rattle.infer_clocks.specs.declared.Deepest.{Deepest}
+use Rattle.infer_clocks.specs.Clocked.{Deeply}
+use Rattle.stateless.specs.Sheets.{firstFaultsFrom}
+use Rattle.stateless.proofs.Nodes.{many-tokens}
+use Rattle.stateless.proofs.Answers.{allNames, outSheet, rewrite-deep, rewrite-faulty, rewrite-large, rewrite-lent, rewrite-accepted}
+use Rattle.writing.specs.declared.Written.{Written}
+use Rattle.writing.specs.Bytes.{writtenAnswer, writtenBytes}
+use Rattle.output_names.specs.Faultless.{Faultless}
+use Rattle.query.specs.Words.{recordWords, entriesOver}
+use Rattle.rewriting.specs.declared.RewriteAnswer.{RewriteAnswer}
+use Rattle.rewriting.specs.Given.{faultWordsAfter, RewriteGiven, Read}
+
+-- the output's bytes
+abbrev outBytes : Input → List ClockedNode → List ℕ
+outBytes r ns = written (allNames r ns) (outSheet r ns)
+
+-- ---- what is given, by the definition's answer
+module _ (v : Answer (List ℕ)) (lent list : List ℕ) where
+  pub given-refused : (x : Refusal) → v ≡ refused x → RewriteGiven v lent list lent list (RewriteAnswer.Refused x)
+  given-refused x e = rw e (record { answer = refl; bytes = refl; faults = refl })
+
+  given-faulty : (l : List FaultRecord) (m : ℕ) (list′ : List ℕ) → v ≡ faulty l → m ≡ length l → list′ ≡ entriesOver 3 (map recordWords l) list
+      → RewriteGiven v lent list lent list′ (RewriteAnswer.Refused (Refusal.Faulty m))
+  given-faulty l m list′ e f g = rw e (record { answer = ap (λ (k : ℕ). RewriteAnswer.Refused (Refusal.Faulty k)) f; bytes = refl; faults = g })
+
+  given-written : (bytes : List ℕ) (n : ℕ) (lent′ : List ℕ) → v ≡ accepted bytes → n ≡ length bytes → lent′ ≡ over bytes lent → RewriteGiven v lent list lent′ list (RewriteAnswer.Written n)
+  given-written bytes n lent′ e f g = rw e (record { answer = ap RewriteAnswer.Written f; bytes = g; faults = refl })
+
+-- no entries leave a lent list as it is
+pub none-over : (fs : List FaultRecord) (list : List ℕ) → fs ≡ [] → entriesOver 3 (map recordWords fs) list ≡ list
+unfolding entriesOver
+none-over fs list e = ap (λ (l : List FaultRecord). over (join (take (length list / 3) (map recordWords l))) list) e ∙ ap (λ (l : List (List ℕ)). over (join l) list) (take-nil (length list / 3))
+  where
+    take-nil : (n : ℕ) → take {A = List ℕ} n [] ≡ []
+    take-nil zero = refl
+    take-nil (suc n) = refl
+
+-- where none is counted there is none
+pub no-items : (fs : List FaultRecord) (m : ℕ) → m ≡ length fs → m ≤ 0 → fs ≡ []
+no-items [] m e h = refl
+no-items (f ∷ fs) m e h = absurd (omega arith)
+
+-- a fault list that is as it was
+pub same-list : (v : Answer (List ℕ)) (lent lent′ list list′ : List ℕ) (a : RewriteAnswer) → list′ ≡ list → RewriteGiven v lent list′ lent′ list′ a → RewriteGiven v lent list lent′ list′ a
+same-list v lent lent′ list list′ a e g = record { answer = g .answer; bytes = g .bytes; faults = g .faults ∙ ap (faultWordsAfter v) e }
+
+-- no clock is too deep: each node has its clocks
+pub nowhere-deep : (d : Deepest) (v : Answer (List ClockedNode)) → Deeply d v → d ≡ Deepest.Nowhere → (ns : List ClockedNode) × (v ≡ accepted ns)
+unfolding Deeply
+nowhere-deep d v h e = rw e at h
+
+-- a sheet without faults
+pub faultless-read : {given starts letters tags values : List ℕ} {M : ℕ} {bytes : List ℕ} {r : Input} → Read given starts letters tags values M bytes r → (ns : List ClockedNode)
+    → clockings 0 (r .sheet .nodes) ≡ accepted ns → firstFaultsFrom r 0 ns ≡ [] → Faultless starts letters tags values M bytes r ns
+faultless-read h ns clocks none = record {
+  are-bytes = h .are-bytes;
+  read = h .reading;
+  named = h .standing .named;
+  few-names = h .standing .few-names;
+  few-tokens = h .standing .few-tokens;
+  tree = h .standing .tree;
+  clocked = clocks;
+  faultless = none;
+}
+
+module _ (bytes : List ℕ) (r : Input) (reading : input bytes ≡ accepted r) (lent list : List ℕ) where
+  -- 9
+  pub deep-given : (d : Deepest) (i w : ℕ) → Deeply d (clockings 0 (r .sheet .nodes)) → d ≡ Deepest.At i → w ≡ i
+      → RewriteGiven (rewriteAnswer bytes (length lent)) lent list lent list (RewriteAnswer.Refused (Refusal.Deep w))
+  unfolding Deeply
+  deep-given d i w h e f =
+      let x : clockings 0 (r .sheet .nodes) ≡ refused (Refusal.Deep i) = rw e at h in
+      rw f (given-refused (rewriteAnswer bytes (length lent)) lent list (Refusal.Deep i) (rewrite-deep bytes (length lent) r reading (Refusal.Deep i) x))
+
+  module _ (ns : List ClockedNode) (clocks : clockings 0 (r .sheet .nodes) ≡ accepted ns) where
+    -- 10
+    pub faulty-given : (m : ℕ) (list′ : List ℕ) → m ≡ length (firstFaultsFrom r 0 ns) → list′ ≡ entriesOver 3 (map recordWords (firstFaultsFrom r 0 ns)) list → 0 < m
+        → RewriteGiven (rewriteAnswer bytes (length lent)) lent list lent list′ (RewriteAnswer.Refused (Refusal.Faulty m))
+    faulty-given m list′ e f h = given-faulty (rewriteAnswer bytes (length lent)) lent list (firstFaultsFrom r 0 ns) m list′ (rewrite-faulty bytes (length lent) r reading ns clocks (omega arith)) e f
+
+    module _ (none-faulty : firstFaultsFrom r 0 ns ≡ []) (lens text : List ℕ) (names : length lens ≡ 1024) (letters : length text ≡ 16384) (c : Counts) (holds : Holds lens text c (allNames r ns)) where
+      -- 11, for the names
+      pub full-given : c .full ≡ true → RewriteGiven (rewriteAnswer bytes (length lent)) lent list lent list (RewriteAnswer.Refused Refusal.Large)
+      full-given h =
+          let w : withinLimits (allNames r ns) (outSheet r ns) ≡ false = holds-limits (outSheet r ns) names letters holds ∙ ap (λ (b : Bool). not b && leb (length (sheetTokens (outSheet r ns))) 8192) h in
+          given-refused (rewriteAnswer bytes (length lent)) lent list Refusal.Large (rewrite-large bytes (length lent) r reading ns clocks none-faulty w)
+
+      module _ (free : c .full ≡ false) (ts vs ts′ vs′ : List ℕ) (n : ℕ) (emitted : out ts′ vs′ n ≡ emits (out ts vs 0) (sheetTokens (outSheet r ns))) where
+        -- 11, for the tokens
+        pub long-given : 8192 < n → RewriteGiven (rewriteAnswer bytes (length lent)) lent list lent list (RewriteAnswer.Refused Refusal.Large)
+        long-given h =
+            let m = emits-long ts vs (sheetTokens (outSheet r ns)) (out ts′ vs′ n) emitted h in
+            given-refused (rewriteAnswer bytes (length lent)) lent list Refusal.Large (rewrite-large bytes (length lent) r reading ns clocks none-faulty (many-tokens (allNames r ns) (outSheet r ns) m))
+
+        module _ (tags : 8192 ≤ length ts) (values : 8192 ≤ length vs) (fits : n ≤ 8192) where
+          whole : (n ≡ length (sheetTokens (outSheet r ns))) × (tokens (take n ts′) (take n vs′) ≡ map codeOf (sheetTokens (outSheet r ns)))
+          whole = emits-whole ts vs (sheetTokens (outSheet r ns)) (out ts′ vs′ n) emitted tags values fits
+
+          within : withinLimits (allNames r ns) (outSheet r ns) ≡ true
+          within =
+              holds-limits (outSheet r ns) names letters holds
+              ∙ ap₂ (λ (b t : Bool). not b && t) free (le-leb (length (sheetTokens (outSheet r ns))) 8192 (omega (arith, whole .0)))
+
+          -- the bytes that the tables say are the output's
+          said : sheetBytes (namesOf lens text c) (tokens (take n ts′) (take n vs′)) ≡ outBytes r ns
+          unfolding written
+          said = ap₂ sheetBytes (sym (holds .kept free)) (whole .1)
+
+          module _ (lent′ : List ℕ) (w : Written) (answer : w ≡ writtenAnswer (sheetBytes (namesOf lens text c) (tokens (take n ts′) (take n vs′))) lent)
+              (filled : lent′ ≡ writtenBytes (sheetBytes (namesOf lens text c) (tokens (take n ts′) (take n vs′))) lent) where
+            answer-is : w ≡ writtenAnswer (outBytes r ns) lent
+            answer-is = answer ∙ ap (λ (b : List ℕ). writtenAnswer b lent) said
+
+            filled-is : lent′ ≡ writtenBytes (outBytes r ns) lent
+            filled-is = filled ∙ ap (λ (b : List ℕ). writtenBytes b lent) said
+
+            -- 12
+            pub lent-given : (m : ℕ) → w ≡ Written.Lent m → RewriteGiven (rewriteAnswer bytes (length lent)) lent list lent′ list (RewriteAnswer.Refused (Refusal.Lent m))
+            unfolding writtenAnswer writtenBytes
+            lent-given m e = go (leb (length (outBytes r ns)) (length lent)) refl (sym e ∙ answer-is) filled-is
+              where
+                go : (b : Bool) → leb (length (outBytes r ns)) (length lent) ≡ b → Written.Lent m ≡ choose b (Written.Done (length (outBytes r ns))) (Written.Lent (length (outBytes r ns))) → lent′ ≡ choose b (over (outBytes r ns) lent) lent
+                    → RewriteGiven (rewriteAnswer bytes (length lent)) lent list lent′ list (RewriteAnswer.Refused (Refusal.Lent m))
+                go true b f g = let z : _≡_ {A = ℕ} 0 1 = cc in absurd (omega arith)
+                go false b f g =
+                    let k : m ≡ length (outBytes r ns) = cc in
+                    rw (g, k) (given-refused (rewriteAnswer bytes (length lent)) lent list (Refusal.Lent (length (outBytes r ns))) (rewrite-lent bytes (length lent) r reading ns clocks none-faulty within (leb-false (length (outBytes r ns)) (length lent) b)))
+
+            -- none
+            pub written-given : (m : ℕ) → w ≡ Written.Done m → RewriteGiven (rewriteAnswer bytes (length lent)) lent list lent′ list (RewriteAnswer.Written m)
+            unfolding writtenAnswer writtenBytes
+            written-given m e = go (leb (length (outBytes r ns)) (length lent)) refl (sym e ∙ answer-is) filled-is
+              where
+                go : (b : Bool) → leb (length (outBytes r ns)) (length lent) ≡ b → Written.Done m ≡ choose b (Written.Done (length (outBytes r ns))) (Written.Lent (length (outBytes r ns))) → lent′ ≡ choose b (over (outBytes r ns) lent) lent
+                    → RewriteGiven (rewriteAnswer bytes (length lent)) lent list lent′ list (RewriteAnswer.Written m)
+                go true b f g =
+                    let k : m ≡ length (outBytes r ns) = cc in
+                    given-written (rewriteAnswer bytes (length lent)) lent list (outBytes r ns) m lent′ (rewrite-accepted bytes (length lent) r reading ns clocks none-faulty within (leb-true (length (outBytes r ns)) (length lent) b)) k g
+                go false b f g = let z : _≡_ {A = ℕ} 0 1 = cc in absurd (omega arith)
+
+-- ---- the id of `condact`
+pub condact-few : (lens letters : List ℕ) (x : ℕ) → x ≡ condactId (cut lens letters) → length lens ≤ 1024 → x ≤ 1024
+condact-few lens letters x e h = omega (arith, id-most (cut lens letters) (bytes "condact"), cut-length lens letters)

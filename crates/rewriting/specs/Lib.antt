@@ -1,0 +1,2 @@
+-- What rewriting a sheet answers.
+pub mod Given

@@ -1,7 +1,6 @@
 // What stays of a sheet and its nodes, copied into the output's arrays.
 // `tags` and `values` are the sheet's tokens, and as long as each other; a layout says where the parts stand.
 use definitions::Token;
-use layout::EquationLayout;
 use layout::NodeLayout;
 use layout::SheetLayout;
 use layout::Span;
@@ -11,9 +10,9 @@ ghost use Prim.Native.Nat.{ℕ, _+_, _<_};
 ghost use lib.ListN.{length};
 ghost use Rattle.definitions.specs.Bytes.{tokens};
 ghost use Rattle.definitions.specs.Lists.{join};
-ghost use Rattle.definitions.specs.Tree.{Equation, Node, Sheet};
-ghost use Rattle.definitions.specs.Output.{nameTokens, declaredTokens, countedTokens, equationTokens, probeTokens, definitionTokens, nodeTokens};
-ghost use Rattle.layout.specs.Laid.{Laid, LaidEquation, LaidSheet};
+ghost use Rattle.definitions.specs.Tree.{Node, Sheet};
+ghost use Rattle.definitions.specs.Output.{declaredTokens, countedTokens, equationTokens, probeTokens, definitionTokens, nodeTokens};
+ghost use Rattle.layout.specs.Laid.{Laid, LaidSheet};
 ghost use Rattle.emit.specs.Out.{out, emits};
 ghost use Rattle.node_parts.specs.Copies.{Copies, Words};
 
@@ -72,22 +71,6 @@ fn put_counted(
 {
     let n = s.count;
     put_items(otags, ovalues, at, tags, values, Token::Count(n), s)
-}
-
-// The left names of an equation.
-pub fn put_left(
-    otags: &mut [u8; 8192],
-    ovalues: &mut [u32; 8192],
-    at: usize,
-    tags: &[u8],
-    values: &[u32],
-    l: EquationLayout,
-) -> usize
-    requires { ⌜ length (now values) ≡ length (now tags) ⌝ }
-    ensures { λ r. ⌜ ((M : ℕ) (e : Equation) (q : ℕ) → LaidEquation M (tokens (now (tags .entry)) (now (values .entry))) e q l → out (now (otags .exit)) (now (ovalues .exit)) r ≡ emits (out (now (otags .entry)) (now (ovalues .entry)) at) (Token.Count (length (e .left)) ∷ nameTokens (e .left))) ⌝ }
-{
-    let s = l.left;
-    put_counted(otags, ovalues, at, tags, values, s)
 }
 
 // A node's name and kind, inputs and outputs.

@@ -84,9 +84,9 @@ fn rewrite_front(
     )
 }
 
-// Rewriting a sheet: its equivalent without clocks over the front of the lent bytes, and how many bytes it has; or the refusal, which
+// Rewriting a sheet: the sheet on one base tick over the front of the lent bytes, and how many bytes it has; or the refusal, which
 // writes no byte, and under 10 alone each faulty node's first fault over the front of the lent list, three words a fault. The second
-// clause is demand 3: the bytes written keep every run of every plain node.
+// clause is demand 3: every run of a rewritten plain node, kept to each name's clock, is a run of the source node.
 pub fn rewrite(sheet: &[u8], out: &mut [u8], faults: &mut [u32]) -> RewriteAnswer
     ensures { λ a. ⌜ RewriteGiven (rewriteAnswer (now (sheet .entry)) (length (now (out .entry)))) (now (out .entry)) (now (faults .entry)) (now (out .exit)) (now (faults .exit)) a ⌝ }
     ensures { λ a. ⌜ ((n : ℕ) → a ≡ RewriteAnswer.Written n → DemandThreeAt (now (sheet .entry)) (take n (now (out .exit)))) ⌝ }

@@ -7,22 +7,27 @@ from .tree import Definition, Equation, Expr, Node, Sheet, Type, first_circle
 
 FORMED = re.compile(r'[A-Za-z_][A-Za-z0-9_]{0,31}')
 
+# As the programs say it; the tokens are as many as a sheet may have.
 WORDS = {
-    1: 'the input has fewer than 12 bytes',
-    2: 'a size is outside its limit: number of names (0), of letters (1) or of tokens (2)',
-    3: 'the length is not 12 + M + L + 5 x T bytes',
-    4: 'this name is ill formed or repeats an earlier one, or the lengths do not sum to L',
-    5: 'this token is not allowed there, its value is out of range, or the tokens end early or go on',
-    6: 'a count, array length or depth is outside its limit at this token',
-    7: 'this type reaches itself',
+    1: 'the input has fewer than 12 bytes: hand in a whole sheet',
+    2: 'a size is outside its limit (place 0: 1,024 names, 1: 16,384 letters, 2: 2 to {:,} tokens): split the '
+       'sheet, or make one of a text with tools/sheet read',
+    3: 'the length is not 12 + names + letters + 5 x tokens: hand in the whole sheet and nothing more',
+    4: 'this name, counted from 0, repeats an earlier one or is not 1 to 32 letters, digits and _, no digit '
+       'first; past the last name: the lengths do not sum to the letters',
+    5: 'this token, counted from 0, is not allowed there or its value is out of range; past the last token: the '
+       'tokens end early',
+    6: 'at this token, counted from 0, a count, array length or depth is outside its limit: rewrite --help lists '
+       'the limits',
+    7: 'this type, counted from 0, reaches itself through fields, targets or elements: break the circle',
 }
 
 
 class Refused(Exception):
     """A refusal: its number and place."""
 
-    def __init__(self, number, place):
-        super().__init__('refused %d %d: %s' % (number, place, WORDS[number]))
+    def __init__(self, number, place, tokens=INPUT.tokens):
+        super().__init__('refused %d %d: %s' % (number, place, WORDS[number].format(tokens)))
         self.number, self.place = number, place
 
 
@@ -44,7 +49,7 @@ def parts(data, limits):
     m, l, t = struct.unpack('<3I', data[:12])
     for place, (size, least, most) in enumerate([(m, 0, limits.names), (l, 0, limits.letters), (t, 2, limits.tokens)]):
         if not least <= size <= most:
-            raise Refused(2, place)
+            raise Refused(2, place, limits.tokens)
     if len(data) != 12 + m + l + 5 * t:
         raise Refused(3, 0)
     letters_at, tags_at = 12 + m, 12 + m + l

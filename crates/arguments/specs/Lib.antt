@@ -1,2 +1,2 @@
--- What the words of a command line say, and the line that tells a refusal.
+-- What the words of a command line say, and the lines that tell a refusal.
 pub mod Words

@@ -2,37 +2,44 @@
 -- Assumes nothing.
 use mathlib.Core.Path.{_≡_, refl, sym, _∙_, ap}
 use mathlib.Core.List.{List, [], _∷_, _++_, append-assoc, append-nil}
-use mathlib.Core.Bool.{Bool, true, false}
+use mathlib.Core.Bool.{Bool, true, false, true≢false, not}
 use mathlib.Core.Option.{Option, none, some}
-use Prim.Native.Nat.{ℕ, _+_, _-_, _*_, _^_, _<_}
+use Prim.Native.Nat.{ℕ, _+_, _-_, _*_, _<_}
 use native.Mathlib.Omega.{arith}
-use lib.Dec.{ltb}
-use types.Run.{OneOf, miss}
-use denote.Enum.Declared.{tagOf}
+use lib.Dec.{eqb, ltb}
+use lib.ListN.{length, getD}
+use types.Run.{miss}
+use borrow.Author.Tests.{eqb-true, eqb-false}
 use Rattle.definitions.specs.declared.Condition.{Condition}
 use Rattle.definitions.specs.Lists.{choose}
+use Rattle.definitions.specs.Bytes.{tokens}
 use Rattle.definitions.specs.Tokens.{TagValue}
 use Rattle.definitions.specs.Tree.{Head, Expr, Exprs}
 use Rattle.definitions.specs.Reading.{got}
-use Rattle.definitions.specs.Clock.{Clock, _/_, depth, deepest, parent, isOn, isNot, sameClock, endsIn}
+use Rattle.definitions.specs.Clock.{Clock, base, _/_, depth, deepest, parent, isOn, isNot, sameClock, endsIn}
 use Rattle.definitions.specs.InferClocks as rules
-use Rattle.definitions.specs.InferClocks.{Clocks, clockOf, deep, formed, _or_, conditionOver, natural, Fault, whenElsewhere, clockNameElsewhere, Finding, found, site, tooDeep, oneDown, onNatural, mustBeOn, check, checks}
-use Rattle.clock.specs.declared.Clock as struct
+use Rattle.definitions.specs.InferClocks.{Clocks, clockOf, deep, formed, _or_, conditionOver, natural, Fault, usedElsewhere, whenElsewhere, clockNameElsewhere, Finding, found, site, tooDeep, oneDown, onNatural, mustBeOn, check, checks}
 use Rattle.clock.specs.declared.Presence.{Presence}
 use Rattle.clock.specs.declared.Natural.{Natural}
 use Rattle.clock.specs.Value.{valueOf, naturalAt, naturalOf}
-use Rattle.clock.proofs.Presence.{the-type}
-use Rattle.environment.specs.Environment.{Agrees}
+use Rattle.flat.specs.Flat.{clockIn}
+use Rattle.environment.specs.Environment.{envAt, Agrees}
+use Rattle.environment.proofs.Laws.{env-none, env-some}
 use Rattle.findings.specs.Findings.{Holds}
+use Rattle.operands.specs.declared.Gap.{Gap}
+use Rattle.operands.specs.declared.Leaf.{Leaf}
 use Rattle.operands.specs.declared.Role.{Role}
-use Rattle.operands.specs.Role.{roleOfHead, roleOfExpr, operandsOf}
-use Rattle.operands.specs.Spread.{tree}
+use Rattle.operands.specs.Leaf.{leafAt}
+use Rattle.operands.specs.Role.{roleOfHead, roleOfExpr, operandsOf, one, two}
+use Rattle.operands.specs.Spread.{tree, later, spread, operandAt, restAt}
+use Rattle.operands.proofs.Apart.{Apart, apart, spread-end}
+use Rattle.operands.proofs.Laws.{spread-nil}
+use Rattle.operands.proofs.Leaves.{Says, leaf-says, IsConstant}
 use Rattle.operands.proofs.Roles.{Among}
 use Rattle.natural.specs.Natural.{firstOf}
 use Rattle.natural.proofs.Low.{Low, role-low}
-use Rattle.checking.specs.declared.Turn.{Turn}
 use Rattle.checking.specs.declared.Walked.{Walked}
-use Rattle.checking.specs.Walk.{otherThan, Known, nextTurn, turnedOn, Way, wayBy, wayOf, entering, checksBy, Checked}
+use Rattle.checking.specs.Walk.{isElsewhere, Plain, Known, entering, Checked}
 
 -- ---- tables and lists
 pub holds-nil : (t : List ℕ) (n : ℕ) (fs l : List Finding) → l ≡ [] → Holds t n fs → Holds t n (fs ++ l)
@@ -44,228 +51,152 @@ holds-by t n fs k l e h = rw e at h
 pub checked-by : (t : List ℕ) (r : Walked) (q : ℕ) (k l : List Finding) → k ≡ l → Checked t r q k → Checked t r q l
 checked-by t r q k l e h = rw e at h
 
--- ---- one that is present, and one that is not
--- the presence is not `On`
-abbrev pub Absent : Presence → Type 0
-Absent p = OneOf (0 ∷ 2 ∷ []) (tagOf the-type p)
+-- ---- a name's clock, compared in its table
+module _ (env : List ℕ) (x : ℕ) (c : Clock) where
+  pub elsewhere-none : getD env (17 * x) 0 ≡ 0 → false ≡ isElsewhere c (envAt env x)
+  elsewhere-none z = sym (ap (isElsewhere c) (env-none env x z))
 
-present : (n : Natural) (o : rules.Natural) → naturalOf n ≡ o → n .presence ≡ Presence.On → o ≡ formed (some (valueOf (n .clock)))
-present n o h e = sym h ∙ ap (λ (p : Presence). naturalAt p (valueOf (n .clock))) e
+  module _ (b : Bool) (z : getD env (17 * x) 0 ≡ 0 → ⊥) (i : b ≡ sameClock (clockIn env (17 * x)) c) where
+    by-same : not b ≡ isElsewhere c (envAt env x)
+    by-same = ap not i ∙ sym (ap (isElsewhere c) (env-some env x z))
 
-absent : (p : Presence) (c : Clock) (o : Option Clock) → naturalAt p c ≡ formed o → Absent p → o ≡ none
-absent Presence.Free c o h a = cc
-absent Presence.On c o h a = absurd (miss (0 ∷ 2 ∷ []) 1 tt a)
-absent Presence.Deep c o h a = let z : _≡_ {A = ℕ} 0 1 = cc in absurd (omega arith)
+    pub elsewhere-same : b ≡ true → false ≡ isElsewhere c (envAt env x)
+    elsewhere-same j = sym (ap not j) ∙ by-same
 
--- ---- a name's other clock
-module _ (c : Clock) (o : Option Clock) (own : Natural) (h : naturalOf own ≡ formed o) where
-  own-is : own .presence ≡ Presence.On → o ≡ some (valueOf (own .clock))
-  own-is e = let p = present own (formed o) h e in cc
+    pub elsewhere-other : b ≡ false → true ≡ isElsewhere c (envAt env x)
+    elsewhere-other j = sym (ap not j) ∙ by-same
 
-  pub other-same : (b : Bool) → own .presence ≡ Presence.On → b ≡ sameClock (valueOf (own .clock)) c → b ≡ true → formed none ≡ formed (otherThan c o)
-  other-same b e i j = rw (own-is e, sym i, j)
-
-  pub other-kept : (b : Bool) → own .presence ≡ Presence.On → b ≡ sameClock (valueOf (own .clock)) c → b ≡ false → naturalOf own ≡ formed (otherThan c o)
-  other-kept b e i j = h ∙ rw (own-is e, sym i, j)
-
-  pub other-none : Absent (own .presence) → naturalOf own ≡ formed (otherThan c o)
-  other-none a = h ∙ rw (absent (own .presence) _ o h a)
-
-module _ (clocks : Clocks) (i : ℕ) (c : Clock) (x : ℕ) (f : Clock → Fault) where
-  -- what the other clock says
-  abbrev said : Option Clock → List Finding
-  said none = []
-  said (some d) = found (record { equation = i; fault = f d }) ∷ []
-
-  must-by : mustBeOn clocks i c x f ≡ said (otherThan c (clockOf clocks x))
-  unfolding mustBeOn
-  must-by = go (clockOf clocks x)
+  some-there : isElsewhere c (envAt env x) ≡ true → envAt env x ≡ some (clockIn env (17 * x))
+  some-there h = go (eqb (getD env (17 * x) 0) 0) refl
     where
-      at : (d : Clock) (b : Bool) → choose b [] (found (record { equation = i; fault = f d }) ∷ []) ≡ said (choose b none (some d))
-      at d true = refl
-      at d false = refl
+      go : (b : Bool) → eqb (getD env (17 * x) 0) 0 ≡ b → envAt env x ≡ some (clockIn env (17 * x))
+      go true e = absurd (true≢false (sym h ∙ ap (isElsewhere c) (env-none env x (eqb-true _ _ e))))
+      go false e = env-some env x (eqb-false _ _ e)
 
-      go : (o : Option Clock) → elim o [ none ↦ [] | some d ↦ choose (sameClock d c) [] (found (record { equation = i; fault = f d }) ∷ []) ] ≡ said (otherThan c o)
-      go none = refl
-      go (some d) = at d (sameClock d c)
+  -- what is met of it, F making the fault
+  module _ (clocks : Clocks) (i : ℕ) (F : Clock → Clock → Fault) (k : envAt env x ≡ clockOf clocks x) where
+    -- by the clock
+    abbrev said : Option Clock → List Finding
+    said none = []
+    said (some d) = choose (sameClock d c) [] (found (record { equation = i; fault = F d c }) ∷ [])
 
-  module _ (o : Option Clock) (own : Natural) (h : naturalOf own ≡ formed (otherThan c o)) (k : o ≡ clockOf clocks x) where
-    pub met-other : own .presence ≡ Presence.On → found (record { equation = i; fault = f (valueOf (own .clock)) }) ∷ [] ≡ mustBeOn clocks i c x f
-    met-other e =
-        let p = present own _ h e in
-        let q : otherThan c o ≡ some (valueOf (own .clock)) = cc in
-        sym (must-by ∙ ap said (ap (otherThan c) (sym k) ∙ q))
+    said-of : mustBeOn clocks i c x (λ d. F d c) ≡ said (envAt env x)
+    unfolding mustBeOn
+    said-of = go (clockOf clocks x) ∙ ap said (sym k)
+      where
+        go : (o : Option Clock) → _≡_ {A = List Finding} (elim o [ none ↦ [] | some d ↦ choose (sameClock d c) [] (found (record { equation = i; fault = F d c }) ∷ []) ]) (said o)
+        go none = refl
+        go (some d) = refl
 
-    pub met-none : Absent (own .presence) → mustBeOn clocks i c x f ≡ []
-    met-none a = must-by ∙ ap said (ap (otherThan c) (sym k) ∙ absent (own .presence) _ _ h a)
+    pub met-none : isElsewhere c (envAt env x) ≡ false → mustBeOn clocks i c x (λ d. F d c) ≡ []
+    met-none h = said-of ∙ go (envAt env x) h
+      where
+        at : (l : List Finding) (b : Bool) → not b ≡ false → choose b [] l ≡ []
+        at l true m = refl
+        at l false m = absurd (true≢false m)
 
--- ---- what is met at an expression
+        go : (o : Option Clock) → isElsewhere c o ≡ false → said o ≡ []
+        go none m = refl
+        go (some d) m = at (found (record { equation = i; fault = F d c }) ∷ []) (sameClock d c) m
+
+    pub met-other : isElsewhere c (envAt env x) ≡ true → (d e : Clock) → d ≡ clockIn env (17 * x) → e ≡ c → found (record { equation = i; fault = F d e }) ∷ [] ≡ mustBeOn clocks i c x (λ b. F b c)
+    met-other h d e j l =
+        let s : envAt env x ≡ some d = some-there h ∙ ap some (sym j) in
+        ap (λ (a : Clock). found (record { equation = i; fault = F d a }) ∷ []) l ∙ (at (found (record { equation = i; fault = F d c }) ∷ []) (sameClock d c) (ap (isElsewhere c) (sym s) ∙ h) ∙ sym (said-of ∙ ap said s))
+      where
+        at : (l : List Finding) (b : Bool) → not b ≡ true → l ≡ choose b [] l
+        at l true m = absurd (true≢false (sym m))
+        at l false m = refl
+
+-- ---- what is met at an expression that is no when and no merge
+module _ (env t t′ : List ℕ) (n r i : ℕ) (c : Clock) (ρ : Role) where
+  -- the contract of `enter`
+  abbrev Enters : Type 0
+  Enters = (clocks : Clocks) (fs : List Finding) → Plain ρ → Known env clocks ρ → Holds t n fs → Holds t′ r (fs ++ entering clocks i c ρ)
+
+  pub enter-name : (x : ℕ) → ρ ≡ Role.Name x → ((clocks : Clocks) (fs : List Finding) → envAt env x ≡ clockOf clocks x → Holds t n fs → Holds t′ r (fs ++ mustBeOn clocks i c x (λ d. usedElsewhere x d c))) → Enters
+  unfolding entering
+  enter-name x e f = rw e (λ clocks fs p k h. f clocks fs k h)
+
+  pub enter-previous : ρ ≡ Role.Previous → ((fs : List Finding) → Holds t n fs → Holds t′ r (fs ++ (site c ∷ []))) → Enters
+  unfolding entering
+  enter-previous e f = rw e (λ clocks fs p k h. f fs h)
+
+  pub enter-follow : ρ ≡ Role.Follow → ((fs : List Finding) → Holds t n fs → Holds t′ r (fs ++ (site c ∷ []))) → Enters
+  unfolding entering
+  enter-follow e f = rw e (λ clocks fs p k h. f fs h)
+
 module _ (clocks : Clocks) (i : ℕ) (c : Clock) where
-  pub sample-match : (k : Condition) (b : Bool) (d : Clock) → b ≡ endsIn k c → b ≡ true → d ≡ parent c → mustBeOn clocks i d (k .name) (λ e. clockNameElsewhere (k .name) e d) ≡ entering clocks i c (Role.Sample k)
-  unfolding entering
-  sample-match k b d e j p = rw (p, sym e ∙ j, entering)
-
-  pub sample-other : (k : Condition) (b : Bool) → b ≡ endsIn k c → b ≡ false → found (record { equation = i; fault = whenElsewhere k c }) ∷ [] ≡ entering clocks i c (Role.Sample k)
-  unfolding entering
-  sample-other k b e j = rw (sym e ∙ j, entering)
-
   abbrev quiet : List ℕ
-  quiet = 0 ∷ 6 ∷ 7 ∷ 8 ∷ []
+  quiet = 0 ∷ 2 ∷ 3 ∷ 6 ∷ 7 ∷ 8 ∷ []
 
-  pub enter-none : (ρ : Role) → Among quiet ρ → entering clocks i c ρ ≡ []
+  pub enter-none : (ρ : Role) → Among quiet ρ → Plain ρ → entering clocks i c ρ ≡ []
   unfolding entering
-  enter-none Role.Constant h = refl
-  enter-none (Role.Name x) h = absurd (miss quiet 1 tt h)
-  enter-none (Role.Sample k) h = absurd (miss quiet 2 tt h)
-  enter-none (Role.Join x) h = absurd (miss quiet 3 tt h)
-  enter-none Role.Previous h = absurd (miss quiet 4 tt h)
-  enter-none Role.Follow h = absurd (miss quiet 5 tt h)
-  enter-none (Role.Call f) h = refl
-  enter-none Role.Index h = refl
-  enter-none Role.Compute h = refl
+  enter-none Role.Constant h p = refl
+  enter-none (Role.Name x) h p = absurd (miss quiet 1 tt h)
+  enter-none (Role.Sample k) h p = absurd p
+  enter-none (Role.Join x) h p = absurd p
+  enter-none Role.Previous h p = absurd (miss quiet 4 tt h)
+  enter-none Role.Follow h p = absurd (miss quiet 5 tt h)
+  enter-none (Role.Call f) h p = refl
+  enter-none Role.Index h p = refl
+  enter-none Role.Compute h p = refl
 
--- the same of a role that the code found
-pub enter-as : (env t t′ : List ℕ) (n r i : ℕ) (c : Clock) (ρ σ : Role) → ρ ≡ σ
-    → ((clocks : Clocks) (fs : List Finding) → Known env clocks σ → Holds t n fs → Holds t′ r (fs ++ entering clocks i c σ))
-    → (clocks : Clocks) (fs : List Finding) → Known env clocks ρ → Holds t n fs → Holds t′ r (fs ++ entering clocks i c ρ)
-enter-as env t t′ n r i c ρ σ e f = rw e f
+abbrev straight : List ℕ
+straight = 0 ∷ 1 ∷ 4 ∷ 5 ∷ 6 ∷ 7 ∷ 8 ∷ []
 
--- ---- how the operands are gone down into
-module _ (clocks : Clocks) (c : Clock) (es : Exprs) (w : Way) where
-  pub way-match : (ρ : Role) (k : Condition) (b : Bool) → ρ ≡ Role.Sample k → b ≡ endsIn k c → b ≡ true → w ≡ record { turn = Turn.Same; on = parent c } → w ≡ wayOf clocks c ρ es
-  unfolding wayOf
-  way-match ρ k b e j h i = i ∙ rw (e, sym j ∙ h)
-
-  pub way-other : (ρ : Role) (k : Condition) (b : Bool) (n : rules.Natural) → ρ ≡ Role.Sample k → b ≡ endsIn k c → b ≡ false → n ≡ firstOf clocks false es → w ≡ wayBy c n → w ≡ wayOf clocks c ρ es
-  unfolding wayOf
-  way-other ρ k b n e j h f i = i ∙ rw (e, sym j ∙ h, f)
-
-  pub way-join : (ρ : Role) (x : ℕ) → ρ ≡ Role.Join x → w ≡ record { turn = Turn.True x; on = c } → w ≡ wayOf clocks c ρ es
-  unfolding wayOf
-  way-join ρ x e i = i ∙ rw e
-
-  abbrev straight : List ℕ
-  straight = 0 ∷ 1 ∷ 4 ∷ 5 ∷ 6 ∷ 7 ∷ 8 ∷ []
-
-  pub way-same : (ρ : Role) → Among straight ρ → w ≡ record { turn = Turn.Same; on = c } → w ≡ wayOf clocks c ρ es
-  unfolding wayOf
-  way-same Role.Constant h i = i
-  way-same (Role.Name x) h i = i
-  way-same (Role.Sample k) h i = absurd (miss straight 2 tt h)
-  way-same (Role.Join x) h i = absurd (miss straight 3 tt h)
-  way-same Role.Previous h i = i
-  way-same Role.Follow h i = i
-  way-same (Role.Call f) h i = i
-  way-same Role.Index h i = i
-  way-same Role.Compute h i = i
-
--- ---- an operand on its turn
-module _ (t : Turn) (c : Clock) (n : Natural) (h : naturalOf n ≡ turnedOn t c) (f : Clock → List Finding) where
-  pub turn-here : n .presence ≡ Presence.On → f (valueOf (n .clock)) ≡ onNatural (turnedOn t c) f
-  turn-here e = sym (ap (λ (m : rules.Natural). onNatural m f) (present n _ h e))
-
-  some-turn : (t : Turn) → turnedOn t c ≡ formed none → ⊥
-  some-turn Turn.Same z = let y : _≡_ {A = ℕ} 0 1 = cc in omega arith
-  some-turn (Turn.True x) z = go (ltb (depth c) deepest) z
-    where
-      go : (b : Bool) → choose b (formed (some (c / isOn x))) deep ≡ formed none → ⊥
-      go true y = let u : _≡_ {A = ℕ} 0 1 = cc in omega arith
-      go false y = let u : _≡_ {A = ℕ} 0 1 = cc in omega arith
-  some-turn (Turn.False x) z = go (ltb (depth c) deepest) z
-    where
-      go : (b : Bool) → choose b (formed (some (c / isNot x))) deep ≡ formed none → ⊥
-      go true y = let u : _≡_ {A = ℕ} 0 1 = cc in omega arith
-      go false y = let u : _≡_ {A = ℕ} 0 1 = cc in omega arith
-  some-turn Turn.Deep z = let y : _≡_ {A = ℕ} 0 1 = cc in omega arith
-
-  pub turn-deep : Absent (n .presence) → tooDeep ∷ [] ≡ onNatural (turnedOn t c) f
-  turn-deep a = sym (ap (λ (m : rules.Natural). onNatural m f) (go (n .presence) h a))
-    where
-      go : (p : Presence) → naturalAt p (valueOf (n .clock)) ≡ turnedOn t c → Absent p → turnedOn t c ≡ deep
-      go Presence.Free e b = absurd (some-turn t (sym e))
-      go Presence.On e b = absurd (miss (0 ∷ 2 ∷ []) 1 tt b)
-      go Presence.Deep e b = sym e
+pub plain-role : (ρ : Role) → Among straight ρ → Plain ρ
+plain-role Role.Constant h = tt
+plain-role (Role.Name x) h = tt
+plain-role (Role.Sample k) h = absurd (miss straight 2 tt h)
+plain-role (Role.Join x) h = absurd (miss straight 3 tt h)
+plain-role Role.Previous h = tt
+plain-role Role.Follow h = tt
+plain-role (Role.Call f) h = tt
+plain-role Role.Index h = tt
+plain-role Role.Compute h = tt
 
 -- ---- checking is what is met at an expression, then in its operands
-module _ (clocks : Clocks) (i : ℕ) where
-  pub checks-same : (c : Clock) (es : Exprs) → checksBy clocks i Turn.Same c es ≡ checks clocks i c es
-  unfolding checksBy check
-  checks-same c Exprs.end = refl
-  checks-same c (Exprs.and e es) = ap (λ (l : List Finding). check clocks i c e ++ l) (checks-same c es)
+module _ (clocks : Clocks) (i : ℕ) (c : Clock) where
+  op-parts : (h : Head) (es : Exprs) → entering clocks i c (roleOfHead h) ++ checks clocks i c es ≡ checks clocks i c es
+  unfolding entering
+  op-parts (Head.unary o) es = refl
+  op-parts (Head.binary o) es = refl
+  op-parts (Head.field x) es = refl
+  op-parts Head.if es = refl
+  op-parts Head.index es = refl
+  op-parts Head.tuple es = refl
+  op-parts Head.array es = refl
+  op-parts (Head.struct x fs) es = refl
+  op-parts (Head.cast a) es = refl
+  op-parts (Head.map f k) es = refl
+  op-parts (Head.fold f k) es = refl
 
-  down : (c : Clock) (k : Condition) (f : Clock → List Finding) → onNatural (conditionOver k (formed (some c))) f ≡ oneDown c k f
-  down c k f = go (ltb (depth c) deepest)
-    where
-      go : (b : Bool) → onNatural (choose b (formed (some (c / k))) deep) f ≡ elim b [ true ↦ f (c / k) | false ↦ tooDeep ∷ [] ]
-      go true = refl
-      go false = refl
+  by-parts : (e : Expr) → Plain (roleOfExpr e) → entering clocks i c (roleOfExpr e) ++ checks clocks i c (operandsOf e) ≡ check clocks i c e
+  unfolding check entering roleOfExpr operandsOf
+  by-parts (Expr.const l w) p = refl
+  by-parts (Expr.var x) p = append-nil _
+  by-parts (Expr.op h es) p = op-parts h es
+  by-parts (Expr.pre a) p = ap (λ (l : List Finding). site c ∷ l) (append-nil _)
+  by-parts (Expr.arrow a b) p = ap (λ (l : List Finding). site c ∷ (check clocks i c a ++ l)) (append-nil _)
+  by-parts (Expr.call f es) p = refl
+  by-parts (Expr.when k a) p = absurd p
+  by-parts (Expr.merge x a b) p = absurd p
 
-  -- by its way
-  abbrev parts : Clock → Role → Exprs → Way → List Finding
-  parts c ρ es w = entering clocks i c ρ ++ checksBy clocks i (w .turn) (w .on) es
+  -- the same behind others, by the role that the code found
+  pub whole : (e : Expr) (ρ : Role) (fs : List Finding) → ρ ≡ roleOfExpr e → Plain ρ → (fs ++ entering clocks i c ρ) ++ checks clocks i c (operandsOf e) ≡ fs ++ check clocks i c e
+  whole e ρ fs j p = append-assoc fs _ _ ∙ ap (λ (l : List Finding). fs ++ l) (rw j (by-parts e (rw j at p)))
 
-  op-parts : (c : Clock) (h : Head) (es : Exprs) → checks clocks i c es ≡ parts c (roleOfHead h) es (wayOf clocks c (roleOfHead h) es)
-  unfolding entering wayOf
-  op-parts c (Head.unary o) es = sym (checks-same c es)
-  op-parts c (Head.binary o) es = sym (checks-same c es)
-  op-parts c (Head.field x) es = sym (checks-same c es)
-  op-parts c Head.if es = sym (checks-same c es)
-  op-parts c Head.index es = sym (checks-same c es)
-  op-parts c Head.tuple es = sym (checks-same c es)
-  op-parts c Head.array es = sym (checks-same c es)
-  op-parts c (Head.struct x fs) es = sym (checks-same c es)
-  op-parts c (Head.cast a) es = sym (checks-same c es)
-  op-parts c (Head.map f k) es = sym (checks-same c es)
-  op-parts c (Head.fold f k) es = sym (checks-same c es)
+-- the operands of a when and of a merge
+pub when-operands : (e a : Expr) (k : Condition) → e ≡ Expr.when k a → operandsOf e ≡ one a
+unfolding operandsOf
+when-operands e a k i = rw i
 
-  or-none : (n : rules.Natural) → n or formed none ≡ n
-  or-none deep = refl
-  or-none (formed none) = refl
-  or-none (formed (some c)) = refl
+pub merge-operands : (e a b : Expr) (x : ℕ) → e ≡ Expr.merge x a b → operandsOf e ≡ two a b
+unfolding operandsOf
+merge-operands e a b x i = rw i
 
-  -- one operand by its natural clock, or base
-  way-one : (c : Clock) (n : rules.Natural) (a : Expr) → onNatural n (λ d. check clocks i d a) ≡ checksBy clocks i (wayBy c n .turn) (wayBy c n .on) (Exprs.and a Exprs.end)
-  unfolding checksBy
-  way-one c deep a = refl
-  way-one c (formed none) a = sym (append-nil _)
-  way-one c (formed (some d)) a = sym (append-nil _)
-
-  when-parts : (c : Clock) (k : Condition) (a : Expr) → check clocks i c (Expr.when k a) ≡ parts c (Role.Sample k) (Exprs.and a Exprs.end) (wayOf clocks c (Role.Sample k) (Exprs.and a Exprs.end))
-  unfolding check entering wayOf firstOf checksBy
-  when-parts c k a = go (endsIn k c)
-    where
-      go : (b : Bool) → elim b [
-        | true ↦ mustBeOn clocks i (parent c) (k .name) (λ d. clockNameElsewhere (k .name) d (parent c)) ++ check clocks i (parent c) a
-        | false ↦ found (record { equation = i; fault = whenElsewhere k c }) ∷ onNatural (natural clocks a) (λ d. check clocks i d a)
-      ]
-          ≡ elim b [
-            | true ↦ mustBeOn clocks i (parent c) (k .name) (λ d. clockNameElsewhere (k .name) d (parent c))
-            | false ↦ found (record { equation = i; fault = whenElsewhere k c }) ∷ []
-          ]
-          ++ checksBy clocks i (choose b (record { turn = Turn.Same; on = parent c }) (wayBy c (natural clocks a or formed none)) .turn) (choose b (record { turn = Turn.Same; on = parent c }) (wayBy c (natural clocks a or formed none)) .on) (Exprs.and a Exprs.end)
-      go true = ap (λ (l : List Finding). mustBeOn clocks i (parent c) (k .name) (λ d. clockNameElsewhere (k .name) d (parent c)) ++ l) (sym (append-nil _))
-      go false = ap (λ (l : List Finding). found (record { equation = i; fault = whenElsewhere k c }) ∷ l) (way-one c (natural clocks a) a ∙ rw (or-none (natural clocks a)))
-
-  pub by-parts : (c : Clock) (e : Expr) → check clocks i c e ≡ parts c (roleOfExpr e) (operandsOf e) (wayOf clocks c (roleOfExpr e) (operandsOf e))
-  unfolding check entering wayOf checksBy roleOfExpr operandsOf
-  by-parts c (Expr.const l w) = refl
-  by-parts c (Expr.var x) = sym (append-nil _)
-  by-parts c (Expr.op h es) = op-parts c h es
-  by-parts c (Expr.pre a) = ap (λ (l : List Finding). site c ∷ l) (sym (append-nil _))
-  by-parts c (Expr.arrow a b) = ap (λ (l : List Finding). site c ∷ (check clocks i c a ++ l)) (sym (append-nil _))
-  by-parts c (Expr.call f es) = sym (checks-same c es)
-  by-parts c (Expr.when k a) = when-parts c k a
-  by-parts c (Expr.merge x a b) =
-      let p = down c (isOn x) (λ d. check clocks i d a) in
-      let q = down c (isNot x) (λ d. check clocks i d b) in
-      ap (λ (l : List Finding). mustBeOn clocks i c x (λ d. clockNameElsewhere x d c) ++ l) (rw (p, q, append-nil))
-
-  -- the same behind others, by what the code found
-  pub whole : (c : Clock) (e : Expr) (ρ : Role) (w : Way) (fs : List Finding) → ρ ≡ roleOfExpr e → w ≡ wayOf clocks c ρ (operandsOf e) → (fs ++ entering clocks i c ρ) ++ checksBy clocks i (w .turn) (w .on) (operandsOf e) ≡ fs ++ check clocks i c e
-  whole c e ρ w fs j k = append-assoc fs _ _ ∙ ap (λ (l : List Finding). fs ++ l) (rw (k, j) (sym (by-parts c e)))
-
--- ---- the walk
--- the table knows the names of an accepted expression
+-- ---- the table knows the names of an accepted expression
 known : (env : List ℕ) (M : ℕ) (clocks : Clocks) (ρ : Role) → Agrees env M clocks → Low M ρ → Known env clocks ρ
 known env M clocks Role.Constant a l = tt
 known env M clocks (Role.Name x) a l = a .same x l
@@ -280,17 +211,161 @@ known env M clocks Role.Compute a l = tt
 pub known-role : (env : List ℕ) (M : ℕ) (clocks : Clocks) (ts : List TagValue) (p : ℕ) (e : Expr) (q : ℕ) (ρ : Role) → Agrees env M clocks → tree M ts p ≡ got e q → ρ ≡ roleOfExpr e → Known env clocks ρ
 known-role env M clocks ts p e q ρ a g j = known env M clocks ρ a (rw (sym j) at (role-low M ts p e q g))
 
--- no operands
-pub operands-none : (clocks : Clocks) (i : ℕ) (turn : Turn) (c : Clock) (es : Exprs) (t : List ℕ) (r : Walked) (q p n : ℕ) (fs : List Finding) → es ≡ Exprs.end → q ≡ p → r ≡ record { end = p; count = n } → Holds t n fs → Checked t r q (fs ++ checksBy clocks i turn c es)
-unfolding checksBy
-operands-none clocks i turn c es t r q p n fs e j k h = rw (e, append-nil fs, j, k) (record { end = refl; holds = h })
+-- the same of a role that the code found to be this one
+pub known-as : (env : List ℕ) (M : ℕ) (clocks : Clocks) (ts : List TagValue) (p : ℕ) (e : Expr) (q : ℕ) (ρ σ : Role) → Agrees env M clocks → tree M ts p ≡ got e q → ρ ≡ roleOfExpr e → ρ ≡ σ → Known env clocks σ
+known-as env M clocks ts p e q ρ σ a g j k = known-role env M clocks ts p e q σ a g (sym k ∙ j)
 
--- the first operand, then the others
-pub operands-more : (clocks : Clocks) (i : ℕ) (turn next : Turn) (c d : Clock) (e : Expr) (rest es : Exprs) (t : List ℕ) (r : Walked) (q : ℕ) (fs : List Finding) → es ≡ Exprs.and e rest → next ≡ nextTurn turn → d ≡ c
-    → Checked t r q ((fs ++ onNatural (turnedOn turn c) (λ b. check clocks i b e)) ++ checksBy clocks i next d rest) → Checked t r q (fs ++ checksBy clocks i turn c es)
-unfolding checksBy
-operands-more clocks i turn next c d e rest es t r q fs w j k h = rw w (rw (append-assoc fs (onNatural (turnedOn turn c) (λ b. check clocks i b e)) (checksBy clocks i next d rest), j, k) at h)
+-- ---- a leaf
+module _ (M : ℕ) (gs vs : List ℕ) (same : length vs ≡ length gs) (p : ℕ) (e : Expr) (q : ℕ) (g : tree M (tokens gs vs) p ≡ got e q) (k : Leaf) (i : k ≡ leafAt (length gs) (getD gs p 0) (getD vs p 0) p) where
+  pub leaf-name : (x s : ℕ) → k ≡ Leaf.Name x s → (e ≡ Expr.var x) × (q ≡ s)
+  leaf-name x s j = rw j at (leaf-says M gs vs same p e q g k i)
 
--- the tokens left fall
-pub shorter : (a b t : ℕ) → 3 * (2 ^ 64 - a) + 2 ≡ t → a < b → a < 2 ^ 64 → 3 * (2 ^ 64 - b) + 2 < t
-shorter a b t e l f = omega arith
+  pub leaf-constant : (s : ℕ) → k ≡ Leaf.Constant s → IsConstant M gs vs same p e q g s
+  leaf-constant s j = rw j at (leaf-says M gs vs same p e q g k i)
+
+  pub leaf-known : (env : List ℕ) (clocks : Clocks) → Agrees env M clocks → (x s : ℕ) → k ≡ Leaf.Name x s → envAt env x ≡ clockOf clocks x
+  unfolding roleOfExpr
+  leaf-known env clocks a x s j = known-role env M clocks (tokens gs vs) p e q (Role.Name x) a g (rw (leaf-name x s j .0))
+
+module _ (clocks : Clocks) (i : ℕ) (c : Clock) (e : Expr) (t : List ℕ) (q s m : ℕ) (fs : List Finding) (j : q ≡ s) where
+  pub name-checked : (x : ℕ) → e ≡ Expr.var x → Holds t m (fs ++ mustBeOn clocks i c x (λ d. usedElsewhere x d c)) → Checked t (record { end = s; count = m }) q (fs ++ check clocks i c e)
+  unfolding check
+  name-checked x k h = rw (k, j) (record { end = refl; holds = h })
+
+  pub constant-checked : (l : _) (w : ℕ) → e ≡ Expr.const l w → Holds t m fs → Checked t (record { end = s; count = m }) q (fs ++ check clocks i c e)
+  unfolding check
+  constant-checked l w k h = rw (k, j, append-nil fs) (record { end = refl; holds = h })
+
+-- ---- an operand on what may be a clock
+module _ (n : Natural) (f : Clock → List Finding) where
+  pub over-free : (c : Clock) → n .presence ≡ Presence.Free → c ≡ base → f c ≡ onNatural (naturalOf n) f
+  over-free c e i = ap f i ∙ sym (ap (λ (p : Presence). onNatural (naturalAt p (valueOf (n .clock))) f) e)
+
+  pub over-on : (c : Clock) → n .presence ≡ Presence.On → c ≡ valueOf (n .clock) → f c ≡ onNatural (naturalOf n) f
+  over-on c e i = ap f i ∙ sym (ap (λ (p : Presence). onNatural (naturalAt p (valueOf (n .clock))) f) e)
+
+  pub over-deep : n .presence ≡ Presence.Deep → tooDeep ∷ [] ≡ onNatural (naturalOf n) f
+  over-deep e = sym (ap (λ (p : Presence). onNatural (naturalAt p (valueOf (n .clock))) f) e)
+
+-- one condition down
+pub one-down : (n : rules.Natural) (c d : Clock) (k : Condition) (f : Clock → List Finding) → n ≡ conditionOver k (formed (some d)) → d ≡ c → onNatural n f ≡ oneDown c k f
+one-down n c d k f i j = rw (i, j) (go (ltb (depth c) deepest))
+  where
+    go : (b : Bool) → onNatural (choose b (formed (some (c / k))) deep) f ≡ elim b [ true ↦ f (c / k) | false ↦ tooDeep ∷ [] ]
+    go true = refl
+    go false = refl
+
+-- ---- a when
+module _ (clocks : Clocks) (i : ℕ) (c d : Clock) (k : Condition) (e : Expr) (b : Bool) (j : b ≡ endsIn k d) (s : d ≡ c) (fs : List Finding) where
+  -- by whether the condition matches
+  abbrev when-by : Bool → List Finding
+  when-by true = mustBeOn clocks i (parent c) (k .name) (λ a. clockNameElsewhere (k .name) a (parent c)) ++ check clocks i (parent c) e
+  when-by false = found (record { equation = i; fault = whenElsewhere k c }) ∷ onNatural (natural clocks e) (λ a. check clocks i a e)
+
+  when-is : check clocks i c (Expr.when k e) ≡ when-by b
+  unfolding check
+  when-is = go (endsIn k c) ∙ ap when-by (ap (endsIn k) (sym s) ∙ sym j)
+    where
+      go : (a : Bool) → _≡_ {A = List Finding} (elim a [
+        | true ↦ mustBeOn clocks i (parent c) (k .name) (λ a. clockNameElsewhere (k .name) a (parent c)) ++ check clocks i (parent c) e
+        | false ↦ found (record { equation = i; fault = whenElsewhere k c }) ∷ onNatural (natural clocks e) (λ a. check clocks i a e)
+      ]) (when-by a)
+      go true = refl
+      go false = refl
+
+  pub when-match : (u v : Clock) → b ≡ true → u ≡ v → v ≡ parent d → (fs ++ mustBeOn clocks i u (k .name) (λ a. clockNameElsewhere (k .name) a u)) ++ check clocks i u e ≡ fs ++ check clocks i c (Expr.when k e)
+  when-match u v h l m =
+      append-assoc fs _ _
+      ∙ ap (λ (x : List Finding). fs ++ x) (ap (λ (w : Clock). mustBeOn clocks i w (k .name) (λ a. clockNameElsewhere (k .name) a w) ++ check clocks i w e) (l ∙ (m ∙ ap parent s)) ∙ sym (when-is ∙ ap when-by h))
+
+  or-none : (n : rules.Natural) → n or formed none ≡ n
+  or-none deep = refl
+  or-none (formed none) = refl
+  or-none (formed (some a)) = refl
+
+  pub when-other : (n : rules.Natural) → b ≡ false → n ≡ firstOf clocks false (one e) → (fs ++ (found (record { equation = i; fault = whenElsewhere k d }) ∷ [])) ++ onNatural n (λ a. check clocks i a e) ≡ fs ++ check clocks i c (Expr.when k e)
+  unfolding firstOf
+  when-other n h l =
+      append-assoc fs _ _
+      ∙ ap (λ (x : List Finding). fs ++ x) (ap (λ (a : Clock). found (record { equation = i; fault = whenElsewhere k a }) ∷ onNatural n (λ a. check clocks i a e)) s ∙ (ap (λ (m : rules.Natural). found (record { equation = i; fault = whenElsewhere k c }) ∷ onNatural m (λ a. check clocks i a e)) (l ∙ or-none (natural clocks e)) ∙ sym (when-is ∙ ap when-by h)))
+
+-- ---- a merge
+pub merge-whole : (clocks : Clocks) (i : ℕ) (c : Clock) (x : ℕ) (a b : Expr) (fs : List Finding) →
+    ((fs ++ mustBeOn clocks i c x (λ d. clockNameElsewhere x d c)) ++ oneDown c (isOn x) (λ d. check clocks i d a)) ++ oneDown c (isNot x) (λ d. check clocks i d b) ≡ fs ++ check clocks i c (Expr.merge x a b)
+unfolding check
+merge-whole clocks i c x a b fs = append-assoc (fs ++ mustBeOn clocks i c x (λ d. clockNameElsewhere x d c)) _ _ ∙ append-assoc fs _ _
+
+-- ---- places
+-- where the operands behind a walk begin
+pub checked-behind : (t : List ℕ) (w r : Walked) (end q most : ℕ) (g : Gap) (fs : List Finding) → Checked t w end fs → r .end ≡ restAt most g (w .end) → r .count ≡ w .count → restAt most g end ≡ q → Checked t r q fs
+checked-behind t w r end q most g fs h i j k = record { end = i ∙ (ap (restAt most g) (h .end) ∙ k); holds = rw j (h .holds) }
+
+module _ (M : ℕ) (gs vs : List ℕ) (same : length vs ≡ length gs) where
+  some-left : (g : Gap) (n p : ℕ) (e : Expr) (rest : Exprs) (q : ℕ) → spread M g n (tree M) (tokens gs vs) p ≡ got (Exprs.and e rest) q → n ≡ 0 → ⊥
+  some-left g n p e rest q h z = let a = spread-nil M (tree M) (tokens gs vs) g n p (Exprs.and e rest) q z h .0 in let y : _≡_ {A = ℕ} 0 1 = cc in omega arith
+
+  -- the one operand
+  pub sole : (g : Gap) (n p : ℕ) (e : Expr) (q place : ℕ) → spread M g n (tree M) (tokens gs vs) p ≡ got (one e) q → place ≡ operandAt (length gs) g p →
+      (end : ℕ) × (tree M (tokens gs vs) place ≡ got e end) × (restAt (length gs) g end ≡ q)
+  sole g n p e q place h i =
+      let s = apart M gs vs same g n p (one e) q place (some-left g n p e Exprs.end q h) i h in
+      let a : s .first ≡ e = cc (s .whole) in
+      let b : s .rest ≡ Exprs.end = cc (s .whole) in
+      (s .end, rw a at (s .here), spread-end M (tokens gs vs) (later g) (n - 1) (restAt (length gs) g (s .end)) (s .rest) q b (s .others))
+
+  -- the two operands
+  pub both : (g : Gap) (n p : ℕ) (a b : Expr) (q place : ℕ) → spread M g n (tree M) (tokens gs vs) p ≡ got (two a b) q → place ≡ operandAt (length gs) g p →
+      (end : ℕ) × (tree M (tokens gs vs) place ≡ got a end) × (p < restAt (length gs) g end) × (spread M (later g) (n - 1) (tree M) (tokens gs vs) (restAt (length gs) g end) ≡ got (one b) q)
+  both g n p a b q place h i =
+      let s = apart M gs vs same g n p (two a b) q place (some-left g n p a (one b) q h) i h in
+      let x : s .first ≡ a = cc (s .whole) in
+      let y : s .rest ≡ one b = cc (s .whole) in
+      (s .end, rw x at (s .here), s .past, rw y at (s .others))
+
+  -- the second, by where the first ended
+  pub second : (g l : Gap) (n p : ℕ) (e : Expr) (q next place : ℕ) → spread M (later g) n (tree M) (tokens gs vs) p ≡ got (one e) q → next ≡ p → l ≡ later g → place ≡ operandAt (length gs) l next →
+      (end : ℕ) × (tree M (tokens gs vs) place ≡ got e end) × (restAt (length gs) l end ≡ q)
+  second g l n p e q next place h i j k = sole l n next e q place (rw (i, j) h) k
+
+-- ---- the walk over operands
+-- n operands from p on are left, and so many findings are met: with theirs, they are all
+pub record Left (M : ℕ) (ts : List TagValue) (clocks : Clocks) (i : ℕ) (c : Clock) (g : Gap) (n p : ℕ) (t : List ℕ) (m q : ℕ) (all : List Finding) : Type 0 where
+  pub rest : Exprs
+  pub here : spread M g n (tree M) ts p ≡ got rest q
+  pub met : List Finding
+  pub holds : Holds t m met
+  pub same : met ++ checks clocks i c rest ≡ all
+
+pub left-all : (M : ℕ) (ts : List TagValue) (clocks : Clocks) (i : ℕ) (c : Clock) (g : Gap) (n p : ℕ) (t : List ℕ) (m q : ℕ) (es : Exprs) (fs : List Finding) → spread M g n (tree M) ts p ≡ got es q → Holds t m fs → Left M ts clocks i c g n p t m q (fs ++ checks clocks i c es)
+left-all M ts clocks i c g n p t m q es fs h k = record { rest = es; here = h; met = fs; holds = k; same = refl }
+
+pub left-none : (M : ℕ) (ts : List TagValue) (clocks : Clocks) (i : ℕ) (c : Clock) (g : Gap) (n p : ℕ) (t : List ℕ) (m q : ℕ) (all : List Finding) → Left M ts clocks i c g n p t m q all → n ≡ 0 → Checked t (record { end = p; count = m }) q all
+unfolding check
+left-none M ts clocks i c g n p t m q all h z =
+    let a = spread-nil M (tree M) ts g n p (h .rest) q z (h .here) in
+    let e : checks clocks i c (h .rest) ≡ [] = ap (checks clocks i c) (a .0) in
+    let s : h .met ≡ all = sym (append-nil (h .met)) ∙ (ap (λ (l : List Finding). h .met ++ l) (sym e) ∙ h .same) in
+    record { end = sym (a .1); holds = rw s at (h .holds) }
+
+-- the first of them, by what the walk answered
+module _ (M : ℕ) (gs vs : List ℕ) (same : length vs ≡ length gs) (clocks : Clocks) (i : ℕ) (c : Clock) (g : Gap) (n p place : ℕ) (t t′ : List ℕ) (m : ℕ) (w : Walked) (z : n ≡ 0 → ⊥) (j : place ≡ operandAt (length gs) g p)
+    (W : (e : Expr) (q : ℕ) (fs : List Finding) → tree M (tokens gs vs) place ≡ got e q → Holds t m fs → Checked t′ w q (fs ++ check clocks i c e)) (q : ℕ) (all : List Finding) (h : Left M (tokens gs vs) clocks i c g n p t m q all)
+    (next : ℕ) (k : next ≡ restAt (length gs) g (w .end)) where
+  abbrev split : Apart M gs vs g n p (h .rest) q place
+  split = apart M gs vs same g n p (h .rest) q place z j (h .here)
+
+  abbrev walked : Checked t′ w (split .end) (h .met ++ check clocks i c (split .first))
+  walked = W (split .first) (split .end) (h .met) (split .here) (h .holds)
+
+  ends : next ≡ restAt (length gs) g (split .end)
+  ends = k ∙ ap (restAt (length gs) g) (walked .end)
+
+  pub left-past : p < next
+  left-past = rw ends (split .past)
+
+  more : (es rest : Exprs) (e : Expr) → es ≡ Exprs.and e rest → (h .met ++ check clocks i c e) ++ checks clocks i c rest ≡ h .met ++ checks clocks i c es
+  unfolding check
+  more es rest e x = rw x (append-assoc (h .met) _ _)
+
+  pub left-rest : (l : Gap) → l ≡ later g → Left M (tokens gs vs) clocks i c l (n - 1) next t′ (w .count) q all
+  left-rest l x = record { rest = split .rest; here = rw (x, ends) (split .others); met = h .met ++ check clocks i c (split .first); holds = walked .holds; same = more (h .rest) (split .rest) (split .first) (split .whole) ∙ h .same }

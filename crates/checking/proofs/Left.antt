@@ -96,7 +96,7 @@ equation-none M ts p e q t g h =
     let z : _≡_ {A = ℕ} 0 1 = cc (a .2) in omega arith
 
 -- its left names, then its right side
-pub equation-whole : (node : Node) (clocks : Clocks) (i : ℕ) (c : Clock) (e : Equation) (t : List ℕ) (r : Walked) (q : ℕ) (fs : List Finding)
-    → Checked t r q ((fs ++ checkLeft clocks i node c (e .left)) ++ check clocks i c (e .right)) → Checked t r q (fs ++ checkEquation node clocks i (record { clock = c; equation = e }))
+pub equation-whole : (node : Node) (clocks : Clocks) (i : ℕ) (c d : Clock) (e : Equation) (t : List ℕ) (r : Walked) (q : ℕ) (fs : List Finding) → d ≡ c
+    → Checked t r q ((fs ++ checkLeft clocks i node d (e .left)) ++ check clocks i d (e .right)) → Checked t r q (fs ++ checkEquation node clocks i (record { clock = c; equation = e }))
 unfolding checkEquation
-equation-whole node clocks i c e t r q fs h = rw (append-assoc fs (checkLeft clocks i node c (e .left)) (check clocks i c (e .right))) at h
+equation-whole node clocks i c d e t r q fs j h = rw (append-assoc fs (checkLeft clocks i node c (e .left)) (check clocks i c (e .right))) at (rw j at h)

@@ -23,7 +23,8 @@ chain CLOCK                        a line for each clock other than base of a `p
 fault NODE FAULT EQUATION TEXT     a line for each clock fault
 
 A clock is base, and then a condition /NAME+ where the name is on, or /NAME- where it is not, for each it is sampled by.
-A sheet that is turned down is one line on standard error, `refused N PLACE`.
+A sheet that is turned down leaves standard output empty, and is one line on standard error, `refused NUMBER PLACE: REASON`;
+rewrite --help lists the numbers. The exit status is 0 in both cases.
 ",
     );
 }
@@ -40,8 +41,8 @@ fn show(fd: i32, out: &[u8], n: usize) {
 }
 
 fn refuse(r: Refusal) {
-    let mut out = [0u8; 64];
-    let n = arguments::put_refusal(&mut out, r);
+    let mut out = [0u8; 256];
+    let n = arguments::put_reason(&mut out, r);
     show(STDERR_FILENO, &out, n);
 }
 

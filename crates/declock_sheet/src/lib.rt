@@ -1,8 +1,8 @@
 // The tokens of the whole output, of an accepted sheet without faults, written into the output's arrays.
 // `starts` and `letters` are the input's names; `lengths` and `text`, with counts, the output's. `places` and `type_places` are
 // where the sheet's nodes and type definitions stand. `otags` and `ovalues` are the output's tokens, of which w are written.
+// `env`, `flags` and `firsts` are working tables, lent so that they are made once.
 use fresh::Counts;
-use infer_clocks::NodeClocked;
 use layout::NodeLayout;
 use node_tables::Tables;
 use openings::Sizes;
@@ -140,6 +140,8 @@ fn put_clocked(
     text: &[u8; 16384],
     c: Counts,
     env: &[u32; 17408],
+    flags: &mut [u32; 17408],
+    firsts: &mut [u32; 17408],
     otags: &mut [u8; 8192],
     ovalues: &mut [u32; 8192],
     k: Sizes,
@@ -151,8 +153,6 @@ fn put_clocked(
     requires { ⌜ Sound (now lengths) (now text) c ⌝ }
     ensures { λ r. ⌜ ((names all : List Letters) (s : Sheet) (n : ClockedNode) (p q : ℕ) → Clocked (now (starts .entry)) (now (letters .entry)) (now (tags .entry)) (now (values .entry)) (now (places .entry)) (now («type_places» .entry)) (now (lengths .entry)) (now (text .entry)) c k names all s n → usesClocks (n .node) ≡ true → node (k .names) (tokens (now (tags .entry)) (now (values .entry))) p ≡ got (n .node) q → Laid (k .names) (tokens (now (tags .entry)) (now (values .entry))) (n .node) q l → Agrees (now (env .entry)) (k .names) (n .clocking .names) → out (now (otags .exit)) (now (ovalues .exit)) r ≡ emits (out (now (otags .entry)) (now (ovalues .entry)) w) (nodeTokens (outputNode names s all n))) ⌝ }
 {
-    let mut flags = [0u32; 17408];
-    let mut firsts = [0u32; 17408];
     let mut flag_order = [0u32; 1024];
     let mut first_order = [0u32; 1024];
     let mut flag_numbers = [0u32; 1024];
@@ -169,8 +169,8 @@ fn put_clocked(
         l,
         env,
         k.condact,
-        &mut flags,
-        &mut firsts,
+        flags,
+        firsts,
         &mut flag_order,
         &mut first_order,
         &mut flag_numbers,
@@ -189,8 +189,8 @@ fn put_clocked(
         text,
         c,
         env,
-        &flags,
-        &firsts,
+        flags,
+        firsts,
         &flag_order,
         &first_order,
         &flag_numbers,
@@ -216,6 +216,9 @@ fn put_node(
     lengths: &[u8; 1024],
     text: &[u8; 16384],
     c: Counts,
+    env: &mut [u32; 17408],
+    flags: &mut [u32; 17408],
+    firsts: &mut [u32; 17408],
     otags: &mut [u8; 8192],
     ovalues: &mut [u32; 8192],
     k: Sizes,
@@ -231,40 +234,26 @@ fn put_node(
     let l = layout::node_at(tags, values, names, at);
     let uses = sheet::node_uses_clocks(tags, values, names, at);
     if uses {
-        let mut env = [0u32; 17408];
-        let mut marks = [0u8; 1024];
-        let mut ports = [0u32; 1024];
-        let mut table = [0u32; 155648];
-        let clocked = infer_clocks::clock_laid(
+        infer_clocks::name_clocks(tags, values, names, l, env);
+        return put_clocked(
+            starts,
+            letters,
             tags,
             values,
-            names,
+            places,
+            type_places,
+            lengths,
+            text,
+            c,
+            env,
+            flags,
+            firsts,
+            otags,
+            ovalues,
+            k,
             l,
-            &mut env,
-            &mut marks,
-            &mut ports,
-            &mut table,
+            w,
         );
-        return match clocked {
-            NodeClocked::Deep => w,
-            NodeClocked::Clocked(_, _) => put_clocked(
-                starts,
-                letters,
-                tags,
-                values,
-                places,
-                type_places,
-                lengths,
-                text,
-                c,
-                &env,
-                otags,
-                ovalues,
-                k,
-                l,
-                w,
-            ),
-        };
     }
     node_parts::put_node_as_it_came(otags, ovalues, w, tags, values, l)
 }
@@ -279,6 +268,9 @@ pub fn declock_sheet(
     lengths: &[u8; 1024],
     text: &[u8; 16384],
     c: Counts,
+    env: &mut [u32; 17408],
+    flags: &mut [u32; 17408],
+    firsts: &mut [u32; 17408],
     otags: &mut [u8; 8192],
     ovalues: &mut [u32; 8192],
 ) -> usize
@@ -322,6 +314,9 @@ pub fn declock_sheet(
             lengths,
             text,
             c,
+            env,
+            flags,
+            firsts,
             otags,
             ovalues,
             k,

@@ -125,7 +125,8 @@ pub struct Condition {
     pub test: Test,
 }
 
-// "A fault record holds node, fault and equation."
+// "A fault record holds node, fault and equation." Its layout is C's, for callers in C.
+#[repr(C)]
 pub struct FaultRecord {
     pub node: u32,
     pub fault: u32,

@@ -142,6 +142,22 @@ module _ (t : List ℕ) where
       let y : capped n ≡ 0 = omega (arith, e, z) in
       rw (clock-past t b h, base-at ks (capped n) y)
 
+  pub both-past : (u : List ℕ) (a b : ℕ) → length t ≤ a → depthIn t a ≡ depthIn u b → sameClock (clockIn t a) (clockIn u b) ≡ true
+  both-past u a b h e =
+      let z : getD t a 0 ≡ 0 = List·getD-eq-default t 0 h in
+      let y : depthIn u b ≡ 0 = omega (arith, e, z) in
+      rw (clock-past t a h, base-at (conditionsFrom u (b + 1) 8) (depthIn u b) y)
+
+  pub other-past : (u : List ℕ) (a b : ℕ) → length t ≤ a → depthIn u b ≡ depthIn t a → sameClock (clockIn u b) (clockIn t a) ≡ true
+  other-past u a b h e =
+      let z : getD t a 0 ≡ 0 = List·getD-eq-default t 0 h in
+      let y : depthIn u b ≡ 0 = omega (arith, e, z) in
+      rw (clock-past t a h, base-at (conditionsFrom u (b + 1) 8) (depthIn u b) y)
+
+  -- two conditions of tables
+  pub both-alike : (u : List ℕ) (b : Bool) (k l : Condition) (f g i : ℕ) → i < 8 → b ≡ sameCondition k l → k ≡ conditionAt t (f + 2 * i) → l ≡ conditionAt u (g + 2 * i) → b ≡ sameCondition (at (conditionsFrom t f 8) i) (at (conditionsFrom u g 8) i)
+  both-alike u b k l f g i h e p q = e ∙ rw (p, q, at-from t f 8 i h, at-from u g 8 i h)
+
   pub loaded : (ks : List Condition) (b d i : ℕ) → d ≡ depthIn t b → i ≤ d → d ≤ i → clockAt ks i ≡ clockAt (conditionsFrom t (b + 1) 8) i → clockAt ks (capped d) ≡ clockIn t b
   loaded ks b d i e p q h =
       let j : capped d ≡ i = rw e (omega arith) in

@@ -139,3 +139,45 @@ pub fn store(t: &mut [u32], b: usize, c: Clock)
         i += 1;
     }
 }
+
+// Whether the clock at a is the one at b of another table, compared from the last condition down.
+pub fn same_in(t: &[u32], a: usize, u: &[u32], b: usize) -> bool
+    ensures { λ r. ⌜ r ≡ sameClock (clockIn (now (t .entry)) a) (clockIn (now (u .entry)) b) ⌝ }
+{
+    let d = depth_at(t, a);
+    let e = depth_at(u, b);
+    if d != e {
+        return false;
+    }
+    if t.len() <= a {
+        return true;
+    }
+    if u.len() <= b {
+        return true;
+    }
+    let f = a + 1;
+    let g = b + 1;
+    let mut i = d;
+    while 0 < i {
+        i -= 1;
+        let p = f + 2 * i;
+        let q = g + 2 * i;
+        let k = condition_at(t, p);
+        let l = condition_at(u, q);
+        let alike = clock::same_condition(k, l);
+        if alike {
+            continue;
+        }
+        return false;
+    }
+    true
+}
+
+// A clock in seventeen words.
+pub fn words_of(c: Clock) -> [u32; 17]
+    ensures { λ r. ⌜ clockIn r 0 ≡ valueOf c ⌝ }
+{
+    let mut t = [0; 17];
+    store(&mut t, 0, c);
+    t
+}

@@ -3,21 +3,24 @@
 use mathlib.Core.Path.{_≡_, refl, sym, _∙_, ap}
 use mathlib.Core.List.{List, [], _∷_}
 use mathlib.Core.Option.{Option, none, some}
-use Prim.Native.Nat.{ℕ, zero, suc, _-_, _≤_, _<_}
+use Prim.Native.Nat.{ℕ, zero, suc, _+_, _-_, _≤_, _<_}
 use native.Mathlib.Omega.{arith}
 use native.Mathlib.Numerals.{sub-one}
 use lib.ListN.{length, getD, getElem?}
-use borrow.Author.Tests.{le-leb, lt-leb}
+use borrow.Author.Tests.{eq-eqb, ne-eqb, le-leb, lt-leb, le-ltb, lt-ltb}
 use Rattle.definitions.specs.declared.Refusal.{Refusal}
 use Rattle.definitions.specs.declared.Primitive.{Primitive}
 use Rattle.definitions.specs.declared.ExprToken.{ExprToken}
 use Rattle.definitions.specs.declared.TypeToken.{TypeToken}
 use Rattle.definitions.specs.declared.DefinitionToken.{DefinitionToken}
-use Rattle.definitions.specs.Tokens.{TagValue, words, typeTokenOf, exprTokenOf}
+use Rattle.definitions.specs.Tokens.{TagValue, words, kindOf, typeTokenOf, exprTokenOf}
 use Rattle.definitions.specs.Tree.{Expr}
-use Rattle.definitions.specs.Reading.{Got, got, rejected, Reader, after, allowed, token, limited, times}
-use Rattle.definitions.specs.Grammar.{tagged, counted, high, name, ty, exprs, fields, form, expr}
+use Rattle.definitions.specs.Reading.{Got, got, rejected, Reader, after, allowed, atToken, token, limited, times}
+use Rattle.definitions.specs.Grammar.{valueAt, tagged, kindAt, counted, high, name, ty, exprs, fields, form, expr}
 use Rattle.definitions.specs.Bytes.{tokens}
+use Rattle.reader.specs.declared.Step.{Step}
+use Rattle.reader.specs.Step.{stepOf, stepAt}
+use Rattle.reader.proofs.Laws.{tokens-at}
 use Rattle.grammar.specs.declared.Read.{Read}
 use Rattle.grammar.specs.declared.Counted.{Counted}
 use Rattle.grammar.specs.declared.ExprHead.{ExprHead}
@@ -25,35 +28,76 @@ use Rattle.grammar.specs.declared.TypeHead.{TypeHead}
 use Rattle.grammar.specs.declared.DefinitionHead.{DefinitionHead}
 use Rattle.grammar.specs.Outcome.{outcome, counts, listed, exprHead, typeHead, definitionHead}
 
--- the token at a place of the two arrays
-pub tokens-at : (ts vs : List ℕ) (p : ℕ) → length vs ≡ length ts → p < length ts → getElem? (tokens ts vs) p ≡ some (record { tag = getD ts p 0; value = getD vs p 0 })
-unfolding tokens
-tokens-at [] vs p e h = absurd (omega arith)
-tokens-at (t ∷ ts) [] p e h = absurd (omega arith)
-tokens-at (t ∷ ts) (v ∷ vs) zero e h = refl
-tokens-at (t ∷ ts) (v ∷ vs) (suc p) e h = tokens-at ts vs p (omega arith) (omega arith)
-
-pub tokens-end : (ts vs : List ℕ) (p : ℕ) → length ts ≤ p → getElem? (tokens ts vs) p ≡ none
-unfolding tokens
-tokens-end [] vs p h = refl
-tokens-end (t ∷ ts) [] p h = refl
-tokens-end (t ∷ ts) (v ∷ vs) zero h = absurd (omega arith)
-tokens-end (t ∷ ts) (v ∷ vs) (suc p) h = tokens-end ts vs p (omega arith)
-
 pub tokens-length : (ts vs : List ℕ) → length vs ≡ length ts → length (tokens ts vs) ≡ length ts
 unfolding tokens
 tokens-length [] vs e = refl
 tokens-length (t ∷ ts) [] e = absurd (omega arith)
 tokens-length (t ∷ ts) (v ∷ vs) e = ap suc (tokens-length ts vs (omega arith))
 
--- what is read at a place that has a token, and at one that has none
+-- what is read at a place that has a token
 pub there : {A : Type 0} (f : ℕ → ℕ → Option A) (ts vs : List ℕ) (p : ℕ) → length vs ≡ length ts → p < length ts → token f (tokens ts vs) p ≡ allowed (f (getD ts p 0) (getD vs p 0)) p
 unfolding token
 there f ts vs p e h = rw (tokens-at ts vs p e h)
 
-pub past : {A : Type 0} (f : ℕ → ℕ → Option A) (ts vs : List ℕ) (p : ℕ) → length ts ≤ p → token f (tokens ts vs) p ≡ rejected (Refusal.Token p)
-unfolding token
-past f ts vs p h = rw (tokens-end ts vs p h)
+-- what is read at a place, by what the reader says of it
+module _ {A : Type 0} (f : ℕ → ℕ → Option A) (ts : List TagValue) (p : ℕ) (r : Step) (e : r ≡ stepAt ts p) where
+  module _ (tag v q : ℕ) (g : r ≡ Step.Token tag v q) where
+    pub step-got : (a : A) → f tag v ≡ some a → token f ts p ≡ got a q
+    unfolding token
+    step-got a h = go (getElem? ts p) (sym e ∙ g)
+      where
+        go : (x : Option TagValue) → stepOf x p ≡ Step.Token tag v q → atToken f x p ≡ got a q
+        go none i = let z : _≡_ {A = ℕ} 0 1 = cc in absurd (omega arith)
+        go (some t) i =
+            let j : t .tag ≡ tag = cc in
+            let k : t .value ≡ v = cc in
+            let l : p + 1 ≡ q = cc in
+            rw (j, k, h, l)
+
+    pub step-refused : f tag v ≡ none → token f ts p ≡ rejected (Refusal.Token p)
+    unfolding token
+    step-refused h = go (getElem? ts p) (sym e ∙ g)
+      where
+        go : (x : Option TagValue) → stepOf x p ≡ Step.Token tag v q → atToken f x p ≡ rejected (Refusal.Token p)
+        go none i = refl
+        go (some t) i =
+            let j : t .tag ≡ tag = cc in
+            let k : t .value ≡ v = cc in
+            rw (j, k, h)
+
+  pub step-end : r ≡ Step.End → token f ts p ≡ rejected (Refusal.Token p)
+  unfolding token
+  step-end g = go (getElem? ts p) (sym e ∙ g)
+    where
+      go : (x : Option TagValue) → stepOf x p ≡ Step.End → atToken f x p ≡ rejected (Refusal.Token p)
+      go none i = refl
+      go (some t) i = let z : _≡_ {A = ℕ} 0 1 = cc in absurd (omega arith)
+
+-- the same of a token of one tag, whose value is below a bound
+module _ (wanted bound : ℕ) (ts : List TagValue) (p : ℕ) (r : Step) (e : r ≡ stepAt ts p) where
+  module _ (tag v q : ℕ) (g : r ≡ Step.Token tag v q) where
+    pub tagged-got : tag ≡ wanted → v < bound → tagged wanted bound ts p ≡ got v q
+    unfolding tagged
+    tagged-got i l = step-got (valueAt wanted bound) ts p r e tag v q g v (simp (eq-eqb tag wanted i, lt-ltb v bound l))
+
+    pub tagged-above : tag ≡ wanted → bound ≤ v → tagged wanted bound ts p ≡ rejected (Refusal.Token p)
+    unfolding tagged
+    tagged-above i l = step-refused (valueAt wanted bound) ts p r e tag v q g (simp (eq-eqb tag wanted i, le-ltb v bound l))
+
+    pub tagged-other : (tag ≡ wanted → ⊥) → tagged wanted bound ts p ≡ rejected (Refusal.Token p)
+    unfolding tagged
+    tagged-other i = step-refused (valueAt wanted bound) ts p r e tag v q g (simp (ne-eqb tag wanted i))
+
+  pub tagged-end : r ≡ Step.End → tagged wanted bound ts p ≡ rejected (Refusal.Token p)
+  unfolding tagged
+  tagged-end g = step-end (valueAt wanted bound) ts p r e g
+
+-- a node's kind by its tag
+pub kind-of : (tag v : ℕ) → tag ≡ 41 → kindAt tag v ≡ kindOf v
+kind-of tag v e = simp (eq-eqb tag 41 e)
+
+pub kind-other : (tag v : ℕ) → (tag ≡ 41 → ⊥) → kindAt tag v ≡ none
+kind-other tag v e = simp (ne-eqb tag 41 e)
 
 -- what a reading was, by the code's answer
 pub next-got : {A : Type 0} (x : Got A) (r : Read) (q : ℕ) → r ≡ outcome x → r ≡ Read.Next q → (a : A) × (x ≡ got a q)

@@ -5,6 +5,7 @@ use definitions::ExprToken;
 use definitions::Literal;
 use definitions::Refusal;
 use definitions::TypeToken;
+use reader::Step;
 use tokens::FoundDefinition;
 use tokens::FoundExpr;
 use tokens::FoundKind;
@@ -66,17 +67,18 @@ pub fn read_id(tags: &[u8], values: &[u32], names: u32, tag: u8, at: usize) -> R
     requires { ⌜ length (now values) ≡ length (now tags) ⌝ }
     ensures { λ r. ⌜ r ≡ outcome (tagged tag names (tokens (now (tags .entry)) (now (values .entry))) at) ⌝ }
 {
-    if tags.len() <= at {
-        return Read::Refused(Refusal::Token(at));
-    }
-    if tags[at] == tag {
-        if values[at] < names {
-            Read::Next(at + 1)
+    let step = reader::token_at(tags, values, at);
+    match step {
+        Step::Token(found, value, next) => if found == tag {
+            if value < names {
+                Read::Next(next)
+            } else {
+                Read::Refused(Refusal::Token(at))
+            }
         } else {
             Read::Refused(Refusal::Token(at))
-        }
-    } else {
-        Read::Refused(Refusal::Token(at))
+        },
+        Step::End => Read::Refused(Refusal::Token(at)),
     }
 }
 
@@ -93,13 +95,14 @@ pub fn read_word(tags: &[u8], values: &[u32], tag: u8, at: usize) -> Counted
     requires { ⌜ length (now values) ≡ length (now tags) ⌝ }
     ensures { λ r. ⌜ r ≡ counts (tagged tag words (tokens (now (tags .entry)) (now (values .entry))) at) ⌝ }
 {
-    if tags.len() <= at {
-        return Counted::Refused(Refusal::Token(at));
-    }
-    if tags[at] == tag {
-        Counted::Count(values[at], at + 1)
-    } else {
-        Counted::Refused(Refusal::Token(at))
+    let step = reader::token_at(tags, values, at);
+    match step {
+        Step::Token(found, value, next) => if found == tag {
+            Counted::Count(value, next)
+        } else {
+            Counted::Refused(Refusal::Token(at))
+        },
+        Step::End => Counted::Refused(Refusal::Token(at)),
     }
 }
 
@@ -140,17 +143,18 @@ pub fn read_kind(tags: &[u8], values: &[u32], at: usize) -> Read
     requires { ⌜ length (now values) ≡ length (now tags) ⌝ }
     ensures { λ r. ⌜ r ≡ outcome (token kindAt (tokens (now (tags .entry)) (now (values .entry))) at) ⌝ }
 {
-    if tags.len() <= at {
-        return Read::Refused(Refusal::Token(at));
-    }
-    if tags[at] == 41 {
-        let found = tokens::node_kind(values[at]);
-        match found {
-            FoundKind::Kind(_) => Read::Next(at + 1),
-            FoundKind::Nothing => Read::Refused(Refusal::Token(at)),
-        }
-    } else {
-        Read::Refused(Refusal::Token(at))
+    let step = reader::token_at(tags, values, at);
+    match step {
+        Step::Token(found, value, next) => if found == 41 {
+            let kind = tokens::node_kind(value);
+            match kind {
+                FoundKind::Kind(_) => Read::Next(next),
+                FoundKind::Nothing => Read::Refused(Refusal::Token(at)),
+            }
+        } else {
+            Read::Refused(Refusal::Token(at))
+        },
+        Step::End => Read::Refused(Refusal::Token(at)),
     }
 }
 
@@ -159,13 +163,16 @@ pub fn expr_head(tags: &[u8], values: &[u32], names: u32, at: usize) -> ExprHead
     requires { ⌜ length (now values) ≡ length (now tags) ⌝ }
     ensures { λ r. ⌜ r ≡ exprHead (token (exprTokenOf names) (tokens (now (tags .entry)) (now (values .entry))) at) ⌝ }
 {
-    if tags.len() <= at {
-        return ExprHead::Refused(Refusal::Token(at));
-    }
-    let found = tokens::expr_token(names, tags[at], values[at]);
-    match found {
-        FoundExpr::Token(t) => ExprHead::Token(t, at + 1),
-        FoundExpr::Nothing => ExprHead::Refused(Refusal::Token(at)),
+    let step = reader::token_at(tags, values, at);
+    match step {
+        Step::Token(tag, value, next) => {
+            let found = tokens::find_expr(names, tag, value);
+            match found {
+                FoundExpr::Token(t) => ExprHead::Token(t, next),
+                FoundExpr::Nothing => ExprHead::Refused(Refusal::Token(at)),
+            }
+        },
+        Step::End => ExprHead::Refused(Refusal::Token(at)),
     }
 }
 
@@ -174,13 +181,16 @@ pub fn type_head(tags: &[u8], values: &[u32], names: u32, at: usize) -> TypeHead
     requires { ⌜ length (now values) ≡ length (now tags) ⌝ }
     ensures { λ r. ⌜ r ≡ typeHead (token (typeTokenOf names) (tokens (now (tags .entry)) (now (values .entry))) at) ⌝ }
 {
-    if tags.len() <= at {
-        return TypeHead::Refused(Refusal::Token(at));
-    }
-    let found = tokens::type_token(names, tags[at], values[at]);
-    match found {
-        FoundType::Token(t) => TypeHead::Token(t, at + 1),
-        FoundType::Nothing => TypeHead::Refused(Refusal::Token(at)),
+    let step = reader::token_at(tags, values, at);
+    match step {
+        Step::Token(tag, value, next) => {
+            let found = tokens::find_type(names, tag, value);
+            match found {
+                FoundType::Token(t) => TypeHead::Token(t, next),
+                FoundType::Nothing => TypeHead::Refused(Refusal::Token(at)),
+            }
+        },
+        Step::End => TypeHead::Refused(Refusal::Token(at)),
     }
 }
 
@@ -189,13 +199,16 @@ pub fn definition_head(tags: &[u8], values: &[u32], names: u32, at: usize) -> De
     requires { ⌜ length (now values) ≡ length (now tags) ⌝ }
     ensures { λ r. ⌜ r ≡ definitionHead (token (definitionTokenOf names) (tokens (now (tags .entry)) (now (values .entry))) at) ⌝ }
 {
-    if tags.len() <= at {
-        return DefinitionHead::Refused(Refusal::Token(at));
-    }
-    let found = tokens::definition_token(names, tags[at], values[at]);
-    match found {
-        FoundDefinition::Token(t) => DefinitionHead::Token(t, at + 1),
-        FoundDefinition::Nothing => DefinitionHead::Refused(Refusal::Token(at)),
+    let step = reader::token_at(tags, values, at);
+    match step {
+        Step::Token(tag, value, next) => {
+            let found = tokens::find_definition(names, tag, value);
+            match found {
+                FoundDefinition::Token(t) => DefinitionHead::Token(t, next),
+                FoundDefinition::Nothing => DefinitionHead::Refused(Refusal::Token(at)),
+            }
+        },
+        Step::End => DefinitionHead::Refused(Refusal::Token(at)),
     }
 }
 

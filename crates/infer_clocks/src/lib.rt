@@ -17,7 +17,7 @@ ghost use Rattle.definitions.specs.Reading.{got, times};
 ghost use Rattle.definitions.specs.Grammar.{equation, node};
 ghost use Rattle.definitions.specs.Clock as trees;
 ghost use Rattle.definitions.specs.InferClocks as rules;
-ghost use Rattle.definitions.specs.InferClocks.{Clocks, Finding, formed, orBase, clocking, chains};
+ghost use Rattle.definitions.specs.InferClocks.{Clocks, Finding, Clocking, formed, orBase, clocking, chains};
 ghost use Rattle.definitions.specs.Answer.{clockings};
 ghost use Rattle.clock.specs.Value.{valueOf, naturalOf};
 ghost use Rattle.environment.specs.Environment.{Agrees};
@@ -207,22 +207,13 @@ pub fn clock_laid(
     }
 }
 
-// The clocks of the node that stands there.
-pub fn clock_node(
-    tags: &[u8],
-    values: &[u32],
-    names: u32,
-    at: usize,
-    env: &mut [u32],
-    marks: &mut [u8],
-    ports: &mut [u32],
-    table: &mut [u32],
-) -> NodeClocked
+// The clocks of the names of a node with this layout, whose clocks are all formed.
+pub fn name_clocks(tags: &[u8], values: &[u32], names: u32, l: NodeLayout, env: &mut [u32])
     requires { ⌜ length (now values) ≡ length (now tags) ⌝ }
-    ensures { λ r. ⌜ ((n : Node) (q : ℕ) → node names (tokens (now (tags .entry)) (now (values .entry))) at ≡ got n q → 17 * names ≤ length (now (env .entry)) → names ≤ length (now (marks .entry)) → names ≤ length (now (ports .entry)) → 38 * length (now (tags .entry)) ≤ length (now (table .entry)) → Clocked (now (env .exit)) (now (table .exit)) names r (clocking n)) ⌝ }
+    ensures { λ _. ⌜ ((n : Node) (q : ℕ) (k : Clocking) → Laid names (tokens (now (tags .entry)) (now (values .entry))) n q l → 17 * names ≤ length (now (env .entry)) → names ≤ 1024 → clocking n ≡ formed k → Agrees (now (env .exit)) names (k .names)) ⌝ }
 {
-    let l = layout::node_at(tags, values, names, at);
-    clock_laid(tags, values, names, l, env, marks, ports, table)
+    let mut marks = [0u8; 1024];
+    passes::infer(tags, values, names, l, env, &mut marks);
 }
 
 // The first of so many nodes, the first of which stands there, in which too deep a clock is formed.

@@ -228,19 +228,10 @@ fn report(bytes: &[u8], tags: &[u8; 8192], values: &[u32; 8192], sizes: Sizes)
     show(STDOUT_FILENO, &out, end);
 }
 
-// `refused N PLACE`
-fn put_refusal(out: &mut [u8; 4096], r: Refusal) -> usize {
-    let number = sheet::refusal_number(r);
-    let place = sheet::refusal_place(r);
-    let a = spelling::put_all(out, 0, b"refused");
-    let b = put_number(out, a, number as u64);
-    let c = put_number(out, b, place as u64);
-    spelling::put(out, c, b'\n')
-}
-
+// `refused NUMBER PLACE: REASON`
 fn refuse(r: Refusal) {
     let mut out = [0u8; 4096];
-    let end = put_refusal(&mut out, r);
+    let end = arguments::put_reason(&mut out, r);
     show(STDERR_FILENO, &out, end);
 }
 
@@ -264,7 +255,8 @@ type NAME KIND COUNT           a line for each type: enum, record or alias, with
 node NAME KIND INPUTS OUTPUTS LOCALS EQUATIONS PROBES CLOCKS
                                a line for each node: function, operator or imported; clocks or base
 
-A sheet that is turned down is one line on standard error, `refused N PLACE`.
+A sheet that is turned down leaves standard output empty, and is one line on standard error, `refused NUMBER PLACE: REASON`;
+rewrite --help lists the numbers. The exit status is 0 in both cases.
 ",
     );
 }

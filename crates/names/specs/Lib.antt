@@ -1,2 +1,3 @@
--- Where the names of a sheet stand.
+-- Where the names of a sheet stand, and which bucket each goes to.
 pub mod Places
+pub mod Buckets

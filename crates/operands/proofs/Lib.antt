@@ -4,3 +4,5 @@ pub mod Forms
 pub mod Laws
 pub mod Roles
 pub mod Samples
+pub mod Apart
+pub mod Leaves

@@ -10,7 +10,7 @@ use grammar::Read;
 use grammar::Shape;
 ghost use mathlib.Core.Path.{_≡_};
 ghost use Prim.Native.Nat.{ℕ};
-ghost use lib.ListN.{length};
+ghost use lib.ListN.{length, getD};
 ghost use Rattle.definitions.specs.Bytes.{tokens};
 ghost use Rattle.definitions.specs.Tree.{Expr, Exprs};
 ghost use Rattle.definitions.specs.Reading.{got};
@@ -18,6 +18,7 @@ ghost use Rattle.operands.specs.Role.{roleOf};
 ghost use Rattle.operands.specs.Spread.{tree, spread, later, pastIn, operandAt, restAt};
 ghost use Rattle.definitions.specs.InferClocks.{samples, sampled};
 ghost use Rattle.definitions.specs.Grammar.{counted};
+ghost use Rattle.operands.specs.Leaf.{leafAt, Used};
 ghost use Rattle.operands.specs.Laid.{skipped, plainAt, behindCount, behindStart, operandsAt};
 ghost use Rattle.operands.specs.Viewed.{Laid, Viewed, Stepped};
 
@@ -67,6 +68,19 @@ pub struct Operand {
     pub at: usize,
     pub next: usize,
     pub gap: Gap,
+}
+
+// A leaf, with where it ends: a name; a constant; or an expression that is none.
+pub enum Leaf {
+    Name(u32, usize),
+    Constant(usize),
+    Other,
+}
+
+// Whether a when or a merge was found, and where what has none ends.
+pub struct Use {
+    pub found: bool,
+    pub end: usize,
 }
 
 // What an expression does, by its first token.
@@ -297,42 +311,86 @@ pub fn view_at(tags: &[u8], values: &[u32], names: u32, at: usize) -> View
     }
 }
 
+// The leaf that stands there, by its first token.
+pub fn leaf_at(tags: &[u8], values: &[u32], at: usize) -> Leaf
+    requires { ⌜ length (now values) ≡ length (now tags) ⌝ }
+    ensures { λ r. ⌜ r ≡ leafAt (length (now (tags .entry))) (getD (now (tags .entry)) at 0) (getD (now (values .entry)) at 0) at ⌝ }
+{
+    if tags.len() <= at {
+        return Leaf::Other;
+    }
+    let tag = tags[at];
+    match tag {
+        54 => Leaf::Name(values[at], at + 1),
+        50 => Leaf::Constant(at + 1),
+        51 => Leaf::Constant(past(tags, at + 1)),
+        52 => Leaf::Constant(past(tags, at + 1)),
+        53 => Leaf::Constant(at + 1),
+        _ => Leaf::Other,
+    }
+}
+
 // Does a when or a merge stand in the expression?
 pub fn uses_clocks(tags: &[u8], values: &[u32], names: u32, at: usize) -> bool
     requires { ⌜ length (now values) ≡ length (now tags) ⌝ }
     ensures { λ r. ⌜ ((e : Expr) (q : ℕ) → tree names (tokens (now (tags .entry)) (now (values .entry))) at ≡ got e q → r ≡ samples e) ⌝ }
 {
-    let v = view_at(tags, values, names, at);
-    let first = v.first;
-    let gap = v.gap;
-    let role = v.role;
-    if first <= at {
-        return false;
-    }
-    match role {
-        Role::Sample(_) => true,
-        Role::Join(_) => true,
-        _ => some_use(tags, values, names, gap, v.count, first),
+    let u = use_at(tags, values, names, at);
+    u.found
+}
+
+// Whether one was found, and where what has none ends.
+fn answer(found: bool, end: usize) -> Use
+    ensures { λ r. ⌜ r ≡ record { found = found; end = end } ⌝ }
+{
+    Use {
+        found: found,
+        end: end,
     }
 }
 
-// Does one stand in one of so many operands?
-pub fn some_use(tags: &[u8], values: &[u32], names: u32, gap: Gap, count: u32, at: usize) -> bool
+// The same, and where the expression ends if none does.
+pub fn use_at(tags: &[u8], values: &[u32], names: u32, at: usize) -> Use
     requires { ⌜ length (now values) ≡ length (now tags) ⌝ }
-    ensures { λ r. ⌜ ((es : Exprs) (q : ℕ) → spread names gap count (tree names) (tokens (now (tags .entry)) (now (values .entry))) at ≡ got es q → r ≡ sampled es) ⌝ }
+    ensures { λ r. ⌜ ((e : Expr) (q : ℕ) → tree names (tokens (now (tags .entry)) (now (values .entry))) at ≡ got e q → Used r (samples e) q) ⌝ }
 {
-    if count == 0 {
-        return false;
+    let v = view_at(tags, values, names, at);
+    let first = v.first;
+    let count = v.count;
+    let gap = v.gap;
+    let role = v.role;
+    if first <= at {
+        return answer(false, at);
     }
-    let o = first_operand(tags, values, names, gap, at);
-    let place = o.at;
-    let next = o.next;
-    let later = o.gap;
-    if next <= at {
-        return false;
+    match role {
+        Role::Sample(_) => answer(true, at),
+        Role::Join(_) => answer(true, at),
+        _ => some_use(tags, values, names, gap, count, first),
     }
-    if uses_clocks(tags, values, names, place) {
-        return true;
+}
+
+// Does one stand in one of so many operands? Where they end if none does.
+pub fn some_use(tags: &[u8], values: &[u32], names: u32, gap: Gap, count: u32, at: usize) -> Use
+    requires { ⌜ length (now values) ≡ length (now tags) ⌝ }
+    ensures { λ r. ⌜ ((es : Exprs) (q : ℕ) → spread names gap count (tree names) (tokens (now (tags .entry)) (now (values .entry))) at ≡ got es q → Used r (sampled es) q) ⌝ }
+{
+    let mut left = count;
+    let mut from = at;
+    let mut between = gap;
+    while 0 < left {
+        let place = operand_at(tags, between, from);
+        let u = use_at(tags, values, names, place);
+        if u.found {
+            return u;
+        }
+        let rest = after_operand(tags, between, u.end);
+        let next = rest.next;
+        if next <= from {
+            return u;
+        }
+        from = next;
+        between = rest.gap;
+        left -= 1;
     }
-    some_use(tags, values, names, later, count - 1, next)
+    answer(false, from)
 }

@@ -17,6 +17,8 @@ use Rattle.definitions.specs.Bytes.{cut}
 use Rattle.definitions.specs.Output.{lettersOf}
 use Rattle.definitions.specs.Clock.{Clock, base, _/_, conditions, andThen, lexical, conditionOrder, testOrder, chainOrder, insert, inChainOrder}
 use Rattle.clock.specs.Value.{at, clockAt}
+use Rattle.flat.specs.Flat.{conditionAt, conditionsFrom}
+use Rattle.flat.proofs.Laws.{at-from}
 use Rattle.fresh.specs.Places.{startsFrom, lettersAt}
 use Rattle.fresh.proofs.Places.{letters-name}
 use Rattle.rows.specs.Rows.{clocksFrom, clocksIn}
@@ -182,6 +184,19 @@ module _ (letters : ℕ → Letters) (ks ls : List Condition) (d e : ℕ) where
 
         pub chain-other : isSame o ≡ false → chainOrder letters (clockAt ks d) (clockAt ls e) ≡ orderOf o
         chain-other u = chain-step ∙ then-other o _ u
+
+-- the condition in a row of a table
+pub row-condition : (rows : List ℕ) (a x i : ℕ) (k : Condition) → a ≡ 17 * x → i < 8 → k ≡ conditionAt rows (a + 1 + 2 * i) → k ≡ at (conditionsFrom rows (17 * x + 1) 8) i
+row-condition rows a x i k e l h = h ∙ rw e (sym (at-from rows (17 * x + 1) 8 i l))
+
+pub conditions-both : (letters : ℕ → Letters) (o : Order) (k l k′ l′ : Condition) → orderOf o ≡ conditionOrder letters k l → k ≡ k′ → l ≡ l′ → orderOf o ≡ conditionOrder letters k′ l′
+conditions-both letters o k l k′ l′ h p q = h ∙ rw (p, q)
+
+pub under-same : (d e i : ℕ) → d ≡ e → i < d → i < e
+under-same d e i p h = omega arith
+
+pub over-same : (d e i : ℕ) → d ≡ e → d ≤ i → e ≤ i
+over-same d e i p h = omega arith
 
 -- ---- words of a list
 module _ (f : ℕ → Clock) where

@@ -5,7 +5,7 @@ use mathlib.Core.Bool.{Bool, true, false}
 use mathlib.Core.List.{List, [], _∷_, _++_}
 use lib.ListN.{length, getD}
 use Rattle.definitions.specs.Lists.{Letters}
-use Rattle.definitions.specs.Clock.{Clock, insert}
+use Rattle.definitions.specs.Clock.{Clock, chainOrder, insert}
 use Rattle.flat.specs.Flat.{clockIn}
 use Rattle.order.specs.declared.Order.{Order}
 use Rattle.order.specs.declared.Place.{Place}
@@ -40,6 +40,10 @@ pub record Shifted (o o′ : List ℕ) (j k x : ℕ) : Type 0 where
   pub before : (i : ℕ) → i < j → getD o′ i 0 ≡ getD o i 0
   pub here : getD o′ j 0 ≡ x
   pub after : (i : ℕ) → j ≤ i → i < k → getD o′ (i + 1) 0 ≡ getD o i 0
+
+-- of k rows, each is after those before it
+abbrev pub Ordered : (ℕ → Letters) → List ℕ → List ℕ → ℕ → Type 0
+Ordered letters rows o k = (i j : ℕ) → i < j → j < k → chainOrder letters (rowOf rows (getD o j 0)) (rowOf rows (getD o i 0)) ≡ Ordering·gt
 
 -- a clock goes before the j-th of k rows, or is there
 unfoldable pub Sought : (ℕ → Letters) → List ℕ → List ℕ → ℕ → Clock → Place → Type 0

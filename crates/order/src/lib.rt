@@ -1,16 +1,14 @@
 // The order of chains, and rows of clocks put into it.
 // The letters of name i are those from starts[i] to starts[i + 1].
-use clock::Clock;
 use definitions::Condition;
 use definitions::Test;
 ghost use mathlib.Core.Path.{_≡_};
 ghost use Prim.Native.Nat.{ℕ, _+_, _≤_, _<_, compare};
 ghost use lib.ListN.{length};
 ghost use Rattle.definitions.specs.Clock.{lexical, testOrder, conditionOrder, chainOrder, insert, inChainOrder};
-ghost use Rattle.clock.specs.Value.{valueOf};
 ghost use Rattle.rows.specs.Rows.{clocksIn};
 ghost use Rattle.fresh.specs.Places.{lettersAt};
-ghost use Rattle.order.specs.Order.{orderOf, isSame, rowOf, picked, Below, Shifted, Sought};
+ghost use Rattle.order.specs.Order.{orderOf, isSame, rowOf, picked, Below, Shifted, Ordered, Sought};
 
 pub enum Order {
     Less,
@@ -110,19 +108,21 @@ pub fn condition_order(starts: &[u32], letters: &[u8], k: Condition, l: Conditio
     o
 }
 
-// Two clocks, condition by condition, a parent before its children.
-pub fn chain_order(starts: &[u32], letters: &[u8], a: Clock, b: Clock) -> Order
-    ensures { λ r. ⌜ orderOf r ≡ chainOrder (lettersAt (now (starts .entry)) (now (letters .entry))) (valueOf a) (valueOf b) ⌝ }
+// Two rows' clocks, condition by condition, a parent before its children.
+pub fn row_order(starts: &[u32], letters: &[u8], rows: &[u32], x: u32, y: u32) -> Order
+    ensures { λ r. ⌜ orderOf r ≡ chainOrder (lettersAt (now (starts .entry)) (now (letters .entry))) (rowOf (now (rows .entry)) x) (rowOf (now (rows .entry)) y) ⌝ }
 {
-    let d = clock::depth_of(a);
-    let e = clock::depth_of(b);
+    let a = 17 * wide(x);
+    let b = 17 * wide(y);
+    let d = flat::depth_at(rows, a);
+    let e = flat::depth_at(rows, b);
     let mut i: usize = 0;
     while i < d {
         if e <= i {
             return Order::More;
         }
-        let k = a.conditions[i];
-        let l = b.conditions[i];
+        let k = flat::condition_at(rows, a + 1 + 2 * i);
+        let l = flat::condition_at(rows, b + 1 + 2 * i);
         let o = condition_order(starts, letters, k, l);
         let same = is_same(o);
         if same {
@@ -137,40 +137,35 @@ pub fn chain_order(starts: &[u32], letters: &[u8], a: Clock, b: Clock) -> Order
     Order::Same
 }
 
-// Where the clock c goes among the first k rows that the order names.
-pub fn seek(
-    starts: &[u32],
-    letters: &[u8],
-    rows: &[u32],
-    order: &[u32],
-    k: usize,
-    c: Clock,
-) -> Place
+// Where the row x goes among the first k rows that the order names, by halves.
+fn seek(starts: &[u32], letters: &[u8], rows: &[u32], order: &[u32], k: usize, x: u32) -> Place
     requires { ⌜ k ≤ length (now order) ⌝ }
-    ensures { λ r. ⌜ Sought (lettersAt (now (starts .entry)) (now (letters .entry))) (now (rows .entry)) (now (order .entry)) k (valueOf c) r ⌝ }
+    requires { ⌜ Ordered (lettersAt (now starts) (now letters)) (now rows) (now order) k ⌝ }
+    ensures { λ r. ⌜ Sought (lettersAt (now (starts .entry)) (now (letters .entry))) (now (rows .entry)) (now (order .entry)) k (rowOf (now (rows .entry)) x) r ⌝ }
 {
-    let mut j: usize = 0;
-    while j < k {
-        let y = wide(order[j]);
-        let d = rows::get(rows, y);
-        let o = chain_order(starts, letters, c, d);
+    let mut low: usize = 0;
+    let mut high = k;
+    while low < high {
+        let mid = low + (high - low) / 2;
+        let y = order[mid];
+        let o = row_order(starts, letters, rows, x, y);
         match o {
             Order::Less => {
-                return Place::Before(j);
+                high = mid;
             }
             Order::Same => {
                 return Place::There;
             }
             Order::More => {
-                j += 1;
+                low = mid + 1;
             }
         }
     }
-    Place::Before(k)
+    Place::Before(low)
 }
 
 // x at j, and the words from j to k one place further.
-pub fn shift(order: &mut [u32], j: usize, k: usize, x: u32)
+fn shift(order: &mut [u32], j: usize, k: usize, x: u32)
     requires { ⌜ j ≤ k ⌝ }
     requires { ⌜ k < length (now order) ⌝ }
     ensures { λ r. ⌜ Shifted (now (order .entry)) (now (order .exit)) j k x ⌝ }
@@ -185,7 +180,7 @@ pub fn shift(order: &mut [u32], j: usize, k: usize, x: u32)
 }
 
 // The row x put among the first k: how many there are then.
-pub fn insert_row(
+fn insert_row(
     starts: &[u32],
     letters: &[u8],
     rows: &[u32],
@@ -194,14 +189,13 @@ pub fn insert_row(
     x: u32,
 ) -> usize
     requires { ⌜ k < length (now order) ⌝ }
+    requires { ⌜ Ordered (lettersAt (now starts) (now letters)) (now rows) (now order) k ⌝ }
     ensures { λ r. ⌜ length (now (order .exit)) ≡ length (now (order .entry)) ⌝ }
     ensures { λ r. ⌜ r ≤ k + 1 ⌝ }
     ensures { λ r. ⌜ picked (rowOf (now (rows .entry))) (now (order .exit)) 0 r ≡ insert (lettersAt (now (starts .entry)) (now (letters .entry))) (rowOf (now (rows .entry)) x) (picked (rowOf (now (rows .entry))) (now (order .entry)) 0 k) ⌝ }
     ensures { λ r. ⌜ ((m : ℕ) → x < m → Below (now (order .entry)) k m → Below (now (order .exit)) r m) ⌝ }
 {
-    let i = wide(x);
-    let c = rows::get(rows, i);
-    let place = seek(starts, letters, rows, order, k, c);
+    let place = seek(starts, letters, rows, order, k, x);
     match place {
         Place::Before(j) => {
             shift(order, j, k, x);

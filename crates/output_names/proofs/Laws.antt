@@ -27,14 +27,12 @@ use Rattle.fresh.proofs.Table.{id-most}
 use Rattle.fresh.proofs.Places.{cut-length}
 use Rattle.layout.specs.declared.SheetLayout.{SheetLayout}
 use Rattle.layout.specs.Laid.{LaidSheet, Places}
-use Rattle.infer_clocks.specs.declared.NodeClocked.{NodeClocked}
-use Rattle.infer_clocks.specs.Clocked.{Clocked}
 use Rattle.callees.specs.Callees.{Standing}
 use Rattle.needs.specs.Need.{Needs}
 use Rattle.stateless.specs.Whole.{noNeeds, oldNeeds}
 use Rattle.stateless.specs.Rewritten.{namesBy}
 use Rattle.stateless.specs.Sheets.{NodeHere}
-use Rattle.stateless.proofs.Nodes.{clockings-form, node-here, all-before, not-too-deep, same-clocking, no-faults, names-out, names-end, names-same, names-front}
+use Rattle.stateless.proofs.Nodes.{clockings-form, node-here, all-before, no-faults, names-out, names-end, names-same, names-front}
 use Rattle.stateless.proofs.Output.{names-by-needs}
 use Rattle.new_names.proofs.Ids.{declared-few}
 use Rattle.node_needs.proofs.Apart.{apart-none, apart-old}
@@ -57,18 +55,6 @@ module _ {lens letters : List ℕ} {c d : Counts} (s : Sound lens letters c) (e 
   pub marked-full : d .full ≡ true → (names : List Letters) → length lens < length names → Holds lens letters d names
   marked-full g names h =
       record { sound = marked-sound; kept = λ z. absurd (true≢false (sym g ∙ z)); past = λ z. rw (lt-leb (length names) (length lens) h) }
-
--- ---- a node's clocks
-module _ (env t : List ℕ) (m : ℕ) (n : Node) (k : Clocking) (r : NodeClocked) where
-  pub clocked-not-deep : clocking n ≡ formed k → Clocked env t m r (clocking n) → r ≡ NodeClocked.Deep → ⊥
-  unfolding Clocked
-  clocked-not-deep e h q = not-too-deep n k e (subst (λ (x : NodeClocked). Clocked env t m x (clocking n)) q h)
-
-  pub clocked-agrees : clocking n ≡ formed k → Clocked env t m r (clocking n) → (a b : ℕ) → r ≡ NodeClocked.Clocked a b → Agrees env m (k .names)
-  unfolding Clocked
-  clocked-agrees e h a b q =
-      let w = subst (λ (x : NodeClocked). Clocked env t m x (clocking n)) q h in
-      subst (λ (x : Clocking). Agrees env m (x .names)) (same-clocking n (w .0) k (w .1) e) (w .2 .named)
 
 -- ---- the names that a node adds
 module _ {starts letters tags values places : List ℕ} {M many condact : ℕ} {names : List Letters} {s : Sheet} {n : ClockedNode} (h : Ready starts letters tags values places M many condact names s n) where

@@ -1,8 +1,8 @@
 // The output's names: the input's, then those of each node's new locals, of an accepted sheet without faults.
 // `starts` and `letters` are the input's names, `names` is how many there are; `lengths` and `text`, with counts, a table of the
 // output's names; `places` has the places of the sheet's nodes, `nodes` is how many there are; `condact` is the id of `condact`.
+// `env`, `flags` and `firsts` are working tables, lent so that they are made once.
 use fresh::Counts;
-use infer_clocks::NodeClocked;
 use layout::NodeLayout;
 use node_tables::Tables;
 ghost use mathlib.Core.Path.{_≡_};
@@ -98,6 +98,8 @@ fn add_clocked(
     nodes: usize,
     l: NodeLayout,
     env: &[u32; 17408],
+    flags: &mut [u32; 17408],
+    firsts: &mut [u32; 17408],
     condact: u32,
 ) -> Counts
     requires { ⌜ length (now values) ≡ length (now tags) ⌝ }
@@ -106,8 +108,6 @@ fn add_clocked(
     ensures { λ r. ⌜ Sound (now (lengths .exit)) (now (text .exit)) r ⌝ }
     ensures { λ r. ⌜ ((old : List Letters) (s : Sheet) (n : ClockedNode) (p q : ℕ) (all : List Letters) → Ready (now (starts .entry)) (now (letters .entry)) (now (tags .entry)) (now (values .entry)) (now (places .entry)) names nodes condact old s n → node names (tokens (now (tags .entry)) (now (values .entry))) p ≡ got (n .node) q → Laid names (tokens (now (tags .entry)) (now (values .entry))) (n .node) q l → Agrees (now (env .entry)) names (n .clocking .names) → Holds (now (lengths .entry)) (now (text .entry)) c all → Holds (now (lengths .exit)) (now (text .exit)) r (namesBy old all (n .node) (nodeNeeds old s n))) ⌝ }
 {
-    let mut flags = [0u32; 17408];
-    let mut firsts = [0u32; 17408];
     let mut flag_order = [0u32; 1024];
     let mut first_order = [0u32; 1024];
     let mut flag_numbers = [0u32; 1024];
@@ -124,8 +124,8 @@ fn add_clocked(
         l,
         env,
         condact,
-        &mut flags,
-        &mut firsts,
+        flags,
+        firsts,
         &mut flag_order,
         &mut first_order,
         &mut flag_numbers,
@@ -158,6 +158,9 @@ fn add_node(
     places: &[usize; 16],
     nodes: usize,
     at: usize,
+    env: &mut [u32; 17408],
+    flags: &mut [u32; 17408],
+    firsts: &mut [u32; 17408],
     condact: u32,
 ) -> Counts
     requires { ⌜ length (now values) ≡ length (now tags) ⌝ }
@@ -168,39 +171,25 @@ fn add_node(
 {
     let uses = sheet::node_uses_clocks(tags, values, names, at);
     if uses {
-        let mut env = [0u32; 17408];
-        let mut marks = [0u8; 1024];
-        let mut ports = [0u32; 1024];
-        let mut table = [0u32; 155648];
         let l = layout::node_at(tags, values, names, at);
-        let clocked = infer_clocks::clock_laid(
+        infer_clocks::name_clocks(tags, values, names, l, env);
+        return add_clocked(
+            lengths,
+            text,
+            c,
+            starts,
+            letters,
             tags,
             values,
             names,
+            places,
+            nodes,
             l,
-            &mut env,
-            &mut marks,
-            &mut ports,
-            &mut table,
+            env,
+            flags,
+            firsts,
+            condact,
         );
-        return match clocked {
-            NodeClocked::Deep => c,
-            NodeClocked::Clocked(_, _) => add_clocked(
-                lengths,
-                text,
-                c,
-                starts,
-                letters,
-                tags,
-                values,
-                names,
-                places,
-                nodes,
-                l,
-                &env,
-                condact,
-            ),
-        };
     }
     c
 }
@@ -215,6 +204,9 @@ pub fn sheet_names(
     names: u32,
     lengths: &mut [u8; 1024],
     text: &mut [u8; 16384],
+    env: &mut [u32; 17408],
+    flags: &mut [u32; 17408],
+    firsts: &mut [u32; 17408],
 ) -> Counts
     requires { ⌜ length (now values) ≡ length (now tags) ⌝ }
     requires { ⌜ sum (now given) ≡ length (now letters) ⌝ }
@@ -247,6 +239,9 @@ pub fn sheet_names(
             &places,
             n,
             at,
+            env,
+            flags,
+            firsts,
             condact,
         );
         i += 1;

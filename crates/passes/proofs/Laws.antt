@@ -1,22 +1,23 @@
 -- Inference step by step: ports, one name, the left names, an equation, a pass, the passes.
 -- Assumes nothing.
 use Prim.Native.Nat.{ℕ, zero, suc, _+_, _-_, _*_, _≤_, _<_}
-use mathlib.Core.Path.{_≡_, refl, sym, _∙_, ap}
-use mathlib.Core.List.{List, [], _∷_, _++_, map}
+use mathlib.Core.Path.{_≡_, refl, sym, _∙_, ap, subst}
+use mathlib.Core.List.{List, [], _∷_, _++_, map, List·Memᴰ, List·Memᴰ·head, List·Memᴰ·tail, List·Memᴰ·not-nil, List·Memᴰ·cases-cons}
 use mathlib.Core.Bool.{Bool, true, false, _||_}
 use mathlib.Core.Option.{Option, none, some}
+use mathlib.Core.Logic.{_⊎_, inl, inr}
 use native.Mathlib.Omega.{arith}
 use native.Mathlib.Numerals.{add-one}
-use lib.Dec.{eqb, ltb}
+use lib.Dec.{eqb, ltb, leb}
 use lib.ListN.{length, getD, set, List·getD-eq-default}
 use lib.Seq.{getD-set-same, getD-set-other}
-use borrow.Author.Tests.{eq-eqb, ne-eqb, eqb-true, eqb-false, lt-ltb, ltb-true, ltb-false}
+use borrow.Author.Tests.{eq-eqb, ne-eqb, eqb-true, eqb-false, lt-ltb, le-ltb, ltb-true, ltb-false}
 use Rattle.definitions.specs.Bytes.{tokens}
 use Rattle.definitions.specs.Lists.{choose, among}
 use Rattle.definitions.specs.Tokens.{TagValue}
 use Rattle.definitions.specs.Tree.{Declared, Equation, Node}
-use Rattle.definitions.specs.Reading.{got, times}
-use Rattle.definitions.specs.Grammar.{name, declaration, equation}
+use Rattle.definitions.specs.Reading.{Got, got, times}
+use Rattle.definitions.specs.Grammar.{name, declaration, expr, equation}
 use Rattle.definitions.specs.Clock.{Clock, base}
 use Rattle.definitions.specs.InferClocks.{Natural, Formed, deep, formed, _>>=_, Clocks, clockOf, Pass, Inferred, natural, ports, isPort, hasClock, give, giveNatural, pass, passesFrom, inferred}
 use Rattle.clock.specs.declared.Presence.{Presence}
@@ -28,14 +29,18 @@ use Rattle.grammar.specs.Outcome.{outcome}
 use Rattle.grammar.proofs.Laws.{tokens-length}
 use Rattle.grammar.proofs.Got.{same, tagged-value, times-nil, times-cons, declaration-got}
 use Rattle.operands.proofs.Laws.{name-place}
-use Rattle.layout.specs.Spans.{pastIn}
+use Rattle.layout.specs.Spans.{pastIn, endOf, spanBy}
 use Rattle.layout.specs.Laid.{LaidEquation}
-use Rattle.layout.specs.declared.EquationLayout.{EquationLayout}
+use Rattle.layout.specs.declared.Span.{Span}
+use Rattle.layout.proofs.Laws.{laid-equation}
 use Rattle.natural.specs.declared.Found.{Found}
 use Rattle.natural.specs.Natural.{Finds}
 use Rattle.passes.specs.declared.Passing.{Passing}
 use Rattle.passes.specs.declared.Inference.{Inference}
-use Rattle.passes.specs.Passes.{Marked, Places, Stands, onClock, given, stepped, Passed, Infers}
+use Rattle.passes.specs.Passes.{Marked, Places, Stands, onClock, given, stepped, Infers}
+use Rattle.passes.specs.Settled.{endFrom, placeOf, Ended, named, Settled, Quiet, Calm, Calms, dated, dates, Moves, Turned, Gone}
+use Rattle.passes.proofs.Naming.{each-name}
+use Rattle.passes.proofs.Calm.{moves-none, moves-all, idle-step, calm-still, calm-idle, calm-free, calm-given}
 
 -- ---- clearing
 pub clear-more : (t : List ℕ) (i : ℕ) → i < length t → ((k : ℕ) → k < i → getD t k 0 ≡ 0) → (k : ℕ) → k < i + 1 → getD (set t i 0) k 0 ≡ 0
@@ -162,83 +167,133 @@ module _ (M : ℕ) (gs vs : List ℕ) (same-length : length vs ≡ length gs) wh
       let y : _≡_ {A = ℕ} 0 1 = cc in omega arith
 
 -- ---- one left name
-chosen-left : {A : Type 0} (a b : Bool) (u v : A) → a ≡ true → choose (a || b) u v ≡ u
-chosen-left a b u v e = rw e
+or-left : (a b : Bool) → a ≡ true → (a || b) ≡ true
+or-left a b e = rw e
 
-chosen-right : {A : Type 0} (a b : Bool) (u v : A) → a ≡ false → b ≡ true → choose (a || b) u v ≡ u
-chosen-right a b u v e f = rw (e, f)
+or-right : (a b : Bool) → b ≡ true → (a || b) ≡ true
+or-right true b e = refl
+or-right false b e = e
 
-chosen-none : {A : Type 0} (a b : Bool) (u v : A) → a ≡ false → b ≡ false → choose (a || b) u v ≡ v
-chosen-none a b u v e f = rw (e, f)
+or-none : (a b : Bool) → a ≡ false → b ≡ false → (a || b) ≡ false
+or-none a b e f = rw (e, f)
 
-module _ (t marks : List ℕ) (n : Node) (m : ℕ) (k : Marked marks m (ports n)) (x : ℕ) (c : Clock) (l : x < m) (changed : Bool) (p : Pass) (s : Stands t m changed p) where
-  pub name-port : (b : Bool) → b ≡ eqb (getD marks x 0) 1 → b ≡ true → Stands t m changed (given n c x p)
-  name-port b i j = rw (chosen-left (isPort n x) (hasClock (p .clocks) x c) p (record { changed = true; clocks = record { name = x; clock = c } ∷ p .clocks }) (sym (k .same x l) ∙ (sym i ∙ j))) s
+module _ (t marks since : List ℕ) (present : ℕ) (n : Node) (m : ℕ) (k : Marked marks m (ports n)) (x : ℕ) (c : Clock) (l : x < m) (changed : Bool) (p : Pass) (s : Stands t m changed p) where
+  -- a name that keeps its clock
+  kept : (isPort n x || hasClock (p .clocks) x c) ≡ true → Stands t m changed (given n c x p) × (since ≡ dated n c present x p since)
+  kept e = rw e (s, refl)
+
+  pub name-port : (b : Bool) → b ≡ eqb (getD marks x 0) 1 → b ≡ true → Stands t m changed (given n c x p) × (since ≡ dated n c present x p since)
+  name-port b i j = kept (or-left (isPort n x) (hasClock (p .clocks) x c) (sym (k .same x l) ∙ (sym i ∙ j)))
 
   module _ (b : Bool) (i : b ≡ eqb (getD marks x 0) 1) (j : b ≡ false) (d : Bool) (u : d ≡ onClock (envAt t x) c) where
     on : d ≡ hasClock (p .clocks) x c
     on = u ∙ (ap (λ (o : Option Clock). onClock o c) (s .agrees .same x l) ∙ has-on (p .clocks) x c)
 
-    pub name-has : d ≡ true → Stands t m changed (given n c x p)
-    name-has v = rw (chosen-right (isPort n x) (hasClock (p .clocks) x c) p (record { changed = true; clocks = record { name = x; clock = c } ∷ p .clocks }) (sym (k .same x l) ∙ (sym i ∙ j)) (sym on ∙ v)) s
+    pub name-has : d ≡ true → Stands t m changed (given n c x p) × (since ≡ dated n c present x p since)
+    name-has v = kept (or-right (isPort n x) (hasClock (p .clocks) x c) (sym on ∙ v))
 
-    pub name-new : (t′ : List ℕ) → d ≡ false → Assigned t t′ x c → Stands t′ m true (given n c x p)
-    name-new t′ v a =
-        rw (chosen-none (isPort n x) (hasClock (p .clocks) x c) p (record { changed = true; clocks = record { name = x; clock = c } ∷ p .clocks }) (sym (k .same x l) ∙ (sym i ∙ j)) (sym on ∙ v))
-        (record { agrees = agrees-assign t t′ m x c (p .clocks) l a (s .agrees); changes = refl })
+    pub name-new : (t′ since′ : List ℕ) → d ≡ false → Assigned t t′ x c → since′ ≡ set since x present → Stands t′ m true (given n c x p) × (since′ ≡ dated n c present x p since)
+    name-new t′ since′ v a e =
+        rw (or-none (isPort n x) (hasClock (p .clocks) x c) (sym (k .same x l) ∙ (sym i ∙ j)) (sym on ∙ v))
+        (record { agrees = agrees-assign t t′ m x c (p .clocks) l a (s .agrees); changes = refl }, e)
 
 -- ---- the left names
--- so many names are left to be given the clock c; then the pass stands at f
-pub record Giving (M : ℕ) (ts : List TagValue) (n : Node) (c : Clock) (t : List ℕ) (made : Bool) (left place q : ℕ) (f : Pass) : Type 0 where
+-- so many names are left to be given the clock c; then the pass stands at f, and the names changed as s says
+pub record Giving (M : ℕ) (ts : List TagValue) (n : Node) (c : Clock) (present : ℕ) (t since : List ℕ) (made : Bool) (left place q : ℕ) (f : Pass) (s : List ℕ) : Type 0 where
   pub rest : List ℕ
   pub pass : Pass
   pub items : times left (name M) ts place ≡ got rest q
   pub stands : Stands t M made pass
   pub final : give n c rest pass ≡ f
+  pub changes : dates n c present rest pass since ≡ s
 
-pub giving-start : (M : ℕ) (ts : List TagValue) (n : Node) (c : Clock) (t : List ℕ) (made : Bool) (k at q : ℕ) (xs : List ℕ) (p : Pass) → times k (name M) ts at ≡ got xs q → Stands t M made p → Giving M ts n c t made k at q (give n c xs p)
-giving-start M ts n c t made k at q xs p g s = record { rest = xs; pass = p; items = g; stands = s; final = refl }
+pub giving-start : (M : ℕ) (ts : List TagValue) (n : Node) (c : Clock) (present : ℕ) (t since : List ℕ) (made : Bool) (k at q : ℕ) (xs : List ℕ) (p : Pass) → times k (name M) ts at ≡ got xs q → Stands t M made p →
+    Giving M ts n c present t since made k at q (give n c xs p) (dates n c present xs p since)
+giving-start M ts n c present t since made k at q xs p g s = record { rest = xs; pass = p; items = g; stands = s; final = refl; changes = refl }
 
-pub giving-end : (M : ℕ) (ts : List TagValue) (n : Node) (c : Clock) (t : List ℕ) (made : Bool) (left place q : ℕ) (f : Pass) → left ≡ 0 → Giving M ts n c t made left place q f → Stands t M made f
-unfolding give
-giving-end M ts n c t made left place q f z h =
+pub giving-end : (M : ℕ) (ts : List TagValue) (n : Node) (c : Clock) (present : ℕ) (t since : List ℕ) (made : Bool) (left place q : ℕ) (f : Pass) (s : List ℕ) → left ≡ 0 → Giving M ts n c present t since made left place q f s → Stands t M made f × (since ≡ s)
+unfolding give dates
+giving-end M ts n c present t since made left place q f s z h =
     let e = times-nil (name M) ts left place (h .rest) q z (h .items) in
     let i : h .pass ≡ f = rw (e .0) at (h .final) in
-    rw (sym i) (h .stands)
+    let j : since ≡ s = rw (e .0) at (h .changes) in
+    (rw (sym i) (h .stands), j)
 
-pub giving-step : (M : ℕ) (gs vs : List ℕ) → length vs ≡ length gs → (n : Node) (c : Clock) (t t′ marks : List ℕ) (made made′ : Bool) (left place next q : ℕ) (f : Pass) (x : ℕ) → 0 < left → next ≡ pastIn (length gs) place → Marked marks M (ports n) → x ≡ getD vs place 0 →
-    ((n : Node) (p : Pass) (m : ℕ) → Marked marks m (ports n) → x < m → Stands t m made p → Stands t′ m made′ (given n c x p)) →
-    Giving M (tokens gs vs) n c t made left place q f → Giving M (tokens gs vs) n c t′ made′ (left - 1) next q f
-unfolding give name
-giving-step M gs vs same-length n c t t′ marks made made′ left place next q f x z j m g s h =
+pub giving-step : (M : ℕ) (gs vs : List ℕ) → length vs ≡ length gs → (n : Node) (c : Clock) (present : ℕ) (t t′ since since′ marks : List ℕ) (made made′ : Bool) (left place next q : ℕ) (f : Pass) (s : List ℕ) (x : ℕ) → 0 < left → next ≡ pastIn (length gs) place → Marked marks M (ports n) → x ≡ getD vs place 0 →
+    ((n : Node) (p : Pass) (m : ℕ) → Marked marks m (ports n) → x < m → Stands t m made p → Stands t′ m made′ (given n c x p) × (since′ ≡ dated n c present x p since)) →
+    Giving M (tokens gs vs) n c present t since made left place q f s → Giving M (tokens gs vs) n c present t′ since′ made′ (left - 1) next q f s
+unfolding give dates name
+giving-step M gs vs same-length n c present t t′ since since′ marks made made′ left place next q f s x z j m g o h =
     let k = times-cons (name M) (tokens gs vs) left place (h .rest) q (λ y. omega (arith, y)) (h .items) in
     let l = tokens-length gs vs same-length in
     let w = name-place M (tokens gs vs) place (k .0) (k .1) (k .3) in
     let u : place < length gs = omega arith in
     let v = tagged-value gs vs same-length place 4 M (k .0) (k .1) u (k .3) in
     let e : next ≡ k .1 = j ∙ (ap (λ (b : Bool). choose b (place + 1) place) (lt-ltb place (length gs) u) ∙ sym (w .0)) in
-    let y : Stands t′ M made′ (given n c (k .0) (h .pass)) = rw (v .0 ∙ sym g) (s n (h .pass) M m (rw (v .0 ∙ sym g) at (v .2)) (h .stands)) in
-    record { rest = k .2; pass = given n c (k .0) (h .pass); items = rw e (k .4); stands = y; final = rw (k .5) at (h .final) }
+    let y : Stands t′ M made′ (given n c (k .0) (h .pass)) × (since′ ≡ dated n c present (k .0) (h .pass) since) = rw (v .0 ∙ sym g) (o n (h .pass) M m (rw (v .0 ∙ sym g) at (v .2)) (h .stands)) in
+    let d : dates n c present (k .2) (given n c (k .0) (h .pass)) (dated n c present (k .0) (h .pass) since) ≡ s = rw (k .5) at (h .changes) in
+    record { rest = k .2; pass = given n c (k .0) (h .pass); items = rw e (k .4); stands = y .0; final = rw (k .5) at (h .final); changes = rw (y .1) d }
 
--- ---- an equation
-module _ (n : Node) (e : Equation) (p : Pass) (f : Found) (q : ℕ) (h : Finds f (natural (p .clocks) (e .right)) q) where
+-- ---- the names in an equation's tokens
+pub tag-left : (t : ℕ) → t ≡ 4 → true ≡ named t
+tag-left t e = rw e
+
+pub tag-used : (t : ℕ) → t ≡ 54 → true ≡ named t
+tag-used t e = rw e
+
+module _ (t : ℕ) (a : t ≡ 4 → ⊥) (b : t ≡ 54 → ⊥) where
+  pub tag-low : t < 67 → false ≡ named t
+  tag-low l = rw (ne-eqb t 4 a, ne-eqb t 54 b, lt-ltb t 67 l)
+
+  pub tag-clock : 67 ≤ t → leb t 69 ≡ named t
+  tag-clock l = rw (ne-eqb t 4 a, ne-eqb t 54 b, le-ltb t 67 l)
+
+pub quiet-start : (gs vs since : List ℕ) (made from : ℕ) → (i : ℕ) → from ≤ i → i < from → i < length gs → named (getD gs i 0) ≡ true → Settled since made (getD vs i 0)
+quiet-start gs vs since made from i a b c d = absurd (omega arith)
+
+pub quiet-more : (gs vs since : List ℕ) (made from k : ℕ) → ((i : ℕ) → from ≤ i → i < k → i < length gs → named (getD gs i 0) ≡ true → Settled since made (getD vs i 0)) →
+    (named (getD gs k 0) ≡ true → Settled since made (getD vs k 0)) → (i : ℕ) → from ≤ i → i < k + 1 → i < length gs → named (getD gs i 0) ≡ true → Settled since made (getD vs i 0)
+quiet-more gs vs since made from k h g i a b c d = go (eqb i k) refl
+  where
+    go : (t : Bool) → eqb i k ≡ t → Settled since made (getD vs i 0)
+    go true e = let j : i ≡ k = eqb-true i k e in rw j (g (rw j at d))
+    go false e = h i a (omega (arith, eqb-false i k e)) c d
+
+-- ---- an equation that is read
+module _ (M : ℕ) (gs vs : List ℕ) (same-length : length vs ≡ length gs) (at : ℕ) (l : Span) (i : l ≡ spanBy (name M) gs vs at) (e : Equation) (q : ℕ) (g : equation M (tokens gs vs) at ≡ got e q) where
+  -- where its parts stand
+  pub lies : LaidEquation M (tokens gs vs) e q (record { left = l; right = l .end; end = endOf (outcome (expr M 32 (tokens gs vs) (l .end))) at })
+  lies = laid-equation gs vs same-length M at l i _ refl _ refl e q g
+
+module _ (n : Node) (e : Equation) (p : Pass) (present : ℕ) (since : List ℕ) (f : Found) (q : ℕ) (h : Finds f (natural (p .clocks) (e .right)) q) where
   step : (v : Natural) → naturalOf (f .natural) ≡ v → stepped n e p ≡ (v >>= λ o. formed (giveNatural n o (e .left) p))
   step v i = ap (λ (w : Natural). w >>= λ o. formed (giveNatural n o (e .left) p)) (sym (h .clock) ∙ i)
 
   found : (k : Presence) → f .natural .presence ≡ k → naturalOf (f .natural) ≡ naturalAt k (valueOf (f .natural .clock))
   found k i = ap (λ (z : Presence). naturalAt z (valueOf (f .natural .clock))) i
 
-  pub equation-free : (t : List ℕ) (m : ℕ) (changed : Bool) → f .natural .presence ≡ Presence.Free → Stands t m changed p → Passed t m (Passing.Made changed) (stepped n e p)
-  unfolding Passed
-  equation-free t m changed i s = (p, step (formed none) (found Presence.Free i), s)
+  pub equation-free : (t : List ℕ) (m : ℕ) (changed : Bool) → f .natural .presence ≡ Presence.Free → Stands t m changed p → Turned n e present since since t m p (Passing.Made changed)
+  unfolding Turned
+  equation-free t m changed i s = (p, step (formed none) (found Presence.Free i), s, moves-none present since (p .clocks), calm-free n e p present since (sym (h .clock) ∙ found Presence.Free i))
 
-  pub equation-on : (t : List ℕ) (m : ℕ) (made : Bool) → f .natural .presence ≡ Presence.On → Stands t m made (give n (valueOf (f .natural .clock)) (e .left) p) → Passed t m (Passing.Made made) (stepped n e p)
-  unfolding Passed
-  equation-on t m made i s = (give n (valueOf (f .natural .clock)) (e .left) p, step (formed (some (valueOf (f .natural .clock)))) (found Presence.On i), s)
+  pub equation-on : (t since′ : List ℕ) (m : ℕ) (made : Bool) → f .natural .presence ≡ Presence.On →
+      Stands t m made (give n (valueOf (f .natural .clock)) (e .left) p) × (since′ ≡ dates n (valueOf (f .natural .clock)) present (e .left) p since) → Turned n e present since since′ t m p (Passing.Made made)
+  unfolding Turned
+  equation-on t since′ m made i s =
+      let c = valueOf (f .natural .clock) in
+      rw (s .1) (give n c (e .left) p, step (formed (some c)) (found Presence.On i), s .0, moves-all n c present (e .left) p since, calm-given n e p present since c (sym (h .clock) ∙ found Presence.On i))
 
-  pub equation-deep : (t : List ℕ) (m : ℕ) → f .natural .presence ≡ Presence.Deep → Passed t m Passing.Deep (stepped n e p)
-  unfolding Passed
-  equation-deep t m i = step deep (found Presence.Deep i)
+  pub equation-deep : (t since′ : List ℕ) (m : ℕ) → f .natural .presence ≡ Presence.Deep → Turned n e present since since′ t m p Passing.Deep
+  unfolding Turned
+  equation-deep t since′ m i = step deep (found Presence.Deep i)
+
+-- ---- an equation that need not be read
+pub equation-calm : (M : ℕ) (gs vs since : List ℕ) → length vs ≡ length gs → (made present at end : ℕ) (t : List ℕ) (changed : Bool) → Quiet gs vs since made at end → (n : Node) (p : Pass) (e : Equation) → equation M (tokens gs vs) at ≡ got e end → Stands t M changed p → Calm n since made (p .clocks) e →
+    Turned n e present since since t M p (Passing.Made changed)
+unfolding Turned
+equation-calm M gs vs since same-length made present at end t changed k n p e g s h =
+    let i = h .idle (k .later) (each-name M gs vs same-length (Settled since made) at e end g (k .settled)) in
+    (p, idle-step n e p i, s, moves-none present since (p .clocks), calm-idle n since present (p .clocks) e i)
 
 -- ---- a pass
 stepped-pass : (n : Node) (e : Equation) (es : List Equation) (p : Pass) → pass n (e ∷ es) p ≡ (stepped n e p >>= λ r. pass n es r)
@@ -249,46 +304,104 @@ stepped-pass n e es p = go (natural (p .clocks) (e .right))
     go deep = refl
     go (formed o) = refl
 
--- so many equations are left; then the pass is f
-pub record Going (M : ℕ) (ts : List TagValue) (n : Node) (t : List ℕ) (made : Bool) (left place q : ℕ) (f : Formed Pass) : Type 0 where
+-- the first of a list, and another
+is-first : (l : List Equation) (a : Equation) (rest : List Equation) → l ≡ a ∷ rest → List·Memᴰ a l
+is-first l a rest e = rw e (List·Memᴰ·head refl)
+
+is-other : (b : Equation) (l : List Equation) (a : Equation) (rest : List Equation) → l ≡ a ∷ rest → List·Memᴰ b rest → List·Memᴰ b l
+is-other b l a rest e m = rw e (List·Memᴰ·tail m)
+
+-- i of the equations es have had their turn after `made` passes; then the pass is f
+pub record Going (M : ℕ) (ts : List TagValue) (n : Node) (es : List Equation) (made at : ℕ) (t since : List ℕ) (changed : Bool) (count i place q : ℕ) (f : Formed Pass) : Type 0 where
   pub rest : List Equation
   pub so-far : Pass
-  pub items : times left (equation M) ts place ≡ got rest q
-  pub stands : Stands t M made so-far
+  pub here : place ≡ placeOf M ts at i
+  pub items : times (count - i) (equation M) ts place ≡ got rest q
+  pub stands : Stands t M changed so-far
   pub final : pass n rest so-far ≡ f
+  pub ahead : Calms n since made (so-far .clocks) rest
+  pub behind : (e : Equation) → List·Memᴰ e es → List·Memᴰ e rest ⊎ Calm n since (made + 1) (so-far .clocks) e
 
-pub going-start : (M : ℕ) (ts : List TagValue) (n : Node) (t : List ℕ) (k at q : ℕ) (es : List Equation) (clocks : Clocks) → times k (equation M) ts at ≡ got es q → Agrees t M clocks →
-    Going M ts n t false k at q (pass n es (record { changed = false; clocks = clocks }))
-going-start M ts n t k at q es clocks g a = record { rest = es; so-far = record { changed = false; clocks = clocks }; items = g; stands = record { agrees = a; changes = refl }; final = refl }
+pub going-start : (M : ℕ) (ts : List TagValue) (n : Node) (made : ℕ) (t since : List ℕ) (k at q : ℕ) (es : List Equation) (clocks : Clocks) → times k (equation M) ts at ≡ got es q → Agrees t M clocks → Calms n since made clocks es →
+    Going M ts n es made at t since false k 0 at q (pass n es (record { changed = false; clocks = clocks }))
+unfolding placeOf
+going-start M ts n made t since k at q es clocks g a h =
+    let e : k - 0 ≡ k = omega arith in
+    record { rest = es; so-far = record { changed = false; clocks = clocks }; here = refl; items = rw e g; stands = record { agrees = a; changes = refl }; final = refl; ahead = h; behind = λ e m. inl m }
 
-pub going-end : (M : ℕ) (ts : List TagValue) (n : Node) (t : List ℕ) (made : Bool) (left place q : ℕ) (f : Formed Pass) → left ≡ 0 → Going M ts n t made left place q f → Passed t M (Passing.Made made) f
-unfolding Passed pass
-going-end M ts n t made left place q f z h =
-    let e = times-nil (equation M) ts left place (h .rest) q z (h .items) in
+pub going-end : (M : ℕ) (ts : List TagValue) (n : Node) (es : List Equation) (made at : ℕ) (t since : List ℕ) (changed : Bool) (count i place q : ℕ) (f : Formed Pass) → count ≤ i → Going M ts n es made at t since changed count i place q f → Gone n es (made + 1) since t M (Passing.Made changed) f
+unfolding Gone pass
+going-end M ts n es made at t since changed count i place q f z h =
+    let e = times-nil (equation M) ts (count - i) place (h .rest) q (omega arith) (h .items) in
     let i : formed (h .so-far) ≡ f = rw (e .0) at (h .final) in
-    (h .so-far, sym i, h .stands)
+    (h .so-far, sym i, h .stands, record { each = λ a m. last a (e .0) (h .behind a m) })
+  where
+    last : (a : Equation) → h .rest ≡ [] → List·Memᴰ a (h .rest) ⊎ Calm n since (made + 1) (h .so-far .clocks) a → Calm n since (made + 1) (h .so-far .clocks) a
+    last a e (inl m) = absurd (List·Memᴰ·not-nil (rw e at m))
+    last a e (inr c) = c
 
-module _ (M : ℕ) (ts : List TagValue) (n : Node) (t t′ marks : List ℕ) (made : Bool) (left place q : ℕ) (f : Formed Pass) (l : EquationLayout) (r : Passing) (z : 0 < left) (m : Marked marks M (ports n))
-    (L : (e : Equation) (q : ℕ) → equation M ts place ≡ got e q → LaidEquation M ts e q l)
-    (E : (n : Node) (p : Pass) (e : Equation) (q : ℕ) → Marked marks M (ports n) → LaidEquation M ts e q l → Stands t M made p → Passed t′ M r (stepped n e p))
-    (h : Going M ts n t made left place q f) where
-  pub going-step : (b : Bool) → r ≡ Passing.Made b → Going M ts n t′ b (left - 1) (l .end) q f
-  unfolding Passed
-  going-step b i =
-      let k = times-cons (equation M) ts left place (h .rest) q (λ y. omega (arith, y)) (h .items) in
-      let d = L (k .0) (k .1) (k .3) in
-      let x : Passed t′ M (Passing.Made b) (stepped n (k .0) (h .so-far)) = rw i at (E n (h .so-far) (k .0) (k .1) m d (h .stands)) in
-      let w : pass n (k .0 ∷ k .2) (h .so-far) ≡ pass n (k .2) (x .0) = stepped-pass n (k .0) (k .2) (h .so-far) ∙ ap (λ (v : Formed Pass). v >>= λ r. pass n (k .2) r) (x .1) in
-      record { rest = k .2; so-far = x .0; items = rw (d .ends) (k .4); stands = x .2; final = sym w ∙ rw (k .5) at (h .final) }
+module _ (M : ℕ) (ts : List TagValue) (n : Node) (es : List Equation) (made at : ℕ) (t t′ since since′ marks ends : List ℕ) (changed : Bool) (count i place end q : ℕ) (f : Formed Pass) (r : Passing) (z : i < count) (m : Marked marks M (ports n)) (E : Ended M ts at count ends)
+    (D : (i < 64 → getD ends i 0 ≡ endFrom M ts place) → end ≡ endFrom M ts place)
+    (T : (n : Node) (p : Pass) (e : Equation) → Marked marks M (ports n) → equation M ts place ≡ got e end → Stands t M changed p → Calm n since made (p .clocks) e → Turned n e (made + 1) since since′ t′ M p r)
+    (h : Going M ts n es made at t since changed count i place q f) where
+  -- the table says where the equation ends
+  ends-there : end ≡ endFrom M ts place
+  unfolding placeOf
+  ends-there = D (λ l. E .ends-at i z l ∙ ap (endFrom M ts) (sym (h .here)))
 
-  pub going-deep : r ≡ Passing.Deep → Passed t′ M Passing.Deep f
-  unfolding Passed
-  going-deep i =
-      let k = times-cons (equation M) ts left place (h .rest) q (λ y. omega (arith, y)) (h .items) in
-      let d = L (k .0) (k .1) (k .3) in
-      let x : stepped n (k .0) (h .so-far) ≡ deep = rw i at (E n (h .so-far) (k .0) (k .1) m d (h .stands)) in
-      let w : pass n (k .0 ∷ k .2) (h .so-far) ≡ deep = stepped-pass n (k .0) (k .2) (h .so-far) ∙ ap (λ (v : Formed Pass). v >>= λ r. pass n (k .2) r) x in
-      sym (rw (k .5) at (h .final)) ∙ w
+  -- the next equation, and its turn
+  record Next : Type 0 where
+    pub one : Equation
+    pub others : List Equation
+    pub items : times (count - (i + 1)) (equation M) ts end ≡ got others q
+    pub whole : h .rest ≡ one ∷ others
+    pub turned : Turned n one (made + 1) since since′ t′ M (h .so-far) r
+
+  next : Next
+  next =
+      let k = times-cons (equation M) ts (count - i) place (h .rest) q (λ y. omega (arith, y, z)) (h .items) in
+      let e : end ≡ k .1 = ends-there ∙ ap (λ (x : Got Equation). endOf (outcome x) place) (k .3) in
+      let j : count - (i + 1) ≡ count - i - 1 = omega arith in
+      record {
+        one = k .0;
+        others = k .2;
+        items = rw (e, j) (k .4);
+        whole = k .5;
+        turned = T n (h .so-far) (k .0) m (rw e (k .3)) (h .stands) (h .ahead .each (k .0) (is-first (h .rest) (k .0) (k .2) (k .5)));
+      }
+
+  pub going-step : (b : Bool) → r ≡ Passing.Made b → Going M ts n es made at t′ since′ b count (i + 1) end q f
+  unfolding Turned placeOf
+  going-step b j =
+      let k = next in
+      let x : Turned n (k .one) (made + 1) since since′ t′ M (h .so-far) (Passing.Made b) = subst (λ (y : Passing). Turned n (k .one) (made + 1) since since′ t′ M (h .so-far) y) j (k .turned) in
+      let w : pass n (k .one ∷ k .others) (h .so-far) ≡ pass n (k .others) (x .0) = stepped-pass n (k .one) (k .others) (h .so-far) ∙ ap (λ (v : Formed Pass). v >>= λ r. pass n (k .others) r) (x .1) in
+      record {
+        rest = k .others;
+        so-far = x .0;
+        here = ends-there ∙ (ap (endFrom M ts) (h .here) ∙ ap (placeOf M ts at) (sym (add-one i)));
+        items = k .items;
+        stands = x .2;
+        final = sym w ∙ rw (k .whole) at (h .final);
+        ahead = record { each = λ e m. calm-still n (made + 1) since since′ _ _ (x .3) made (omega arith) e (h .ahead .each e (is-other e (h .rest) (k .one) (k .others) (k .whole) m)) };
+        behind = λ e m. other k (x .0) (x .3) (x .4) e (h .behind e m);
+      }
+    where
+      this : (k : Next) (p : Pass) → Calm n since′ (made + 1) (p .clocks) (k .one) → (e : Equation) → (e ≡ k .one) ⊎ List·Memᴰ e (k .others) → List·Memᴰ e (k .others) ⊎ Calm n since′ (made + 1) (p .clocks) e
+      this k p c e (inl i) = inr (rw i c)
+      this k p c e (inr m) = inl m
+
+      other : (k : Next) (p : Pass) → Moves (made + 1) since since′ (h .so-far .clocks) (p .clocks) → Calm n since′ (made + 1) (p .clocks) (k .one) → (e : Equation) → List·Memᴰ e (h .rest) ⊎ Calm n since (made + 1) (h .so-far .clocks) e → List·Memᴰ e (k .others) ⊎ Calm n since′ (made + 1) (p .clocks) e
+      other k p v c e (inl m) = this k p c e (List·Memᴰ·cases-cons (rw (k .whole) at m))
+      other k p v c e (inr d) = inr (calm-still n (made + 1) since since′ _ _ v (made + 1) (omega arith) e d)
+
+  pub going-deep : r ≡ Passing.Deep → Gone n es (made + 1) since′ t′ M Passing.Deep f
+  unfolding Turned Gone
+  going-deep j =
+      let k = next in
+      let x : stepped n (k .one) (h .so-far) ≡ deep = subst (λ (y : Passing). Turned n (k .one) (made + 1) since since′ t′ M (h .so-far) y) j (k .turned) in
+      let w : pass n (k .one ∷ k .others) (h .so-far) ≡ deep = stepped-pass n (k .one) (k .others) (h .so-far) ∙ ap (λ (v : Formed Pass). v >>= λ r. pass n (k .others) r) x in
+      sym (rw (k .whole) at (h .final)) ∙ w
 
 -- ---- the passes
 -- a pass that changed something, and one that did not
@@ -305,37 +418,43 @@ unfolding passesFrom
 too-deep n k made clocks e = rw e
 
 -- at most k passes more, so many made; then f is inferred
-pub record Repeating (M : ℕ) (n : Node) (t : List ℕ) (k made : ℕ) (f : Formed Inferred) : Type 0 where
+pub record Repeating (M : ℕ) (n : Node) (t since : List ℕ) (k made : ℕ) (f : Formed Inferred) : Type 0 where
   pub clocks : Clocks
   pub agrees : Agrees t M clocks
+  pub calms : Calms n since made clocks (n .equations)
   pub final : passesFrom n k made clocks ≡ f
 
-pub repeating-start : (M : ℕ) (n : Node) (t : List ℕ) (k : ℕ) (clocks : Clocks) → Agrees t M clocks → Repeating M n t (k + 1 - 0) 0 (passesFrom n (suc k) 0 clocks)
-repeating-start M n t k clocks a = let e : suc k ≡ k + 1 - 0 = omega arith in record { clocks = clocks; agrees = a; final = ap (λ (j : ℕ). passesFrom n j 0 clocks) (sym e) }
+pub repeating-start : (M : ℕ) (n : Node) (t since : List ℕ) (k : ℕ) (clocks : Clocks) → Agrees t M clocks → Repeating M n t since (k + 1 - 0) 0 (passesFrom n (suc k) 0 clocks)
+repeating-start M n t since k clocks a =
+    let e : suc k ≡ k + 1 - 0 = omega arith in
+    record { clocks = clocks; agrees = a; calms = record { each = λ a m. record { idle = λ z. absurd (omega arith) } }; final = ap (λ (j : ℕ). passesFrom n j 0 clocks) (sym e) }
 
-pub repeating-end : (M : ℕ) (n : Node) (t : List ℕ) (most made : ℕ) (f : Formed Inferred) → most ≤ made → Repeating M n t (most - made) made f → Infers t M (Inference.Passes made) f
+pub repeating-end : (M : ℕ) (n : Node) (t since : List ℕ) (most made : ℕ) (f : Formed Inferred) → most ≤ made → Repeating M n t since (most - made) made f → Infers t M (Inference.Passes made) f
 unfolding Infers passesFrom
-repeating-end M n t most made f l h =
+repeating-end M n t since most made f l h =
     let e : most - made ≡ 0 = omega arith in
     let i : passesFrom n 0 made (h .clocks) ≡ f = ap (λ (k : ℕ). passesFrom n k made (h .clocks)) (sym e) ∙ h .final in
     (record { passes = made; clocks = h .clocks }, sym i, refl, h .agrees)
 
-module _ (M : ℕ) (ts : List TagValue) (n : Node) (t t′ marks : List ℕ) (count at q most made : ℕ) (f : Formed Inferred) (r : Passing) (u : made < most) (m : Marked marks M (ports n)) (g : times count (equation M) ts at ≡ got (n .equations) q)
-    (P : (n : Node) (es : List Equation) (q : ℕ) (clocks : Clocks) → Marked marks M (ports n) → times count (equation M) ts at ≡ got es q → Agrees t M clocks → Passed t′ M r (pass n es (record { changed = false; clocks = clocks })))
-    (h : Repeating M n t (most - made) made f) where
+module _ (M : ℕ) (ts : List TagValue) (n : Node) (t t′ since since′ marks ends : List ℕ) (count at q most made : ℕ) (f : Formed Inferred) (r : Passing) (u : made < most) (m : Marked marks M (ports n)) (E : Ended M ts at count ends) (g : times count (equation M) ts at ≡ got (n .equations) q)
+    (P : (n : Node) (es : List Equation) (q : ℕ) (clocks : Clocks) → Marked marks M (ports n) → Ended M ts at count ends → times count (equation M) ts at ≡ got es q → Agrees t M clocks → Calms n since made clocks es → Gone n es (made + 1) since′ t′ M r (pass n es (record { changed = false; clocks = clocks })))
+    (h : Repeating M n t since (most - made) made f) where
   one : passesFrom n (suc (most - (made + 1))) made (h .clocks) ≡ f
   one = let e : suc (most - (made + 1)) ≡ most - made = omega arith in ap (λ (k : ℕ). passesFrom n k made (h .clocks)) e ∙ h .final
 
-  module _ (b : Bool) (i : r ≡ Passing.Made b) where
-    made-one : (p : Pass) × (pass n (n .equations) (record { changed = false; clocks = h .clocks }) ≡ formed p) × Stands t′ M b p
-    unfolding Passed
-    made-one = rw i at (P n (n .equations) q (h .clocks) m g (h .agrees))
+  gone : Gone n (n .equations) (made + 1) since′ t′ M r (pass n (n .equations) (record { changed = false; clocks = h .clocks }))
+  gone = P n (n .equations) q (h .clocks) m E g (h .agrees) (h .calms)
 
-    pub repeating-step : b ≡ true → Repeating M n t′ (most - (made + 1)) (made + 1) f
+  module _ (b : Bool) (i : r ≡ Passing.Made b) where
+    made-one : (p : Pass) × (pass n (n .equations) (record { changed = false; clocks = h .clocks }) ≡ formed p) × Stands t′ M b p × Calms n since′ (made + 1) (p .clocks) (n .equations)
+    unfolding Gone
+    made-one = rw i at gone
+
+    pub repeating-step : b ≡ true → Repeating M n t′ since′ (most - (made + 1)) (made + 1) f
     repeating-step c =
         let x = made-one in
         let w = again n (most - (made + 1)) made (h .clocks) (x .0) (x .1) (sym (x .2 .changes) ∙ c) in
-        record { clocks = x .0 .clocks; agrees = x .2 .agrees; final = ap (λ (k : ℕ). passesFrom n (most - (made + 1)) k (x .0 .clocks)) (add-one made) ∙ (sym w ∙ one) }
+        record { clocks = x .0 .clocks; agrees = x .2 .agrees; calms = x .3; final = ap (λ (k : ℕ). passesFrom n (most - (made + 1)) k (x .0 .clocks)) (add-one made) ∙ (sym w ∙ one) }
 
     pub repeating-stop : b ≡ false → Infers t′ M (Inference.Passes (made + 1)) f
     unfolding Infers
@@ -345,9 +464,9 @@ module _ (M : ℕ) (ts : List TagValue) (n : Node) (t t′ marks : List ℕ) (co
         (record { passes = suc made; clocks = x .0 .clocks }, sym one ∙ w, sym (add-one made), x .2 .agrees)
 
   pub repeating-deep : r ≡ Passing.Deep → Infers t′ M Inference.Deep f
-  unfolding Infers Passed
+  unfolding Infers Gone
   repeating-deep i =
-      let x : pass n (n .equations) (record { changed = false; clocks = h .clocks }) ≡ deep = rw i at (P n (n .equations) q (h .clocks) m g (h .agrees)) in
+      let x : pass n (n .equations) (record { changed = false; clocks = h .clocks }) ≡ deep = rw i at gone in
       sym one ∙ too-deep n (most - (made + 1)) made (h .clocks) x
 
 -- "Passes stop after one without change or after equations + 1"

@@ -41,11 +41,6 @@ given n c x p = choose (isPort n x || hasClock (p .clocks) x c) p (record { chan
 abbrev pub stepped : Node → Equation → Pass → Formed Pass
 stepped n e p = natural (p .clocks) (e .right) >>= λ o. formed (giveNatural n o (e .left) p)
 
--- the code's answer for a pass, or for an equation in one
-unfoldable pub Passed : List ℕ → ℕ → Passing → Formed Pass → Type 0
-Passed t m Passing.Deep v = v ≡ deep
-Passed t m (Passing.Made b) v = (p : Pass) × (v ≡ formed p) × Stands t m b p
-
 -- the code's answer for a node: the number of passes, and the clocks in the table
 unfoldable pub Infers : List ℕ → ℕ → Inference → Formed Inferred → Type 0
 Infers t m Inference.Deep v = v ≡ deep

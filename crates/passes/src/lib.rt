@@ -1,17 +1,18 @@
 // The clocks of a node's names, found in passes over its equations, and the number of passes.
 // `tags` and `values` are as long as each other; `names` is the number of names. `env` has seventeen words a name, `marks` a
-// byte a name: 1 for an input or output.
+// byte a name: 1 for an input or output. `since` has for each name the pass, from 1, in which its clock last changed: a pass
+// reads an equation only if one of its names changed in this pass or the one before. A name that `since` has no place for
+// counts as changed.
 use clock::Clock;
 use clock::Presence;
 use grammar::Read;
-use layout::EquationLayout;
 use layout::NodeLayout;
 ghost use mathlib.Core.Path.{_≡_};
 ghost use mathlib.Core.List.{List, [], _∷_, map};
-ghost use mathlib.Core.Bool.{false};
+ghost use mathlib.Core.Bool.{false, true};
 ghost use Prim.Native.Nat.{ℕ, suc, _+_, _*_, _≤_, _<_};
 ghost use lib.Dec.{eqb};
-ghost use lib.ListN.{length, getD};
+ghost use lib.ListN.{length, getD, set};
 ghost use Rattle.definitions.specs.Bytes.{tokens};
 ghost use Rattle.definitions.specs.Tree.{Declared, Equation, Node};
 ghost use Rattle.definitions.specs.Reading.{got, times};
@@ -20,8 +21,9 @@ ghost use Rattle.definitions.specs.InferClocks as rules;
 ghost use Rattle.definitions.specs.InferClocks.{Clocks, Pass, ports, give, passesFrom, inferred};
 ghost use Rattle.clock.specs.Value.{valueOf};
 ghost use Rattle.environment.specs.Environment.{envAt, Agrees};
-ghost use Rattle.layout.specs.Laid.{Laid, LaidEquation};
-ghost use Rattle.passes.specs.Passes.{Marked, Places, Stands, onClock, given, stepped, Passed, Infers};
+ghost use Rattle.layout.specs.Laid.{Laid};
+ghost use Rattle.passes.specs.Passes.{Marked, Places, Stands, onClock, given, Infers};
+ghost use Rattle.passes.specs.Settled.{endFrom, Ended, named, Settled, Quiet, Calm, Calms, dated, dates, Turned, Gone};
 
 // A pass, or an equation in one: too deep a clock was formed, or whether something has changed so far.
 pub enum Passing {
@@ -114,9 +116,27 @@ pub fn has_clock(env: &[u32], x: u32, c: Clock) -> bool
     flat::same_at(env, b, c)
 }
 
+// A name's clock changed in this pass.
+fn date(since: &mut [usize], x: u32, present: usize)
+    ensures { λ r. ⌜ now (since .exit) ≡ set (now (since .entry)) x present ⌝ }
+{
+    let i = x as usize;
+    if i < since.len() {
+        since[i] = present;
+    }
+}
+
 // A clock for one left name, unless it is an input or output, or has that clock.
-fn give_name(env: &mut [u32], marks: &[u8], x: u32, c: Clock, changed: bool) -> bool
-    ensures { λ r. ⌜ ((n : Node) (p : Pass) (m : ℕ) → Marked (now (marks .entry)) m (ports n) → x < m → Stands (now (env .entry)) m changed p → Stands (now (env .exit)) m r (given n (valueOf c) x p)) ⌝ }
+fn give_name(
+    env: &mut [u32],
+    marks: &[u8],
+    since: &mut [usize],
+    present: usize,
+    x: u32,
+    c: Clock,
+    changed: bool,
+) -> bool
+    ensures { λ r. ⌜ ((n : Node) (p : Pass) (m : ℕ) → Marked (now (marks .entry)) m (ports n) → x < m → Stands (now (env .entry)) m changed p → Stands (now (env .exit)) m r (given n (valueOf c) x p) × (now (since .exit) ≡ dated n (valueOf c) present x p (now (since .entry)))) ⌝ }
 {
     if is_port(marks, x) {
         return changed;
@@ -125,6 +145,7 @@ fn give_name(env: &mut [u32], marks: &[u8], x: u32, c: Clock, changed: bool) -> 
         return changed;
     }
     environment::assign(env, x, c);
+    date(since, x, present);
     true
 }
 
@@ -137,38 +158,113 @@ fn give_names(
     at: usize,
     env: &mut [u32],
     marks: &[u8],
+    since: &mut [usize],
+    present: usize,
     c: Clock,
     changed: bool,
 ) -> bool
     requires { ⌜ length (now values) ≡ length (now tags) ⌝ }
-    ensures { λ r. ⌜ ((n : Node) (p : Pass) (xs : List ℕ) (q : ℕ) → Marked (now (marks .entry)) names (ports n) → times count (name names) (tokens (now (tags .entry)) (now (values .entry))) at ≡ got xs q → Stands (now (env .entry)) names changed p → Stands (now (env .exit)) names r (give n (valueOf c) xs p)) ⌝ }
+    ensures { λ r. ⌜ ((n : Node) (p : Pass) (xs : List ℕ) (q : ℕ) → Marked (now (marks .entry)) names (ports n) → times count (name names) (tokens (now (tags .entry)) (now (values .entry))) at ≡ got xs q → Stands (now (env .entry)) names changed p → Stands (now (env .exit)) names r (give n (valueOf c) xs p) × (now (since .exit) ≡ dates n (valueOf c) present xs p (now (since .entry)))) ⌝ }
 {
     let mut made = changed;
     let mut left = count;
     let mut place = at;
     while 0 < left {
         let x = flat::word_at(values, place);
-        made = give_name(env, marks, x, c, made);
+        made = give_name(env, marks, since, present, x, c, made);
         place = layout::past(tags, place);
         left -= 1;
     }
     made
 }
 
-// One equation in a pass.
-fn one_equation(
+// Is a tag that of a left name, a name used or a clock name?
+fn is_name(tag: u8) -> bool
+    ensures { λ r. ⌜ r ≡ named tag ⌝ }
+{
+    if tag == 4 {
+        return true;
+    }
+    if tag == 54 {
+        return true;
+    }
+    if tag < 67 {
+        return false;
+    }
+    tag <= 69
+}
+
+// Did a name's clock change in the last of the passes made, or in the one after it?
+fn is_recent(since: &[usize], x: u32, made: usize) -> bool
+    ensures { λ r. ⌜ (r ≡ false → Settled (now (since .entry)) made x) ⌝ }
+{
+    let i = x as usize;
+    if since.len() <= i {
+        return true;
+    }
+    made <= since[i]
+}
+
+// Is a token one of a name whose clock changed so late?
+fn is_changed(since: &[usize], tag: u8, x: u32, made: usize) -> bool
+    ensures { λ r. ⌜ (r ≡ false → named tag ≡ true → Settled (now (since .entry)) made x) ⌝ }
+{
+    if is_name(tag) {
+        return is_recent(since, x, made);
+    }
+    false
+}
+
+// The lesser of two numbers.
+fn least(a: usize, b: usize) -> usize
+    ensures { λ r. ⌜ (r ≤ b) × ((i : ℕ) → i < a → i < b → i < r) ⌝ }
+{
+    if a < b { a } else { b }
+}
+
+// Did the clock of a name in these tokens change in the last of the passes made, or in the one after it?
+fn touched(
+    tags: &[u8],
+    values: &[u32],
+    since: &[usize],
+    made: usize,
+    from: usize,
+    to: usize,
+) -> bool
+    requires { ⌜ length (now values) ≡ length (now tags) ⌝ }
+    ensures { λ r. ⌜ (r ≡ false → Quiet (now (tags .entry)) (now (values .entry)) (now (since .entry)) made from to) ⌝ }
+{
+    if made == 0 {
+        return true;
+    }
+    let end = least(to, tags.len());
+    let mut i = from;
+    while i < end {
+        if is_changed(since, tags[i], values[i], made) {
+            return true;
+        }
+        i += 1;
+    }
+    false
+}
+
+// One equation that is read in a pass.
+fn read_equation(
     tags: &[u8],
     values: &[u32],
     names: u32,
-    l: EquationLayout,
+    at: usize,
     env: &mut [u32],
     marks: &[u8],
+    since: &mut [usize],
+    present: usize,
     changed: bool,
 ) -> Passing
     requires { ⌜ length (now values) ≡ length (now tags) ⌝ }
-    ensures { λ r. ⌜ ((n : Node) (p : Pass) (e : Equation) (q : ℕ) → Marked (now (marks .entry)) names (ports n) → LaidEquation names (tokens (now (tags .entry)) (now (values .entry))) e q l → Stands (now (env .entry)) names changed p → Passed (now (env .exit)) names r (stepped n e p)) ⌝ }
+    ensures { λ r. ⌜ ((n : Node) (p : Pass) (e : Equation) (q : ℕ) → Marked (now (marks .entry)) names (ports n) → equation names (tokens (now (tags .entry)) (now (values .entry))) at ≡ got e q → Stands (now (env .entry)) names changed p → Turned n e present (now (since .entry)) (now (since .exit)) (now (env .exit)) names p r) ⌝ }
 {
-    let right = l.right;
+    let left = layout::names_at(tags, values, names, at);
+    let right = left.end;
     let f = natural::natural_clock(tags, values, names, env, right);
     let n = f.natural;
     let p = n.presence;
@@ -176,41 +272,132 @@ fn one_equation(
         Presence::Free => Passing::Made(changed),
         Presence::On => {
             let c = n.clock;
-            let left = l.left;
             let count = left.count;
-            let at = left.at;
-            let made = give_names(tags, values, names, count, at, env, marks, c, changed);
+            let first = left.at;
+            let made = give_names(
+                tags,
+                values,
+                names,
+                count,
+                first,
+                env,
+                marks,
+                since,
+                present,
+                c,
+                changed,
+            );
             Passing::Made(made)
         }
         Presence::Deep => Passing::Deep,
     }
 }
 
-// One pass over a node's equations.
+// One equation in a pass, after so many passes: it is read, unless it can change nothing.
+fn one_equation(
+    tags: &[u8],
+    values: &[u32],
+    names: u32,
+    at: usize,
+    end: usize,
+    env: &mut [u32],
+    marks: &[u8],
+    since: &mut [usize],
+    made: usize,
+    present: usize,
+    changed: bool,
+) -> Passing
+    requires { ⌜ length (now values) ≡ length (now tags) ⌝ }
+    ensures { λ r. ⌜ ((n : Node) (p : Pass) (e : Equation) → Marked (now (marks .entry)) names (ports n) → equation names (tokens (now (tags .entry)) (now (values .entry))) at ≡ got e end → Stands (now (env .entry)) names changed p → Calm n (now (since .entry)) made (p .clocks) e → Turned n e present (now (since .entry)) (now (since .exit)) (now (env .exit)) names p r) ⌝ }
+{
+    if touched(tags, values, since, made, at, end) {
+        return read_equation(tags, values, names, at, env, marks, since, present, changed);
+    }
+    Passing::Made(changed)
+}
+
+// Where the equation that stands there ends.
+fn end_from(tags: &[u8], values: &[u32], names: u32, at: usize) -> usize
+    requires { ⌜ length (now values) ≡ length (now tags) ⌝ }
+    ensures { λ r. ⌜ r ≡ endFrom names (tokens (now (tags .entry)) (now (values .entry))) at ⌝ }
+{
+    let read = grammar::read_equation(tags, values, names, at);
+    match read {
+        Read::Next(next) => next,
+        Read::Refused(_) => at,
+    }
+}
+
+// Where a node's equations end, as far as the table goes.
+fn equation_ends(tags: &[u8], values: &[u32], names: u32, count: u32, at: usize) -> [usize; 64]
+    requires { ⌜ length (now values) ≡ length (now tags) ⌝ }
+    ensures { λ r. ⌜ Ended names (tokens (now (tags .entry)) (now (values .entry))) at count r ⌝ }
+{
+    let most = least(count as usize, 64);
+    let mut ends = [0usize; 64];
+    let mut place = at;
+    let mut i: usize = 0;
+    while i < most {
+        place = end_from(tags, values, names, place);
+        ends[i] = place;
+        i += 1;
+    }
+    ends
+}
+
+// Where the i-th equation ends, which stands there.
+fn end_at(tags: &[u8], values: &[u32], names: u32, ends: &[usize; 64], i: u32, at: usize) -> usize
+    requires { ⌜ length (now values) ≡ length (now tags) ⌝ }
+    ensures { λ r. ⌜ ((i < 64 → getD (now (ends .entry)) i 0 ≡ endFrom names (tokens (now (tags .entry)) (now (values .entry))) at) → r ≡ endFrom names (tokens (now (tags .entry)) (now (values .entry))) at) ⌝ }
+{
+    let k = i as usize;
+    if k < 64 {
+        return ends[k];
+    }
+    end_from(tags, values, names, at)
+}
+
+// One pass over a node's equations, after so many.
 fn one_pass(
     tags: &[u8],
     values: &[u32],
     names: u32,
     count: u32,
     at: usize,
+    ends: &[usize; 64],
     env: &mut [u32],
     marks: &[u8],
+    since: &mut [usize],
+    made: usize,
 ) -> Passing
     requires { ⌜ length (now values) ≡ length (now tags) ⌝ }
-    ensures { λ r. ⌜ ((n : Node) (es : List Equation) (q : ℕ) (clocks : Clocks) → Marked (now (marks .entry)) names (ports n) → times count (equation names) (tokens (now (tags .entry)) (now (values .entry))) at ≡ got es q → Agrees (now (env .entry)) names clocks → Passed (now (env .exit)) names r (rules.pass n es (record { changed = false; clocks = clocks }))) ⌝ }
+    requires { ⌜ made ≤ 4294967296 ⌝ }
+    ensures { λ r. ⌜ ((n : Node) (es : List Equation) (q : ℕ) (clocks : Clocks) → Marked (now (marks .entry)) names (ports n) → Ended names (tokens (now (tags .entry)) (now (values .entry))) at count (now (ends .entry)) → times count (equation names) (tokens (now (tags .entry)) (now (values .entry))) at ≡ got es q → Agrees (now (env .entry)) names clocks → Calms n (now (since .entry)) made clocks es → Gone n es (made + 1) (now (since .exit)) (now (env .exit)) names r (rules.pass n es (record { changed = false; clocks = clocks }))) ⌝ }
 {
+    let present = made + 1;
     let mut changed = false;
-    let mut left = count;
     let mut place = at;
-    while 0 < left {
-        let l = layout::equation_at(tags, values, names, place);
-        let end = l.end;
-        let made = one_equation(tags, values, names, l, env, marks, changed);
-        match made {
+    let mut i: u32 = 0;
+    while i < count {
+        let end = end_at(tags, values, names, ends, i, place);
+        let turn = one_equation(
+            tags,
+            values,
+            names,
+            place,
+            end,
+            env,
+            marks,
+            since,
+            made,
+            present,
+            changed,
+        );
+        match turn {
             Passing::Made(b) => {
                 changed = b;
                 place = end;
-                left -= 1;
+                i += 1;
             }
             Passing::Deep => {
                 return Passing::Deep;
@@ -221,22 +408,35 @@ fn one_pass(
 }
 
 // Passes until one changes nothing, at most one more than there are equations.
-fn all_passes(
+fn repeat_passes(
     tags: &[u8],
     values: &[u32],
     names: u32,
     count: u32,
     at: usize,
+    ends: &[usize; 64],
     env: &mut [u32],
     marks: &[u8],
+    since: &mut [usize],
 ) -> Inference
     requires { ⌜ length (now values) ≡ length (now tags) ⌝ }
-    ensures { λ r. ⌜ ((n : Node) (q : ℕ) (clocks : Clocks) → Marked (now (marks .entry)) names (ports n) → times count (equation names) (tokens (now (tags .entry)) (now (values .entry))) at ≡ got (n .equations) q → Agrees (now (env .entry)) names clocks → Infers (now (env .exit)) names r (passesFrom n (suc count) 0 clocks)) ⌝ }
+    ensures { λ r. ⌜ ((n : Node) (q : ℕ) (clocks : Clocks) → Marked (now (marks .entry)) names (ports n) → Ended names (tokens (now (tags .entry)) (now (values .entry))) at count (now (ends .entry)) → times count (equation names) (tokens (now (tags .entry)) (now (values .entry))) at ≡ got (n .equations) q → Agrees (now (env .entry)) names clocks → Infers (now (env .exit)) names r (passesFrom n (suc count) 0 clocks)) ⌝ }
 {
     let most = (count as usize) + 1;
     let mut made: usize = 0;
     while made < most {
-        let pass = one_pass(tags, values, names, count, at, env, marks);
+        let pass = one_pass(
+            tags,
+            values,
+            names,
+            count,
+            at,
+            ends,
+            env,
+            marks,
+            since,
+            made,
+        );
         match pass {
             Passing::Made(b) => {
                 made += 1;
@@ -251,6 +451,34 @@ fn all_passes(
         }
     }
     Inference::Passes(made)
+}
+
+// The same, with the tables that the passes use.
+fn all_passes(
+    tags: &[u8],
+    values: &[u32],
+    names: u32,
+    count: u32,
+    at: usize,
+    env: &mut [u32],
+    marks: &[u8],
+) -> Inference
+    requires { ⌜ length (now values) ≡ length (now tags) ⌝ }
+    ensures { λ r. ⌜ ((n : Node) (q : ℕ) (clocks : Clocks) → Marked (now (marks .entry)) names (ports n) → times count (equation names) (tokens (now (tags .entry)) (now (values .entry))) at ≡ got (n .equations) q → Agrees (now (env .entry)) names clocks → Infers (now (env .exit)) names r (passesFrom n (suc count) 0 clocks)) ⌝ }
+{
+    let ends = equation_ends(tags, values, names, count, at);
+    let mut since = [0usize; 1024];
+    repeat_passes(
+        tags,
+        values,
+        names,
+        count,
+        at,
+        &ends,
+        env,
+        marks,
+        &mut since,
+    )
 }
 
 // The clocks of a node's names.

@@ -1,5 +1,6 @@
 // Rewrites the sheet on standard input to run on one base tick; or says what it is refused for.
 use arguments::Word;
+use definitions::FaultRecord;
 use definitions::Refusal;
 use libc::STDERR_FILENO;
 use libc::STDIN_FILENO;
@@ -13,11 +14,27 @@ fn help() {
         b"rewrite [BYTES]: rewrites the sheet on standard input to run on one base tick, to standard output.
 
 BYTES is how many bytes are lent for the rewritten sheet; without it they are enough for any.
-A sheet that is turned down leaves standard output empty, and on standard error is
+A sheet that is turned down leaves standard output empty, and on standard error is (the exit status is 0 in both cases)
 
-refused N PLACE                    the number of the refusal and its place, 0 where none is named
+refused NUMBER PLACE: REASON       NUMBER as below; PLACE is counted from 0, and is 0 where none is named
 faults COUNT                       under 10: how many nodes are faulty
 fault NODE FAULT EQUATION TEXT     under 10: a line for each faulty node, its first fault
+
+ 1 the input has fewer than 12 bytes
+ 2 a size is outside its limit; PLACE is 0 for names, 1 for letters, 2 for tokens
+ 3 the length is not 12 + names + letters + 5 x tokens
+ 4 a name is ill formed or repeats an earlier one, or the lengths do not sum to the letters; PLACE is the name
+ 5 a token is not allowed there, its value is out of range, or the tokens end early or go on; PLACE is the token
+ 6 a count, array length or depth is outside its limit; PLACE is the token
+ 7 a type reaches itself; PLACE is the type
+ 8 there is no such node or fault (clocks and text only)
+ 9 a clock comes to more than eight conditions; PLACE is the node
+10 some node has a fault
+11 the rewritten sheet would pass a limit: 1,024 names, 16,384 letters, 8,192 tokens
+12 the bytes lent are too few; PLACE is how many are needed
+
+Limits: 1,024 names, 16,384 letters, 2 to 4,096 tokens; 32 types, 16 nodes; of a node 64 equations and 128 declared names; 1 to 8 left
+names; 0 or 1 start values; 64 of anything else; arrays of 256, array types 8 deep, expressions 32 deep.
 ",
     );
 }
@@ -40,10 +57,10 @@ fn put_number(out: &mut [u8; 128], at: usize, n: u64) -> usize {
     spelling::put_decimal(out, next, n)
 }
 
-// `refused N PLACE`
+// `refused NUMBER PLACE: REASON`
 fn show_refusal(r: Refusal) {
-    let mut line = [0u8; 128];
-    let n = arguments::put_refusal(&mut line, r);
+    let mut line = [0u8; 256];
+    let n = arguments::put_reason(&mut line, r);
     show(STDERR_FILENO, &line, n);
 }
 
@@ -92,18 +109,19 @@ fn show_fault(sheet: &[u8], node: u32, fault: u32, equation: u32) {
 }
 
 // A line for each of the first faults, of which there are at most as many as nodes.
-fn show_faults(sheet: &[u8], count: usize, faults: &[u32; 48]) {
+fn show_faults(sheet: &[u8], count: usize, faults: [FaultRecord; 16]) {
     let mut i: usize = 0;
     while i < 16 {
         if count <= i {
             return;
         }
-        show_fault(sheet, faults[3 * i], faults[3 * i + 1], faults[3 * i + 2]);
+        let f = faults[i];
+        show_fault(sheet, f.node, f.fault, f.equation);
         i += 1;
     }
 }
 
-fn refuse(sheet: &[u8], r: Refusal, faults: &[u32; 48]) {
+fn refuse(sheet: &[u8], r: Refusal, faults: [FaultRecord; 16]) {
     show_refusal(r);
     if let Refusal::Faulty(count) = r {
         show_count(count);
@@ -113,11 +131,12 @@ fn refuse(sheet: &[u8], r: Refusal, faults: &[u32; 48]) {
 
 // Rewrites into the bytes lent.
 fn rewrite(sheet: &[u8], out: &mut [u8]) {
-    let mut faults = [0u32; 48];
-    let answer = pass_rewrite::rewrite(sheet, out, &mut faults);
+    let told = clock_pass::rewrite_told(sheet, out);
+    let faults = told.list;
+    let answer = told.answer;
     match answer {
         RewriteAnswer::Written(n) => show(STDOUT_FILENO, out, n),
-        RewriteAnswer::Refused(r) => refuse(sheet, r, &faults),
+        RewriteAnswer::Refused(r) => refuse(sheet, r, faults),
     }
 }
 

@@ -8,7 +8,7 @@ use writing::Written;
 ghost use mathlib.Core.Path.{_≡_};
 ghost use mathlib.Core.List.{List};
 ghost use mathlib.Core.Bool.{false};
-ghost use Prim.Native.Nat.{ℕ, _≤_};
+ghost use Prim.Native.Nat.{ℕ, _*_, _≤_};
 ghost use lib.ListN.{length};
 ghost use Rattle.definitions.specs.Lists.{sum};
 ghost use Rattle.definitions.specs.Bytes.{cut, tokens};
@@ -20,6 +20,7 @@ ghost use Rattle.definitions.specs.Answer.{Input, clockings, rewriteAnswer};
 ghost use Rattle.emit.specs.Out as emit;
 ghost use Rattle.emit.specs.Out.{emits};
 ghost use Rattle.fresh.specs.Table.{Sound, Holds};
+ghost use Rattle.query.specs.Standing.{Roomy};
 ghost use Rattle.stateless.specs.Sheets.{firstFaultsFrom};
 ghost use Rattle.first_faults.specs.Faults.{Recorded};
 ghost use Rattle.output_names.specs.Faultless.{Faultless};
@@ -51,17 +52,17 @@ fn list_faults(
     tags: &[u8],
     values: &[u32],
     names: u32,
+    env: &mut [u32],
+    table: &mut [u32],
     faults: &mut [u32],
 ) -> usize
     requires { ⌜ length (now values) ≡ length (now tags) ⌝ }
     requires { ⌜ (sum (now given) ≡ length (now letters)) × (length (now given) ≤ 1024) ⌝ }
-    ensures { λ n. ⌜ ((r : Input) (ns : List ClockedNode) (q : ℕ) → sheet names (tokens (now (tags .entry)) (now (values .entry))) 0 ≡ got (r .sheet) q → r .names ≡ cut (now (given .entry)) (now (letters .entry)) → names ≤ 1024 → length (now (tags .entry)) ≤ 4096 → clockings 0 (r .sheet .nodes) ≡ accepted ns → Recorded (now (faults .entry)) (firstFaultsFrom r 0 ns) n (now (faults .exit))) ⌝ }
+    ensures { λ n. ⌜ ((r : Input) (ns : List ClockedNode) (q : ℕ) → sheet names (tokens (now (tags .entry)) (now (values .entry))) 0 ≡ got (r .sheet) q → r .names ≡ cut (now (given .entry)) (now (letters .entry)) → Roomy names (length (now (tags .entry))) (now (env .entry)) (now (table .entry)) → clockings 0 (r .sheet .nodes) ≡ accepted ns → Recorded (now (faults .entry)) (firstFaultsFrom r 0 ns) n (now (faults .exit))) ⌝ }
 {
     let condact = narrow(fresh::find_condact(given, letters));
     let t = first_faults::tables_of(tags, values, names, condact);
-    let mut env = [0u32; 17408];
-    let mut table = [0u32; 155648];
-    first_faults::write_first_faults(tags, values, t, &mut env, &mut table, faults)
+    first_faults::write_first_faults(tags, values, t, env, table, faults)
 }
 
 // The output of a sheet without faults over the front of the lent bytes, if it is within its limits and the bytes are enough; `lengths`
@@ -119,6 +120,7 @@ fn rewrite_faultless(
     tags: &[u8],
     values: &[u32],
     names: u32,
+    env: &mut [u32; 17408],
     out: &mut [u8],
 ) -> RewriteAnswer
     requires { ⌜ length (now values) ≡ length (now tags) ⌝ }
@@ -127,6 +129,8 @@ fn rewrite_faultless(
 {
     let mut lengths = [0u8; 1024];
     let mut text = [0u8; 16384];
+    let mut flags = [0u32; 17408];
+    let mut firsts = [0u32; 17408];
     let c = output_names::sheet_names(
         given,
         starts,
@@ -136,6 +140,9 @@ fn rewrite_faultless(
         names,
         &mut lengths,
         &mut text,
+        env,
+        &mut flags,
+        &mut firsts,
     );
     let mut otags = [0u8; 8192];
     let mut ovalues = [0u32; 8192];
@@ -148,10 +155,103 @@ fn rewrite_faultless(
         &lengths,
         &text,
         c,
+        env,
+        &mut flags,
+        &mut firsts,
         &mut otags,
         &mut ovalues,
     );
     write_arrays(&lengths, &text, c, &otags, &ovalues, n, out)
+}
+
+// Rewriting a sheet, with working tables: for the clocks of names, and for what is found in equations.
+fn rewrite_in(
+    given: &[u8],
+    starts: &[u32],
+    letters: &[u8],
+    tags: &[u8],
+    values: &[u32],
+    names: u32,
+    env: &mut [u32; 17408],
+    table: &mut [u32],
+    out: &mut [u8],
+    faults: &mut [u32],
+) -> RewriteAnswer
+    requires { ⌜ length (now values) ≡ length (now tags) ⌝ }
+    requires { ⌜ (sum (now given) ≡ length (now letters)) × (length (now given) ≤ 1024) × (length (now letters) ≤ 16384) ⌝ }
+    ensures { λ a. ⌜ ((bytes : List ℕ) (r : Input) → Read (now (given .entry)) (now (starts .entry)) (now (letters .entry)) (now (tags .entry)) (now (values .entry)) names bytes r → 38 * length (now (tags .entry)) ≤ length (now (table .entry)) → RewriteGiven (rewriteAnswer bytes (length (now (out .entry)))) (now (out .entry)) (now (faults .entry)) (now (out .exit)) (now (faults .exit)) a) ⌝ }
+{
+    let deep = query::first_deep(tags, values, names, env, table);
+    if let Deepest::At(i) = deep {
+        return RewriteAnswer::Refused(Refusal::Deep(wide(i)));
+    }
+    let faulty = list_faults(given, letters, tags, values, names, env, table, faults);
+    if 0 < faulty {
+        return RewriteAnswer::Refused(Refusal::Faulty(faulty));
+    }
+    rewrite_faultless(given, starts, letters, tags, values, names, env, out)
+}
+
+// The same of at most 256 tokens, which find little: a small table is made sooner.
+fn rewrite_small(
+    given: &[u8],
+    starts: &[u32],
+    letters: &[u8],
+    tags: &[u8],
+    values: &[u32],
+    names: u32,
+    out: &mut [u8],
+    faults: &mut [u32],
+) -> RewriteAnswer
+    requires { ⌜ length (now values) ≡ length (now tags) ⌝ }
+    requires { ⌜ (sum (now given) ≡ length (now letters)) × (length (now given) ≤ 1024) × (length (now letters) ≤ 16384) ⌝ }
+    ensures { λ a. ⌜ ((bytes : List ℕ) (r : Input) → Read (now (given .entry)) (now (starts .entry)) (now (letters .entry)) (now (tags .entry)) (now (values .entry)) names bytes r → length (now (tags .entry)) ≤ 256 → RewriteGiven (rewriteAnswer bytes (length (now (out .entry)))) (now (out .entry)) (now (faults .entry)) (now (out .exit)) (now (faults .exit)) a) ⌝ }
+{
+    let mut env = [0u32; 17408];
+    let mut table = [0u32; 9728];
+    rewrite_in(
+        given,
+        starts,
+        letters,
+        tags,
+        values,
+        names,
+        &mut env,
+        &mut table,
+        out,
+        faults,
+    )
+}
+
+// The same of as many tokens as a sheet may have.
+fn rewrite_large(
+    given: &[u8],
+    starts: &[u32],
+    letters: &[u8],
+    tags: &[u8],
+    values: &[u32],
+    names: u32,
+    out: &mut [u8],
+    faults: &mut [u32],
+) -> RewriteAnswer
+    requires { ⌜ length (now values) ≡ length (now tags) ⌝ }
+    requires { ⌜ (sum (now given) ≡ length (now letters)) × (length (now given) ≤ 1024) × (length (now letters) ≤ 16384) ⌝ }
+    ensures { λ a. ⌜ ((bytes : List ℕ) (r : Input) → Read (now (given .entry)) (now (starts .entry)) (now (letters .entry)) (now (tags .entry)) (now (values .entry)) names bytes r → RewriteGiven (rewriteAnswer bytes (length (now (out .entry)))) (now (out .entry)) (now (faults .entry)) (now (out .exit)) (now (faults .exit)) a) ⌝ }
+{
+    let mut env = [0u32; 17408];
+    let mut table = [0u32; 155648];
+    rewrite_in(
+        given,
+        starts,
+        letters,
+        tags,
+        values,
+        names,
+        &mut env,
+        &mut table,
+        out,
+        faults,
+    )
 }
 
 // Rewriting a sheet: the output over the front of the lent bytes; or a refusal, which under 10 alone writes each faulty node's first
@@ -170,13 +270,8 @@ pub fn rewrite_standing(
     requires { ⌜ (sum (now given) ≡ length (now letters)) × (length (now given) ≤ 1024) × (length (now letters) ≤ 16384) ⌝ }
     ensures { λ a. ⌜ ((bytes : List ℕ) (r : Input) → Read (now (given .entry)) (now (starts .entry)) (now (letters .entry)) (now (tags .entry)) (now (values .entry)) names bytes r → RewriteGiven (rewriteAnswer bytes (length (now (out .entry)))) (now (out .entry)) (now (faults .entry)) (now (out .exit)) (now (faults .exit)) a) ⌝ }
 {
-    let deep = query::deep_node(tags, values, names);
-    if let Deepest::At(i) = deep {
-        return RewriteAnswer::Refused(Refusal::Deep(wide(i)));
+    if tags.len() <= 256 {
+        return rewrite_small(given, starts, letters, tags, values, names, out, faults);
     }
-    let faulty = list_faults(given, letters, tags, values, names, faults);
-    if 0 < faulty {
-        return RewriteAnswer::Refused(Refusal::Faulty(faulty));
-    }
-    rewrite_faultless(given, starts, letters, tags, values, names, out)
+    rewrite_large(given, starts, letters, tags, values, names, out, faults)
 }

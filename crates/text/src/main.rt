@@ -13,7 +13,8 @@ fn help() {
 
 NODE and FAULT are counted from 0: the node's clock faults, or, where it has none, the first fault that rewriting it meets.
 BYTES is how many bytes are lent for the text; without it they are enough for any.
-A question that is turned down leaves standard output empty, and is one line on standard error, `refused N PLACE`.
+A question that is turned down leaves standard output empty, and is one line on standard error, `refused NUMBER PLACE: REASON`;
+rewrite --help lists the numbers. The exit status is 0 in both cases.
 ",
     );
 }
@@ -31,8 +32,8 @@ fn show(fd: i32, out: &[u8], n: usize) {
 }
 
 fn refuse(r: Refusal) {
-    let mut line = [0u8; 128];
-    let n = arguments::put_refusal(&mut line, r);
+    let mut line = [0u8; 256];
+    let n = arguments::put_reason(&mut line, r);
     show(STDERR_FILENO, &line, n);
 }
 

@@ -1,2 +1,4 @@
 -- What other crates cite.
 pub mod Back
+-- What this crate's proofs share.
+mod Classes

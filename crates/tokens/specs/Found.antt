@@ -4,12 +4,10 @@ use Rattle.definitions.specs.declared.ExprToken.{ExprToken}
 use Rattle.definitions.specs.declared.TypeToken.{TypeToken}
 use Rattle.definitions.specs.declared.DefinitionToken.{DefinitionToken}
 use Rattle.definitions.specs.declared.NodeKind.{NodeKind}
-use Rattle.definitions.specs.declared.Token.{Token}
 use Rattle.tokens.specs.declared.FoundExpr.{FoundExpr}
 use Rattle.tokens.specs.declared.FoundType.{FoundType}
 use Rattle.tokens.specs.declared.FoundDefinition.{FoundDefinition}
 use Rattle.tokens.specs.declared.FoundKind.{FoundKind}
-use Rattle.tokens.specs.declared.FoundToken.{FoundToken}
 
 abbrev pub exprOption : FoundExpr → Option ExprToken
 exprOption (FoundExpr.Token t) = some t
@@ -26,7 +24,3 @@ definitionOption FoundDefinition.Nothing = none
 abbrev pub kindOption : FoundKind → Option NodeKind
 kindOption (FoundKind.Kind t) = some t
 kindOption FoundKind.Nothing = none
-
-abbrev pub tokenOption : FoundToken → Option Token
-tokenOption (FoundToken.Token t) = some t
-tokenOption FoundToken.Nothing = none

@@ -1,2 +1,3 @@
 pub mod Found
 pub mod Range
+pub mod Classes

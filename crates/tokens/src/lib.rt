@@ -11,11 +11,11 @@ use definitions::UnaryOp;
 ghost use mathlib.Core.Path.{_≡_};
 ghost use Rattle.definitions.specs.declared.ExprToken.{ExprToken};
 ghost use Rattle.definitions.specs.declared.TypeToken.{TypeToken};
-ghost use Rattle.definitions.specs.declared.Token.{Token};
 ghost use lib.Dec.{eqb, ltb};
-ghost use Rattle.definitions.specs.Tokens.{given, mapped, unaryOf, binaryOf, primitiveOf, kindOf, typeTokenOf, definitionTokenOf, exprTokenOf, tokenOf};
+ghost use Rattle.definitions.specs.Tokens.{given, mapped, unaryOf, binaryOf, primitiveOf, kindOf, typeTokenOf, definitionTokenOf, exprTokenOf};
 ghost use Rattle.definitions.specs.Tokens.{unaryValue, binaryValue, primitiveTag, kindCode, literalCode, typeCode, definitionCode, exprCode, tagOf, valueOf};
-ghost use Rattle.tokens.specs.Found.{exprOption, typeOption, definitionOption, kindOption, tokenOption};
+ghost use Rattle.tokens.specs.Found.{exprOption, typeOption, definitionOption, kindOption};
+ghost use Rattle.tokens.specs.Classes.{classOf};
 
 // An expression's first token, if there is one.
 pub enum FoundExpr {
@@ -41,10 +41,12 @@ pub enum FoundKind {
     Nothing,
 }
 
-// A token, if there is one.
-pub enum FoundToken {
-    Token(Token),
-    Nothing,
+// What a tag's token is the first of.
+enum Class {
+    Definition,
+    Type,
+    Expression,
+    Other,
 }
 
 // "55 unary(0, 1)"
@@ -121,7 +123,7 @@ pub fn node_kind(value: u32) -> FoundKind
 }
 
 // The first token of a type that a tag and a value are, in a sheet of so many names.
-pub fn type_token(names: u32, tag: u8, value: u32) -> FoundType
+fn type_token(names: u32, tag: u8, value: u32) -> FoundType
     ensures { λ r. ⌜ typeOption r ≡ typeTokenOf names tag value ⌝ }
 {
     match tag {
@@ -140,7 +142,7 @@ pub fn type_token(names: u32, tag: u8, value: u32) -> FoundType
 }
 
 // The first token of a definition that a tag and a value are.
-pub fn definition_token(names: u32, tag: u8, value: u32) -> FoundDefinition
+fn definition_token(names: u32, tag: u8, value: u32) -> FoundDefinition
     ensures { λ r. ⌜ definitionOption r ≡ definitionTokenOf names tag value ⌝ }
 {
     match tag {
@@ -186,7 +188,7 @@ fn below(t: ExprToken, value: u32, bound: u32) -> FoundExpr
 }
 
 // The first token of an expression that a tag and a value are.
-pub fn expr_token(names: u32, tag: u8, value: u32) -> FoundExpr
+fn expr_token(names: u32, tag: u8, value: u32) -> FoundExpr
     ensures { λ r. ⌜ exprOption r ≡ exprTokenOf names tag value ⌝ }
 {
     match tag {
@@ -216,70 +218,48 @@ pub fn expr_token(names: u32, tag: u8, value: u32) -> FoundExpr
     }
 }
 
-// A token of a definition, as a token of the sheet.
-fn as_definition(f: FoundDefinition) -> FoundToken
-    ensures { λ r. ⌜ tokenOption r ≡ mapped Token.Definition (definitionOption f) ⌝ }
-{
-    match f {
-        FoundDefinition::Token(t) => FoundToken::Token(Token::Definition(t)),
-        FoundDefinition::Nothing => FoundToken::Nothing,
-    }
-}
-
-fn as_type(f: FoundType) -> FoundToken
-    ensures { λ r. ⌜ tokenOption r ≡ mapped Token.Type (typeOption f) ⌝ }
-{
-    match f {
-        FoundType::Token(t) => FoundToken::Token(Token::Type(t)),
-        FoundType::Nothing => FoundToken::Nothing,
-    }
-}
-
-fn as_kind(f: FoundKind) -> FoundToken
-    ensures { λ r. ⌜ tokenOption r ≡ mapped Token.Kind (kindOption f) ⌝ }
-{
-    match f {
-        FoundKind::Kind(k) => FoundToken::Token(Token::Kind(k)),
-        FoundKind::Nothing => FoundToken::Nothing,
-    }
-}
-
-fn as_expr(f: FoundExpr) -> FoundToken
-    ensures { λ r. ⌜ tokenOption r ≡ mapped Token.Expression (exprOption f) ⌝ }
-{
-    match f {
-        FoundExpr::Token(t) => FoundToken::Token(Token::Expression(t)),
-        FoundExpr::Nothing => FoundToken::Nothing,
-    }
-}
-
-// A token whose value is an id.
-fn with_id(t: Token, names: u32, value: u32) -> FoundToken
-    ensures { λ r. ⌜ tokenOption r ≡ given (ltb value names) t ⌝ }
-{
-    if value < names {
-        FoundToken::Token(t)
-    } else {
-        FoundToken::Nothing
-    }
-}
-
-// The token that a tag and a value are, in a sheet of so many names.
-pub fn token(names: u32, tag: u8, value: u32) -> FoundToken
-    ensures { λ r. ⌜ tokenOption r ≡ tokenOf names tag value ⌝ }
+// "20 to 31 the types Bool to Char in the Rust's order": the tags of definitions, types and expressions stand in three ranges.
+fn class_of(tag: u8) -> Class
+    ensures { λ r. ⌜ r ≡ classOf tag ⌝ }
 {
     match tag {
-        1 => FoundToken::Token(Token::Types(value)),
-        2 => FoundToken::Token(Token::Nodes(value)),
-        3 => FoundToken::Token(Token::Count(value)),
-        4 => with_id(Token::Name(value), names, value),
-        5 => FoundToken::Token(Token::High(value)),
-        10..=12 => as_definition(definition_token(names, tag, value)),
-        20..=33 => as_type(type_token(names, tag, value)),
-        40 => with_id(Token::Node(value), names, value),
-        41 => as_kind(node_kind(value)),
-        50..=71 => as_expr(expr_token(names, tag, value)),
-        _ => FoundToken::Nothing,
+        10..=12 => Class::Definition,
+        20..=33 => Class::Type,
+        50..=71 => Class::Expression,
+        _ => Class::Other,
+    }
+}
+
+// The first token of a definition that a tag and a value are, if the tag is one of a definition.
+pub fn find_definition(names: u32, tag: u8, value: u32) -> FoundDefinition
+    ensures { λ r. ⌜ definitionOption r ≡ definitionTokenOf names tag value ⌝ }
+{
+    let class = class_of(tag);
+    match class {
+        Class::Definition => definition_token(names, tag, value),
+        _ => FoundDefinition::Nothing,
+    }
+}
+
+// The first token of a type that a tag and a value are, if the tag is one of a type.
+pub fn find_type(names: u32, tag: u8, value: u32) -> FoundType
+    ensures { λ r. ⌜ typeOption r ≡ typeTokenOf names tag value ⌝ }
+{
+    let class = class_of(tag);
+    match class {
+        Class::Type => type_token(names, tag, value),
+        _ => FoundType::Nothing,
+    }
+}
+
+// The first token of an expression that a tag and a value are, if the tag is one of an expression.
+pub fn find_expr(names: u32, tag: u8, value: u32) -> FoundExpr
+    ensures { λ r. ⌜ exprOption r ≡ exprTokenOf names tag value ⌝ }
+{
+    let class = class_of(tag);
+    match class {
+        Class::Expression => expr_token(names, tag, value),
+        _ => FoundExpr::Nothing,
     }
 }
 

@@ -1,6 +1,7 @@
 // Replays the clock questions among the listed questions on standard input: `vectors/README.md` says how a line is made. The listing is
 // written from the lent lists of clocks and compared with the list's answer and with the listing itself.
 use arguments::Word;
+use definitions::FaultRecord;
 use definitions::Refusal;
 use libc::STDIN_FILENO;
 use libc::STDOUT_FILENO;
@@ -117,15 +118,23 @@ fn word(w: u32) -> u64 {
     w as u64
 }
 
-// The words of so many faults.
-fn put_words(out: &mut [u8; 65536], at: usize, words: &[u32; 12288], faults: usize) -> usize {
+// The three words of a fault.
+fn put_fault(out: &mut [u8; 65536], at: usize, f: FaultRecord) -> usize {
+    let a = put_number(out, at, word(f.node));
+    let b = put_number(out, a, word(f.fault));
+    put_number(out, b, word(f.equation))
+}
+
+// The words of so many faults, of which the listed sheets have at most 256.
+fn put_words(out: &mut [u8; 65536], at: usize, list: [FaultRecord; 256], faults: usize) -> usize {
     let mut place = at;
     let mut i: usize = 0;
-    while i < 12288 {
-        if faults <= i / 3 {
+    while i < 256 {
+        if faults <= i {
             return place;
         }
-        place = put_number(out, place, word(words[i]));
+        let f = list[i];
+        place = put_fault(out, place, f);
         i += 1;
     }
     place
@@ -306,7 +315,7 @@ fn is_accepted(
     listing: &[u8; 65536],
     m: usize,
     counts: NodeCounts,
-    faults: &[u32; 12288],
+    faults: [FaultRecord; 256],
     answer: &[u8],
 ) -> bool {
     let mut out = [0u8; 65536];
@@ -325,7 +334,7 @@ fn is_told(
     counts: NodeCounts,
     equations: &[u32],
     chains: &[u32],
-    faults: &[u32; 12288],
+    faults: [FaultRecord; 256],
     answer: &[u8],
 ) -> bool {
     let mut listing = [0u8; 65536];
@@ -355,8 +364,10 @@ fn is_refused(sheet: &[u8], node: usize, answer: &[u8]) -> bool {
 fn is_answered(sheet: &[u8], node: usize, answer: &[u8]) -> bool {
     let mut equations = [0u32; 1088];
     let mut chains = [0u32; 69632];
-    let mut faults = [0u32; 12288];
-    match pass::clocks(sheet, node, &mut equations, &mut chains, &mut faults) {
+    let told = clock_pass::clocks_told(sheet, node, &mut equations, &mut chains);
+    let faults = told.list;
+    let given = told.answer;
+    match given {
         ClocksAnswer::Refused(r) => {
             if !is_refusal(r, answer) {
                 return false;
@@ -369,7 +380,7 @@ fn is_answered(sheet: &[u8], node: usize, answer: &[u8]) -> bool {
             counts,
             &equations,
             &chains,
-            &faults,
+            faults,
             answer,
         ),
     }

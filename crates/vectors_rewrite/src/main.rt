@@ -1,6 +1,7 @@
 // Replays the questions about rewriting and about the texts of faults among the listed questions on standard input: `vectors/README.md`
 // says how a line is made. Each answer is spelled as the list does and compared byte for byte.
 use arguments::Word;
+use definitions::FaultRecord;
 use definitions::Refusal;
 use libc::STDIN_FILENO;
 use libc::STDOUT_FILENO;
@@ -122,15 +123,23 @@ fn word(w: u32) -> u64 {
     w as u64
 }
 
-// The words of so many faults, three a fault.
-fn put_words(out: &mut [u8; 65536], at: usize, words: &[u32; 48], faults: usize) -> usize {
+// The three words of a fault.
+fn put_fault(out: &mut [u8; 65536], at: usize, f: FaultRecord) -> usize {
+    let a = put_number(out, at, word(f.node));
+    let b = put_number(out, a, word(f.fault));
+    put_number(out, b, word(f.equation))
+}
+
+// The words of so many faults.
+fn put_words(out: &mut [u8; 65536], at: usize, list: [FaultRecord; 16], faults: usize) -> usize {
     let mut place = at;
     let mut i: usize = 0;
-    while i < 48 {
-        if faults <= i / 3 {
+    while i < 16 {
+        if faults <= i {
             return place;
         }
-        place = put_number(out, place, word(words[i]));
+        let f = list[i];
+        place = put_fault(out, place, f);
         i += 1;
     }
     place
@@ -178,7 +187,7 @@ fn faulty(r: Refusal) -> usize {
 }
 
 // Is the answer that a rewriting is refused so, with these faults?
-fn is_refused_with(r: Refusal, faults: &[u32; 48], answer: &[u8]) -> bool {
+fn is_refused_with(r: Refusal, faults: [FaultRecord; 16], answer: &[u8]) -> bool {
     let count = faulty(r);
     let mut out = [0u8; 65536];
     let a = put_refused(&mut out, r);
@@ -189,11 +198,12 @@ fn is_refused_with(r: Refusal, faults: &[u32; 48], answer: &[u8]) -> bool {
 
 // Is rewriting into the bytes lent answered so?
 fn is_rewritten(sheet: &[u8], out: &mut [u8], answer: &[u8]) -> bool {
-    let mut faults = [0u32; 48];
-    let given = pass_rewrite::rewrite(sheet, out, &mut faults);
+    let told = clock_pass::rewrite_told(sheet, out);
+    let faults = told.list;
+    let given = told.answer;
     match given {
         RewriteAnswer::Written(n) => is_accepted(out, n, answer),
-        RewriteAnswer::Refused(r) => is_refused_with(r, &faults, answer),
+        RewriteAnswer::Refused(r) => is_refused_with(r, faults, answer),
     }
 }
 

@@ -11,8 +11,25 @@ pub struct Shown {
     pub err: Vec<u8>,
 }
 
+/// What each refusal means and what to do, from 1 on.
+const REASONS: [&str; 12] = [
+    "the input has fewer than 12 bytes: hand in a whole sheet",
+    "a size is outside its limit (place 0: 1,024 names, 1: 16,384 letters, 2: 2 to 4,096 tokens): split the sheet, or make one of a text with tools/sheet read",
+    "the length is not 12 + names + letters + 5 x tokens: hand in the whole sheet and nothing more",
+    "this name, counted from 0, repeats an earlier one or is not 1 to 32 letters, digits and _, no digit first; past the last name: the lengths do not sum to the letters",
+    "this token, counted from 0, is not allowed there or its value is out of range; past the last token: the tokens end early",
+    "at this token, counted from 0, a count, array length or depth is outside its limit: rewrite --help lists the limits",
+    "this type, counted from 0, reaches itself through fields, targets or elements: break the circle",
+    "there is no such node, or the node has no such fault: both are counted from 0; inspect lists the nodes, clocks and rewrite the faults",
+    "in this node, counted from 0, a clock comes to more than eight conditions: sample it by fewer",
+    "some node has a fault: mend the first fault of each faulty node, listed below, and rewrite again",
+    "the rewritten sheet would pass a limit (1,024 names, 16,384 letters, 8,192 tokens): split the sheet",
+    "the bytes lent are too few: lend as many as the place says",
+];
+
 fn refused(r: Refused) -> Shown {
-    Shown { err: format!("refused {} {}\n", r.0, r.1).into_bytes(), ..Shown::default() }
+    let reason = REASONS[r.0 as usize - 1];
+    Shown { err: format!("refused {} {}: {reason}\n", r.0, r.1).into_bytes(), ..Shown::default() }
 }
 
 fn told(text: String) -> Shown {

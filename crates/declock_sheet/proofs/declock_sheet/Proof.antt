@@ -17,11 +17,11 @@ use Rattle.declock_sheet.proofs.declock_sheet.Statement.{statement}
 use Rattle.declock_sheet.proofs.declock_sheet.Tie as tie
 
 abbrev Inv-loop : tie.InvT-loop
-Inv-loop starts letters tags values names lengths text c otags₀ ovalues₀ n m places type-places condact k w₀ i₀ otags ovalues w i =
+Inv-loop starts letters tags values names lengths text c env₀ flags₀ firsts₀ otags₀ ovalues₀ n m places type-places condact k w₀ i₀ env flags firsts otags ovalues w i =
     (i ≤ n) × ((bytes : List ℕ) (r : Input) (ns : List ClockedNode) (f : Faultless starts letters tags values names bytes r ns) → Holds lengths text c (namesOut (r .names) (r .sheet) ns) → c .full ≡ false → out otags ovalues w ≡ emits (out otags₀ ovalues₀ w₀) (sofar f i))
 
 abbrev μ-loop : tie.MeasureT-loop
-μ-loop starts letters tags values names lengths text c otags₀ ovalues₀ n m places type-places condact k w₀ i₀ otags ovalues w i = n - i
+μ-loop starts letters tags values names lengths text c env₀ flags₀ firsts₀ otags₀ ovalues₀ n m places type-places condact k w₀ i₀ env flags firsts otags ovalues w i = n - i
 
 sheet-at-requires : tie.Need-sheet-at-requires Inv-loop μ-loop
 sheet-at-requires c κs = search needs
@@ -60,24 +60,24 @@ array-read-at : tie.Need-array-read-at Inv-loop μ-loop
 array-read-at c = search needs
 
 put-node-requires : tie.Need-put-node-requires Inv-loop μ-loop
-put-node-requires c κs = let s = c .before .before .before .before .before .before .before .before .before .before .before .before .before .before .before .before .before .before .before .before .before .before .before .before .before in (s .pre .0, ((omega (arith, c .before .before .before .before .before .before .before .before .before .before .before .before .before .before .before .if1 .left), omega (arith, c .before .before .before .before .before .before .before .before .before .before .before .before .before .before .if2 .left)), s .pre .1))
+put-node-requires c κs = let s = c .before .before .before .before .before .before .before .before .before .before .before .before .before .before .before .before .before .before .before .before .before .before .before .before .before .before .before .before in (s .pre .0, ((omega (arith, c .before .before .before .before .before .before .before .before .before .before .before .before .before .before .before .before .before .before .if1 .left), omega (arith, c .before .before .before .before .before .before .before .before .before .before .before .before .before .before .before .before .before .if2 .left)), s .pre .1))
 
 add-i : tie.Need-add-i Inv-loop μ-loop
-add-i c = search needs
+add-i c = omega (arith, c .before .before .before .before .before .before .before .before .loop-test .taken, c .before .before .before .before .before .before .before .before .before .before .before .before .before .before .before .before .before .before .before .if1 .left)
 
 loop-less : tie.Need-loop-less Inv-loop μ-loop
 loop-less c = search needs
 
 loop-again : tie.Need-loop-again Inv-loop μ-loop
 loop-again c =
-    let l = c .before .before .before .before .before .before .loop in (
-      omega (arith, c .before .before .before .before .before .loop-test .taken),
+    let l = c .before .before .before .before .before .before .before .before .before .loop in (
+      omega (arith, c .before .before .before .before .before .before .before .before .loop-test .taken),
       λ bytes r ns f holds kept.
-          let laid = c .before .before .before .before .before .before .before .before .before .before .before .before .before .before .before .before .before .before .before .before .before .sheet-at .ensures (r .sheet) _ (f .tree) in
-          let stands = nodes-stand f laid (c .before .before .before .before .before .before .before .before .before .before .before .before .before .before .before .before .before .before .wide .ensures) (c .before .before .before .before .before .before .before .before .before .before .before .before .before .before .node-places .ensures) in
-          let table = types-stand f laid (c .before .before .before .before .before .before .before .before .before .before .before .before .before .before .before .before .before .wide2 .ensures) (c .before .before .before .before .before .before .before .before .before .before .before .before .before .definition-places .ensures) in
-          let gate = c .before .before .before .before .before .before .before .before .before .before .condact-id .ensures ∙ ap condactId (sym (holds .kept kept)) in
-          tokens-more f (omega (arith, c .before .before .before .before .before .before .before .before .before .before .before .before .condact-id-arg .given)) (omega (arith, c .before .before .before .before .before .before .before .before .before .before .before .condact-id-arg2 .given)) holds kept stands table gate (l .i) (c .before .before .before .before .before .loop-test .taken) _ refl _ _ _ (c .put-node .ensures) (l .inv .1 bytes r ns f holds kept),
+          let laid = c .before .before .before .before .before .before .before .before .before .before .before .before .before .before .before .before .before .before .before .before .before .before .before .before .sheet-at .ensures (r .sheet) _ (f .tree) in
+          let stands = nodes-stand f laid (c .before .before .before .before .before .before .before .before .before .before .before .before .before .before .before .before .before .before .before .before .before .wide .ensures) (c .before .before .before .before .before .before .before .before .before .before .before .before .before .before .before .before .before .node-places .ensures) in
+          let table = types-stand f laid (c .before .before .before .before .before .before .before .before .before .before .before .before .before .before .before .before .before .before .before .before .wide2 .ensures) (c .before .before .before .before .before .before .before .before .before .before .before .before .before .before .before .before .definition-places .ensures) in
+          let gate = c .before .before .before .before .before .before .before .before .before .before .before .before .before .condact-id .ensures ∙ ap condactId (sym (holds .kept kept)) in
+          tokens-more f (omega (arith, c .before .before .before .before .before .before .before .before .before .before .before .before .before .before .before .condact-id-arg .given)) (omega (arith, c .before .before .before .before .before .before .before .before .before .before .before .before .before .before .condact-id-arg2 .given)) holds kept stands table gate (l .i) (c .before .before .before .before .before .before .before .before .loop-test .taken) _ refl _ _ _ (c .put-node .ensures) (l .inv .1 bytes r ns f holds kept),
     )
 
 returns-3 : tie.Need-returns-3 Inv-loop μ-loop

@@ -1,50 +1,32 @@
--- `grammar::read_id` meets its contract: a test of the place, of the tag, of the value.
+-- `grammar::read_id` meets its contract: what the reader says of the place, and a test of the tag and of the value.
 -- Assumes nothing.
-use borrow.Author.Tests.{eq-eqb, ne-eqb, lt-ltb, le-ltb}
-use denote.Ref.{now}
-use Rattle.grammar.proofs.Laws.{there, past}
-use Rattle.definitions.specs.Grammar.{tagged}
+use mathlib.Core.Path.{sym, ap}
+use Rattle.grammar.specs.Outcome.{outcome}
+use Rattle.grammar.proofs.Laws.{tagged-got, tagged-above, tagged-other, tagged-end}
 use borrow.Author.Needs.{needs}
 use Rattle.grammar.proofs.read_id.Statement.{statement}
 use Rattle.grammar.proofs.read_id.Tie as tie
 
+token-at-requires : tie.Need-token-at-requires
+token-at-requires c κs = search needs
+
+enum-known-step : tie.Need-enum-known-step
+enum-known-step c = search needs
+
+enum-told : tie.Need-enum-told
+enum-told c = search needs
+
 returns : tie.Need-returns
-unfolding tagged
-returns c = rw (past _ (now (c .before .args .tags)) (now (c .before .args .values)) _ (c .if1 .taken))
-
-shared-slice-read-if2 : tie.Need-shared-slice-read-if2
-shared-slice-read-if2 c = search needs
-
-mul-if3 : tie.Need-mul-if3
-mul-if3 c = search needs
-
-shared-slice-read-if3 : tie.Need-shared-slice-read-if3
-shared-slice-read-if3 c = search needs
-
-add-t17 : tie.Need-add-t17
-add-t17 c = search needs
+returns c = let s = c .before .before .before in sym (ap outcome (tagged-got _ _ _ _ _ (s .before .before .token-at .ensures) _ _ _ (s .step .given .1) (c .before .if1 .taken) (c .if2 .taken)))
 
 returns-2 : tie.Need-returns-2
-unfolding tagged
-returns-2 c = rw (there _ (now (c .before .before .before .before .before .args .tags)) (now (c .before .before .before .before .before .args .values)) _ (c .before .before .before .before .before .pre) (c .before .before .before .before .if1 .left)) (simp (eq-eqb _ _ (c .before .before .if2 .taken), lt-ltb _ _ (c .if3 .taken)))
+returns-2 c = let s = c .before .before .before in sym (ap outcome (tagged-above _ _ _ _ _ (s .before .before .token-at .ensures) _ _ _ (s .step .given .1) (c .before .if1 .taken) (c .if2 .left)))
 
 returns-3 : tie.Need-returns-3
-unfolding tagged
-returns-3 c = rw (there _ (now (c .before .before .before .before .before .args .tags)) (now (c .before .before .before .before .before .args .values)) _ (c .before .before .before .before .before .pre) (c .before .before .before .before .if1 .left)) (simp (eq-eqb _ _ (c .before .before .if2 .taken), le-ltb _ _ (c .if3 .left)))
+returns-3 c = let s = c .before .before in sym (ap outcome (tagged-other _ _ _ _ _ (s .before .before .token-at .ensures) _ _ _ (s .step .given .1) (c .if1 .left)))
 
 returns-4 : tie.Need-returns-4
-unfolding tagged
-returns-4 c = rw (there _ (now (c .before .before .before .args .tags)) (now (c .before .before .before .args .values)) _ (c .before .before .before .pre) (c .before .before .if1 .left)) (simp (ne-eqb _ _ (c .if2 .left)))
+returns-4 c = sym (ap outcome (tagged-end _ _ _ _ _ (c .before .before .token-at .ensures) (c .enum-told .given .1)))
 
 pub read-id-spec : {M : Type 1} → statement M
-read-id-spec =
-    tie.close
-    (tie.spec
-    returns
-    shared-slice-read-if2
-    mul-if3
-    shared-slice-read-if3
-    add-t17
-    returns-2
-    returns-3
-    returns-4)
+read-id-spec = tie.close (tie.spec token-at-requires enum-known-step enum-told returns returns-2 returns-3 returns-4)

@@ -1,54 +1,48 @@
--- `grammar::type_head` meets its contract: a test of the place, and what its token is.
+-- `grammar::type_head` meets its contract: what the reader says of the place, and what its token is.
 -- Assumes nothing.
 use mathlib.Core.Path.{sym, _∙_, ap}
-use denote.Ref.{now}
-use Rattle.grammar.proofs.Laws.{there, past}
+use Rattle.definitions.specs.Tokens.{typeTokenOf}
 use Rattle.tokens.specs.Found.{typeOption}
+use Rattle.grammar.specs.Outcome.{typeHead}
+use Rattle.grammar.proofs.Laws.{step-got, step-refused, step-end}
 use borrow.Author.Needs.{needs}
 use Rattle.grammar.proofs.type_head.Statement.{statement}
 use Rattle.grammar.proofs.type_head.Tie as tie
 
-returns : tie.Need-returns
-returns c = rw (past _ (now (c .before .before .before .args .tags)) (now (c .before .before .before .args .values)) _ (c .if1 .taken))
+token-at-requires : tie.Need-token-at-requires
+token-at-requires c κs = search needs
 
-shared-slice-read-type-token : tie.Need-shared-slice-read-type-token
-shared-slice-read-type-token c = search needs
+enum-known-step : tie.Need-enum-known-step
+enum-known-step c = search needs
 
-mul-type-token : tie.Need-mul-type-token
-mul-type-token c = search needs
-
-shared-slice-read-type-token-2 : tie.Need-shared-slice-read-type-token-2
-shared-slice-read-type-token-2 c = search needs
-
-type-token-requires : tie.Need-type-token-requires
-type-token-requires c κs = search needs
+find-type-requires : tie.Need-find-type-requires
+find-type-requires c κs = search needs
 
 enum-known-found : tie.Need-enum-known-found
 enum-known-found c = search needs
 
-add-t15 : tie.Need-add-t15
-add-t15 c = search needs
-
 enum-told : tie.Need-enum-told
 enum-told c = search needs
 
+enum-told-2 : tie.Need-enum-told-2
+enum-told-2 c = search needs
+
+returns : tie.Need-returns
+returns c =
+    let f = c .before .before .before in
+    let s = f .before .before in
+    sym (ap typeHead (step-got (typeTokenOf (s .before .before .before .before .before .args .names)) _ _ _ (s .before .before .token-at .ensures) _ _ _ (s .step .given .1) _ (sym (f .find-type .ensures) ∙ ap typeOption (c .before .found .given .1))))
+
 returns-2 : tie.Need-returns-2
-returns-2 c = rw (there _ (now (c .before .before .before .before .before .before .before .before .before .args .tags)) (now (c .before .before .before .before .before .before .before .before .before .args .values)) _ (c .before .before .before .before .before .before .before .before .before .pre) (c .before .before .before .before .before .before .if1 .left), sym (c .before .before .before .type-token .ensures) ∙ ap typeOption (c .before .found .given .1))
+returns-2 c =
+    let f = c .before .before in
+    let s = f .before .before in
+    sym (ap typeHead (step-refused (typeTokenOf (s .before .before .before .before .before .args .names)) _ _ _ (s .before .before .token-at .ensures) _ _ _ (s .step .given .1) (sym (f .find-type .ensures) ∙ ap typeOption (c .enum-told .given .1))))
 
 returns-3 : tie.Need-returns-3
-returns-3 c = rw (there _ (now (c .before .before .before .before .before .before .before .before .args .tags)) (now (c .before .before .before .before .before .before .before .before .args .values)) _ (c .before .before .before .before .before .before .before .before .pre) (c .before .before .before .before .before .if1 .left), sym (c .before .before .type-token .ensures) ∙ ap typeOption (c .enum-told .given .1))
+returns-3 c =
+    let t = c .before .before in
+    sym (ap typeHead (step-end (typeTokenOf (t .before .before .before .args .names)) _ _ _ (t .token-at .ensures) (c .enum-told2 .given .1)))
 
 pub type-head-spec : {M : Type 1} → statement M
-type-head-spec =
-    tie.close
-    (tie.spec
-    returns
-    shared-slice-read-type-token
-    mul-type-token
-    shared-slice-read-type-token-2
-    type-token-requires
-    enum-known-found
-    add-t15
-    enum-told
-    returns-2
-    returns-3)
+type-head-spec = tie.close (tie.spec token-at-requires enum-known-step find-type-requires enum-known-found enum-told enum-told-2 returns returns-2 returns-3)

@@ -9,6 +9,7 @@ use Rattle.rows.specs.Rows.{clocksFrom}
 use Rattle.fresh.specs.Places.{lettersAt}
 use Rattle.order.specs.Order.{rowOf, picked, Below}
 use Rattle.order.proofs.Laws.{sort-none, sort-more, sort-all}
+use Rattle.order.proofs.Total.{ordered}
 use Rattle.order.proofs.sort_rows.Statement.{statement}
 use Rattle.order.proofs.sort_rows.Tie as tie
 
@@ -25,7 +26,7 @@ sub-i : tie.Need-sub-i Inv-loop μ-loop
 sub-i c = search needs
 
 insert-row-requires : tie.Need-insert-row-requires Inv-loop μ-loop
-insert-row-requires c κs = omega (arith, c .before .before .loop .inv .0, c .before .before .loop .inv .1, c .before .before .loop .inv .2, c .before .before .before .before .before .before .before .pre, c .before .loop-test .taken)
+insert-row-requires c κs = (omega (arith, c .before .before .loop .inv .0, c .before .before .loop .inv .1, c .before .before .loop .inv .2, c .before .before .before .before .before .before .before .pre, c .before .loop-test .taken), ordered (lettersAt (now (c .before .before .before .before .before .before .before .args .starts)) (now (c .before .before .before .before .before .before .before .args .letters))) (now (c .before .before .before .before .before .before .before .args .rows)) (c .before .before .loop .order) (c .before .before .loop .k) _ (c .before .before .loop .inv .3))
 
 loop-less : tie.Need-loop-less Inv-loop μ-loop
 loop-less c = search needs

@@ -16,11 +16,11 @@ use Rattle.output_names.proofs.sheet_names.Statement.{statement}
 use Rattle.output_names.proofs.sheet_names.Tie as tie
 
 abbrev Inv-loop : tie.InvT-loop
-Inv-loop given starts letters tags values names lengths₀ text₀ c₀ condact n places i₀ lengths text c i =
+Inv-loop given starts letters tags values names lengths₀ text₀ env₀ flags₀ firsts₀ c₀ condact n places i₀ lengths text env flags firsts c i =
     (i ≤ n) × Sound lengths text c × ((bytes : List ℕ) (r : Input) (ns : List ClockedNode) → Faultless starts letters tags values names bytes r ns → r .names ≡ cut given letters → Holds lengths text c (outputNames (r .names) (r .sheet) (r .names) (take i ns)))
 
 abbrev μ-loop : tie.MeasureT-loop
-μ-loop given starts letters tags values names lengths₀ text₀ c₀ condact n places i₀ lengths text c i = n - i
+μ-loop given starts letters tags values names lengths₀ text₀ env₀ flags₀ firsts₀ c₀ condact n places i₀ lengths text env flags firsts c i = n - i
 
 copy-names-requires : tie.Need-copy-names-requires Inv-loop μ-loop
 copy-names-requires c κs = let s = c .before .before .before .before .before .before .before in (s .pre .1 .0, (omega (arith, s .pre .1 .1 .0), (omega (arith, s .pre .1 .1 .1), (omega arith, omega arith))))
@@ -58,7 +58,7 @@ array-read-at : tie.Need-array-read-at Inv-loop μ-loop
 array-read-at c = search needs
 
 add-node-requires : tie.Need-add-node-requires Inv-loop μ-loop
-add-node-requires c κs = (c .before .before .before .before .before .before .before .before .before .before .before .before .before .before .before .before .before .before .before .before .pre .0, (omega (arith, c .before .before .before .before .before .before .if1 .left), c .before .before .before .before .loop .inv .1))
+add-node-requires c κs = (c .before .before .before .before .before .before .before .before .before .before .before .before .before .before .before .before .before .before .before .before .before .before .before .pre .0, (omega (arith, c .before .before .before .before .before .before .before .before .before .if1 .left), c .before .before .before .before .before .before .before .loop .inv .1))
 
 add-i : tie.Need-add-i Inv-loop μ-loop
 add-i c = search needs
@@ -68,15 +68,15 @@ loop-less c = search needs
 
 loop-again : tie.Need-loop-again Inv-loop μ-loop
 loop-again c =
-    let l = c .before .before .before .before .before .loop in
+    let l = c .before .before .before .before .before .before .before .before .loop in
     let r = c .add-node .ensures in (
-      omega (arith, c .before .before .before .before .loop-test .taken),
+      omega (arith, c .before .before .before .before .before .before .before .loop-test .taken),
       r .0,
       λ bytes i ns f e.
-          let laid = c .before .before .before .before .before .before .before .before .before .before .sheet-at .ensures (i .sheet) _ (f .tree) in
-          let stands = nodes-stand f laid (c .before .before .before .before .before .before .before .before .wide .ensures) (c .before .before .before .before .before .before .node-places .ensures) in
-          let gate = c .before .before .before .before .before .before .before .before .before .before .before .narrow .ensures ∙ (c .before .before .before .before .before .before .before .before .before .before .before .before .find-condact .ensures ∙ ap condactId (sym e)) in
-          names-more f stands gate (l .i) (c .before .before .before .before .loop-test .taken) _ refl (r .1) (l .inv .2 bytes i ns f e),
+          let laid = c .before .before .before .before .before .before .before .before .before .before .before .before .before .sheet-at .ensures (i .sheet) _ (f .tree) in
+          let stands = nodes-stand f laid (c .before .before .before .before .before .before .before .before .before .before .before .wide .ensures) (c .before .before .before .before .before .before .before .before .before .node-places .ensures) in
+          let gate = c .before .before .before .before .before .before .before .before .before .before .before .before .before .before .narrow .ensures ∙ (c .before .before .before .before .before .before .before .before .before .before .before .before .before .before .before .find-condact .ensures ∙ ap condactId (sym e)) in
+          names-more f stands gate (l .i) (c .before .before .before .before .before .before .before .loop-test .taken) _ refl (r .1) (l .inv .2 bytes i ns f e),
     )
 
 returns-2 : tie.Need-returns-2 Inv-loop μ-loop

@@ -1,87 +1,30 @@
--- `passes::all_passes` meets its contract: the passes left, from the clocks so far, make the whole. The measure is their number.
+-- `passes::all_passes` meets its contract: the table of ends is filled, and every equation is read in the first pass.
 -- Assumes nothing.
-use mathlib.Core.Path.{_≡_, refl, _∙_}
-use denote.Ref.{now}
-use Prim.Native.Nat.{ℕ, suc, _-_}
-use lib.ListN.{length}
-use Rattle.definitions.specs.Bytes.{tokens}
-use Rattle.definitions.specs.Tree.{Node}
-use Rattle.definitions.specs.Reading.{got, times}
-use Rattle.definitions.specs.Grammar.{equation}
-use Rattle.definitions.specs.InferClocks.{Clocks, ports, passesFrom}
-use Rattle.environment.specs.Environment.{Agrees}
-use Rattle.passes.specs.Passes.{Marked}
-use Rattle.passes.proofs.Laws.{Repeating, repeating-start, repeating-step, repeating-stop, repeating-deep, repeating-end}
 use borrow.Author.Needs.{needs}
 use Rattle.passes.proofs.all_passes.Statement.{statement}
 use Rattle.passes.proofs.all_passes.Tie as tie
 
-abbrev Inv-loop : tie.InvT-loop
-Inv-loop tags values names count at env₀ marks most made₀ env made =
-    (length env ≡ length env₀) × ((n : Node) (q : ℕ) (clocks : Clocks) → Marked marks names (ports n) → times count (equation names) (tokens tags values) at ≡ got (n .equations) q → Agrees env₀ names clocks → Repeating names n env (most - made) made (passesFrom n (suc count) 0 clocks))
+equation-ends-requires : tie.Need-equation-ends-requires
+equation-ends-requires c κs = search needs
 
-abbrev μ-loop : tie.MeasureT-loop
-μ-loop tags values names count at env₀ marks most made₀ env made = most - made
+slice-aggregate-repeat-passes : tie.Need-slice-aggregate-repeat-passes
+slice-aggregate-repeat-passes c = search needs
 
-add-most : tie.Need-add-most Inv-loop μ-loop
-add-most c = search needs
+repeat-passes-requires : tie.Need-repeat-passes-requires
+repeat-passes-requires c κs = search needs
 
-loop-holds : tie.Need-loop-holds Inv-loop μ-loop
-loop-holds c = (refl, λ n q clocks m g a. repeating-start _ n _ (c .before .before .before .before .args .count) clocks a)
+same-length : tie.Need-same-length
+same-length c = search needs
 
-one-pass-requires : tie.Need-one-pass-requires Inv-loop μ-loop
-one-pass-requires c κs = search needs
-
-enum-known-pass : tie.Need-enum-known-pass Inv-loop μ-loop
-enum-known-pass c = search needs
-
-add-made : tie.Need-add-made Inv-loop μ-loop
-add-made c = search needs
-
-loop-less : tie.Need-loop-less Inv-loop μ-loop
-loop-less c = search needs
-
-loop-again : tie.Need-loop-again Inv-loop μ-loop
-loop-again c = (c .before .before .before .before .before .before .one-pass .kept .1 .1 .1 .1 .1 .0 ∙ c .before .before .before .before .before .before .before .before .before .loop .inv .0, λ n q clocks m g a. repeating-step (c .before .before .before .before .before .before .before .before .before .before .before .before .before .before .args .names) (tokens (now (c .before .before .before .before .before .before .before .before .before .before .before .before .before .before .args .tags)) (now (c .before .before .before .before .before .before .before .before .before .before .before .before .before .before .args .values))) n (c .before .before .before .before .before .before .before .before .before .loop .env) _ (now (c .before .before .before .before .before .before .before .before .before .before .before .before .before .before .args .marks)) (c .before .before .before .before .before .before .before .before .before .before .before .before .before .before .args .count) (c .before .before .before .before .before .before .before .before .before .before .before .before .before .before .args .at) q _ (c .before .before .before .before .before .before .before .before .before .loop .made) _ _ (c .before .before .before .before .before .before .before .before .loop-test .taken) m g (c .before .before .before .before .before .before .one-pass .ensures) (c .before .before .before .before .before .before .before .before .before .loop .inv .1 n q clocks m g a) _ (c .before .before .pass .given .1) (c .if1 .taken))
-
-same-length : tie.Need-same-length Inv-loop μ-loop
-same-length c = c .before .before .before .before .before .before .one-pass .kept .1 .1 .1 .1 .1 .0 ∙ c .before .before .before .before .before .before .before .before .before .loop .inv .0
-
-returns : tie.Need-returns Inv-loop μ-loop
-returns c = λ n q clocks m g a. repeating-stop (c .before .before .before .before .before .before .before .before .before .before .before .before .before .before .args .names) (tokens (now (c .before .before .before .before .before .before .before .before .before .before .before .before .before .before .args .tags)) (now (c .before .before .before .before .before .before .before .before .before .before .before .before .before .before .args .values))) n (c .before .before .before .before .before .before .before .before .before .loop .env) _ (now (c .before .before .before .before .before .before .before .before .before .before .before .before .before .before .args .marks)) (c .before .before .before .before .before .before .before .before .before .before .before .before .before .before .args .count) (c .before .before .before .before .before .before .before .before .before .before .before .before .before .before .args .at) q _ (c .before .before .before .before .before .before .before .before .before .loop .made) _ _ (c .before .before .before .before .before .before .before .before .loop-test .taken) m g (c .before .before .before .before .before .before .one-pass .ensures) (c .before .before .before .before .before .before .before .before .before .loop .inv .1 n q clocks m g a) _ (c .before .before .pass .given .1) (c .if1 .left)
-
-enum-told : tie.Need-enum-told Inv-loop μ-loop
-enum-told c = search needs
-
-same-length-2 : tie.Need-same-length-2 Inv-loop μ-loop
-same-length-2 c = c .before .before .before .before .one-pass .kept .1 .1 .1 .1 .1 .0 ∙ c .before .before .before .before .before .before .before .loop .inv .0
-
-returns-2 : tie.Need-returns-2 Inv-loop μ-loop
-returns-2 c = λ n q clocks m g a. repeating-deep (c .before .before .before .before .before .before .before .before .before .before .before .before .args .names) (tokens (now (c .before .before .before .before .before .before .before .before .before .before .before .before .args .tags)) (now (c .before .before .before .before .before .before .before .before .before .before .before .before .args .values))) n (c .before .before .before .before .before .before .before .loop .env) _ (now (c .before .before .before .before .before .before .before .before .before .before .before .before .args .marks)) (c .before .before .before .before .before .before .before .before .before .before .before .before .args .count) (c .before .before .before .before .before .before .before .before .before .before .before .before .args .at) q _ (c .before .before .before .before .before .before .before .loop .made) _ _ (c .before .before .before .before .before .before .loop-test .taken) m g (c .before .before .before .before .one-pass .ensures) (c .before .before .before .before .before .before .before .loop .inv .1 n q clocks m g a) (c .enum-told .given .1)
-
-same-length-3 : tie.Need-same-length-3 Inv-loop μ-loop
-same-length-3 c = c .before .loop .inv .0
-
-returns-3 : tie.Need-returns-3 Inv-loop μ-loop
-returns-3 c = λ n q clocks m g a. repeating-end _ n _ _ (c .before .loop .made) _ (c .loop-test .left) (c .before .loop .inv .1 n q clocks m g a)
+returns : tie.Need-returns
+returns c = λ n q clocks m g a. c .before .before .before .repeat-passes .ensures n q clocks m (c .before .before .before .before .before .before .before .equation-ends .ensures) g a
 
 pub all-passes-spec : {M : Type 1} → statement M
 all-passes-spec =
     tie.close
     (tie.spec
-    Inv-loop
-    μ-loop
-    add-most
-    loop-holds
-    one-pass-requires
-    enum-known-pass
-    add-made
-    loop-less
-    loop-again
+    equation-ends-requires
+    slice-aggregate-repeat-passes
+    repeat-passes-requires
     same-length
-    returns
-    enum-told
-    same-length-2
-    returns-2
-    same-length-3
-    returns-3)
+    returns)

@@ -1,55 +1,40 @@
--- `passes::one_equation` meets its contract: by what the natural clock of the right side is.
+-- `passes::one_equation` meets its contract: it is read, or can change nothing.
 -- Assumes nothing.
-use Rattle.passes.proofs.Laws.{equation-free, equation-on, equation-deep}
+use denote.Ref.{now}
+use Rattle.passes.proofs.Laws.{equation-calm}
 use borrow.Author.Needs.{needs}
 use Rattle.passes.proofs.one_equation.Statement.{statement}
 use Rattle.passes.proofs.one_equation.Tie as tie
 
-natural-clock-requires : tie.Need-natural-clock-requires
-natural-clock-requires c κs = search needs
+touched-requires : tie.Need-touched-requires
+touched-requires c κs = search needs
 
-enum-told : tie.Need-enum-told
-enum-told c = search needs
-
-enum-told-2 : tie.Need-enum-told-2
-enum-told-2 c = search needs
-
-give-names-requires : tie.Need-give-names-requires
-give-names-requires c κs = search needs
-
-enum-told-3 : tie.Need-enum-told-3
-enum-told-3 c = search needs
+read-equation-requires : tie.Need-read-equation-requires
+read-equation-requires c κs = search needs
 
 same-length : tie.Need-same-length
 same-length c = search needs
 
-returns : tie.Need-returns
-returns c = λ n p e q m l s. equation-free n e p _ q (c .before .before .before .natural-clock .ensures (e .right) q (p .clocks) (l .right) (s .agrees)) _ _ _ (c .enum-told .given .1) s
-
 same-length-2 : tie.Need-same-length-2
 same-length-2 c = search needs
 
-returns-2 : tie.Need-returns-2
-returns-2 c = λ n p e q m l s. equation-on n e p _ q (c .before .before .before .before .before .before .before .before .before .natural-clock .ensures (e .right) q (p .clocks) (l .right) (s .agrees)) _ _ _ (c .before .before .before .before .before .before .enum-told2 .given .1) (c .before .before .give-names .ensures n p (e .left) _ m (l .left .items) s)
+returns : tie.Need-returns
+returns c = λ n p e m g s h. c .before .before .before .before .read-equation .ensures n p e _ m g s
 
 same-length-3 : tie.Need-same-length-3
 same-length-3 c = search needs
 
-returns-3 : tie.Need-returns-3
-returns-3 c = λ n p e q m l s. equation-deep n e p _ q (c .before .before .before .natural-clock .ensures (e .right) q (p .clocks) (l .right) (s .agrees)) _ _ (c .enum-told3 .given .1)
+returns-2 : tie.Need-returns-2
+returns-2 c = λ n p e m g s h. equation-calm (c .before .before .before .before .before .before .before .before .args .names) (now (c .before .before .before .before .before .before .before .before .args .tags)) (now (c .before .before .before .before .before .before .before .before .args .values)) (now (c .before .before .before .before .before .before .before .before .args .since)) (c .before .before .before .before .before .before .before .before .pre) (c .before .before .before .before .before .before .before .before .args .made) (c .before .before .before .before .before .before .before .before .args .present) (c .before .before .before .before .before .before .before .before .args .at) (c .before .before .before .before .before .before .before .before .args .end) _ _ (c .before .touched .ensures (c .if1 .left)) n p e g s h
 
 pub one-equation-spec : {M : Type 1} → statement M
 one-equation-spec =
     tie.close
     (tie.spec
-    natural-clock-requires
-    enum-told
-    enum-told-2
-    give-names-requires
-    enum-told-3
+    touched-requires
+    read-equation-requires
     same-length
-    returns
     same-length-2
-    returns-2
+    returns
     same-length-3
-    returns-3)
+    returns-2)

@@ -17,38 +17,11 @@ loop-holds c = search needs
 returns : tie.Need-returns Inv-loop μ-loop
 returns c = search needs
 
-mul-show-fault : tie.Need-mul-show-fault Inv-loop μ-loop
-mul-show-fault c = search needs
+mul-f : tie.Need-mul-f Inv-loop μ-loop
+mul-f c = search needs
 
-mul-show-fault-2 : tie.Need-mul-show-fault-2 Inv-loop μ-loop
-mul-show-fault-2 c = search needs
-
-element-copy-out-show-fault : tie.Need-element-copy-out-show-fault Inv-loop μ-loop
-element-copy-out-show-fault c = search needs
-
-mul-show-fault-3 : tie.Need-mul-show-fault-3 Inv-loop μ-loop
-mul-show-fault-3 c = search needs
-
-add-show-fault : tie.Need-add-show-fault Inv-loop μ-loop
-add-show-fault c = search needs
-
-mul-show-fault-4 : tie.Need-mul-show-fault-4 Inv-loop μ-loop
-mul-show-fault-4 c = search needs
-
-element-copy-out-show-fault-2 : tie.Need-element-copy-out-show-fault-2 Inv-loop μ-loop
-element-copy-out-show-fault-2 c = search needs
-
-mul-show-fault-5 : tie.Need-mul-show-fault-5 Inv-loop μ-loop
-mul-show-fault-5 c = search needs
-
-add-show-fault-2 : tie.Need-add-show-fault-2 Inv-loop μ-loop
-add-show-fault-2 c = search needs
-
-mul-show-fault-6 : tie.Need-mul-show-fault-6 Inv-loop μ-loop
-mul-show-fault-6 c = search needs
-
-element-copy-out-show-fault-3 : tie.Need-element-copy-out-show-fault-3 Inv-loop μ-loop
-element-copy-out-show-fault-3 c = search needs
+array-copy-out-f : tie.Need-array-copy-out-f Inv-loop μ-loop
+array-copy-out-f c = search needs
 
 show-fault-requires : tie.Need-show-fault-requires Inv-loop μ-loop
 show-fault-requires c κs = search needs
@@ -73,17 +46,8 @@ show-faults-spec =
     μ-loop
     loop-holds
     returns
-    mul-show-fault
-    mul-show-fault-2
-    element-copy-out-show-fault
-    mul-show-fault-3
-    add-show-fault
-    mul-show-fault-4
-    element-copy-out-show-fault-2
-    mul-show-fault-5
-    add-show-fault-2
-    mul-show-fault-6
-    element-copy-out-show-fault-3
+    mul-f
+    array-copy-out-f
     show-fault-requires
     add-i
     loop-less

@@ -1,8 +1,7 @@
 -- `rewriting::list_faults` meets its contract. Assumes nothing.
-use mathlib.Core.Path.{refl, sym, _∙_, ap}
+use mathlib.Core.Path.{sym, _∙_, ap}
 use native.Mathlib.Omega.{arith}
 use Rattle.definitions.specs.Output.{condactId}
-use Rattle.query.proofs.Listings.{roomy}
 use Rattle.rewriting.proofs.Outcomes.{condact-few}
 use borrow.Author.Needs.{needs}
 use Rattle.rewriting.proofs.list_faults.Statement.{statement}
@@ -12,16 +11,10 @@ find-condact-requires : tie.Need-find-condact-requires
 find-condact-requires c κs = search needs
 
 narrow-requires : tie.Need-narrow-requires
-narrow-requires c κs = condact-few (c .before .before .before .before .before .before .args .given .now) (c .before .before .before .before .before .before .args .letters .now) (c .find-condact .result) (c .find-condact .ensures) (c .before .before .before .before .before .before .pre .1 .1)
+narrow-requires c κs = condact-few (c .before .before .before .before .before .before .before .before .args .given .now) (c .before .before .before .before .before .before .before .before .args .letters .now) (c .find-condact .result) (c .find-condact .ensures) (c .before .before .before .before .before .before .before .before .pre .1 .1)
 
 tables-of-requires : tie.Need-tables-of-requires
 tables-of-requires c κs = search needs
-
-slice-aggregate-write-first-faults : tie.Need-slice-aggregate-write-first-faults
-slice-aggregate-write-first-faults c = search needs
-
-slice-aggregate-write-first-faults-2 : tie.Need-slice-aggregate-write-first-faults-2
-slice-aggregate-write-first-faults-2 c = search needs
 
 write-first-faults-requires : tie.Need-write-first-faults-requires
 write-first-faults-requires c κs = search needs
@@ -29,21 +22,17 @@ write-first-faults-requires c κs = search needs
 same-length : tie.Need-same-length
 same-length c = search needs
 
+same-length-2 : tie.Need-same-length-2
+same-length-2 c = search needs
+
+same-length-3 : tie.Need-same-length-3
+same-length-3 c = search needs
+
 returns : tie.Need-returns
-returns c = λ r ns q tree named names tokens clocks.
-    let gate = c .before .before .before .before .before .before .before .before .before .narrow .ensures ∙ (c .before .before .before .before .before .before .before .before .before .before .find-condact .ensures ∙ ap condactId (sym named)) in
-    let t = c .before .before .before .before .before .before .before .before .tables-of .ensures in
-    c .before .before .before .before .write-first-faults .ensures r ns (t .1 r q tree gate) clocks (roomy _ _ _ _ (omega (arith, t .0 .0)) tokens refl refl)
+returns c = λ r ns q tree named room clocks.
+    let gate = c .before .before .before .before .before .before .before .before .before .before .before .narrow .ensures ∙ (c .before .before .before .before .before .before .before .before .before .before .before .before .find-condact .ensures ∙ ap condactId (sym named)) in
+    let t = c .before .before .before .before .before .before .before .before .before .before .tables-of .ensures in
+    c .before .before .before .before .before .before .write-first-faults .ensures r ns (t .1 r q tree gate) clocks (rw (t .0 .0) room)
 
 pub list-faults-spec : {M : Type 1} → statement M
-list-faults-spec =
-    tie.close
-    (tie.spec
-    find-condact-requires
-    narrow-requires
-    tables-of-requires
-    slice-aggregate-write-first-faults
-    slice-aggregate-write-first-faults-2
-    write-first-faults-requires
-    same-length
-    returns)
+list-faults-spec = tie.close (tie.spec find-condact-requires narrow-requires tables-of-requires write-first-faults-requires same-length same-length-2 same-length-3 returns)

@@ -1,0 +1,2 @@
+-- What the entry points that lend a list of fault records give.
+pub mod Given

@@ -1,0 +1,2 @@
+-- Fault records in words.
+pub mod Said

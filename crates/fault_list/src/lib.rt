@@ -1,0 +1,67 @@
+// The lent list of fault records. A function with a reference to records is proved by a walk of its MIR, by hand; what it works with are
+// words, three for each record, with room for 4,096 records. No fault has the number 0, which ends the records.
+use definitions::FaultRecord;
+ghost use mathlib.Core.Path.{_≡_};
+ghost use Prim.Native.Nat.{_<_};
+ghost use lib.ListN.{length, replicate, getD};
+ghost use Rattle.definitions.specs.Lists.{over};
+ghost use Rattle.fault_list.specs.Said.{least, recordAt, count, said};
+
+// Words that say no record.
+pub fn none_said() -> [u32; 12288]
+    ensures { λ r. ⌜ r ≡ replicate 12288 0 ⌝ }
+{
+    [0u32; 12288]
+}
+
+fn lesser(a: usize, b: usize) -> usize
+    ensures { λ r. ⌜ r ≡ least a b ⌝ }
+{
+    if a < b { a } else { b }
+}
+
+// How many records the words say.
+fn counted(words: &[u32; 12288]) -> usize
+    ensures { λ r. ⌜ r ≡ count (now (words .entry)) ⌝ }
+{
+    let mut i: usize = 0;
+    while i < 4096 {
+        if words[3 * i + 1] == 0 {
+            return i;
+        }
+        i += 1;
+    }
+    i
+}
+
+// How many of them a list of this length has places for.
+fn reach(words: &[u32; 12288], length: usize) -> usize
+    ensures { λ r. ⌜ r ≡ least (count (now (words .entry))) length ⌝ }
+{
+    let n = counted(words);
+    lesser(n, length)
+}
+
+// Record i of the words.
+fn record_at(words: &[u32; 12288], i: usize) -> FaultRecord
+    requires { ⌜ i < 4096 ⌝ }
+    ensures { λ r. ⌜ r ≡ recordAt (now (words .entry)) i ⌝ }
+{
+    FaultRecord {
+        node: words[3 * i],
+        fault: words[3 * i + 1],
+        equation: words[3 * i + 2],
+    }
+}
+
+// The records that the words say, over the front of the list as far as it reaches; later entries keep their values.
+pub fn put_said(list: &mut [FaultRecord], words: &[u32; 12288])
+    ensures { λ _. ⌜ now (list .exit) ≡ over (said (now (words .entry))) (now (list .entry)) ⌝ }
+{
+    let n = reach(words, list.len());
+    let mut i: usize = 0;
+    while i < n {
+        list[i] = record_at(words, i);
+        i = i + 1;
+    }
+}

@@ -1,0 +1,67 @@
+-- `passes::equation_ends` meets its contract: the table so far says where the first equations end. The measure is what is left.
+-- Assumes nothing.
+use mathlib.Core.Path.{_≡_, refl, sym, _∙_, ap}
+use native.Mathlib.Omega.{arith}
+use native.Mathlib.Numerals.{add-one}
+use Prim.Native.Nat.{ℕ, suc, _-_, _≤_, _<_}
+use lib.ListN.{length, getD, length-set}
+use Rattle.definitions.specs.Bytes.{tokens}
+use Rattle.typedefs.proofs.Laws.{filled-more}
+use Rattle.passes.specs.Settled.{endFrom, placeOf}
+use borrow.Author.Needs.{needs}
+use Rattle.passes.proofs.equation_ends.Statement.{statement}
+use Rattle.passes.proofs.equation_ends.Tie as tie
+
+abbrev Inv-loop : tie.InvT-loop
+Inv-loop tags values names count at most ends₀ place₀ i₀ ends place i =
+    (length ends ≡ 64) × (place ≡ placeOf names (tokens tags values) at i) × ((k : ℕ) → k < i → getD ends k 0 ≡ placeOf names (tokens tags values) at (suc k))
+
+abbrev μ-loop : tie.MeasureT-loop
+μ-loop tags values names count at most ends₀ place₀ i₀ ends place i = most - i
+
+least-requires : tie.Need-least-requires Inv-loop μ-loop
+least-requires c κs = search needs
+
+loop-holds : tie.Need-loop-holds Inv-loop μ-loop
+unfolding placeOf
+loop-holds c = (refl, refl, λ k h. absurd (omega arith))
+
+end-from-requires : tie.Need-end-from-requires Inv-loop μ-loop
+end-from-requires c κs = search needs
+
+mul-ends : tie.Need-mul-ends Inv-loop μ-loop
+mul-ends c = record { fits = omega (arith, c .before .before .before .least .ensures .0, c .before .loop-test .taken) }
+
+array-write-ends : tie.Need-array-write-ends Inv-loop μ-loop
+array-write-ends c = omega (arith, c .before .before .before .least .ensures .0, c .before .loop-test .taken)
+
+add-i : tie.Need-add-i Inv-loop μ-loop
+add-i c = record { fits = omega (arith, c .before .before .before .least .ensures .0, c .before .loop-test .taken) }
+
+loop-less : tie.Need-loop-less Inv-loop μ-loop
+loop-less c = omega (arith, c .before .loop-test .taken)
+
+loop-again : tie.Need-loop-again Inv-loop μ-loop
+unfolding placeOf
+loop-again c =
+    let e = c .end-from .ensures ∙ ap (endFrom _ _) (c .before .before .loop .inv .1) in
+    (length-set (c .before .before .loop .ends) (c .before .before .loop .i) (c .end-from .result) ∙ c .before .before .loop .inv .0, e ∙ ap (placeOf _ _ _) (sym (add-one (c .before .before .loop .i))), filled-more (λ k. placeOf _ _ _ (suc k)) (c .before .before .loop .ends) (c .before .before .loop .i) (c .end-from .result) (omega (arith, c .before .before .before .least .ensures .0, c .before .loop-test .taken, c .before .before .loop .inv .0)) (c .before .before .loop .inv .2) e)
+
+returns : tie.Need-returns Inv-loop μ-loop
+returns c = record { ends-at = λ k a b. c .before .loop .inv .2 k (omega (arith, c .before .before .least .ensures .1 k a b, c .loop-test .left)) }
+
+pub equation-ends-spec : {M : Type 1} → statement M
+equation-ends-spec =
+    tie.close
+    (tie.spec
+    Inv-loop
+    μ-loop
+    least-requires
+    loop-holds
+    end-from-requires
+    mul-ends
+    array-write-ends
+    add-i
+    loop-less
+    loop-again
+    returns)

@@ -37,9 +37,10 @@ extern "C" {
 /* Enough for the faults that declock_rewrite lists of any sheet: a sheet has at most 16 nodes, and each has at most one first fault. */
 #define DECLOCK_FAULTS 16
 
-/* Stack that is enough for any call. A usual sheet takes 1.0 to 1.1 MB (declock_listings 1.8 MB). The walks over an expression's operands
- * call themselves for each operand, so that a sheet can ask for more: the most that we measured, on sheets built for it, is 2.6 MB for
- * declock_rewrite, 2.1 MB for declock_text, 2.4 MB for declock_listing and 3.1 MB for declock_listings. */
+/* Stack that is enough for any call, counted from the compiled functions and the limits of a sheet. A usual sheet takes 1.1 MB
+ * (declock_listings 1.8 MB). Some walks over an expression call themselves for each operand, so that a sheet can ask for more; the most
+ * that we measured, on 1,564 sheets built for it: declock_rewrite 2.9 MB, declock_text 2.1 MB, declock_listing and declock_clocks 2.4 MB,
+ * declock_listings 3.1 MB. */
 #define DECLOCK_STACK_BYTES 4194304
 
 /* Why a sheet is turned down, in checking order: the first that applies is answered. After each, what *place is. */

@@ -38,9 +38,9 @@ extern "C" {
 #define DECLOCK_FAULTS 16
 
 /* Stack that is enough for any call, counted from the compiled functions and the limits of a sheet. A usual sheet takes 1.1 MB
- * (declock_listings 1.8 MB). Some walks over an expression call themselves for each operand, so that a sheet can ask for more; the most
- * that we measured, on 1,564 sheets built for it: declock_rewrite 2.9 MB, declock_text 2.1 MB, declock_listing and declock_clocks 2.4 MB,
- * declock_listings 3.1 MB. */
+ * (declock_text 0.8 MB). Finding an expression's clock calls itself for each operand, 632 bytes a call and at most 32 times 65 deep, so
+ * that a sheet can ask for 1.4 MB more; the most that we measured, on 1,836 sheets built for it: declock_rewrite, declock_listing and
+ * declock_listings 2.3 MB, declock_text 2.0 MB, declock_clocks 2.4 MB. */
 #define DECLOCK_STACK_BYTES 4194304
 
 /* Why a sheet is turned down, in checking order: the first that applies is answered. After each, what *place is. */

@@ -19,12 +19,12 @@ use Rattle.tokens.specs.Found.{kindOption}
 use Rattle.definitions.specs.Bytes.{tokens}
 use Rattle.definitions.specs.Tree.{Declared, Node}
 use Rattle.definitions.specs.Reading.{got, times}
-use Rattle.definitions.specs.Grammar.{declaration, node}
+use Rattle.definitions.specs.Grammar.{declaration, equation, probe, node}
 use Rattle.definitions.specs.Declock.{isOperatorKind, operatorOutputs}
 use Rattle.layout.specs.declared.Span.{Span}
-use Rattle.layout.specs.Spans.{pastIn, kindIn, kindOr, spanBy, Spans}
+use Rattle.layout.specs.Spans.{pastIn, kindIn, kindOr, Spanned, Spans}
 use Rattle.layout.specs.Laid.{Places}
-use Rattle.layout.proofs.Laws.{nowhere, laid}
+use Rattle.layout.proofs.Laws.{nowhere, laid, spanned-by}
 use Rattle.callees.specs.declared.Callee.{Callee}
 use Rattle.callees.specs.Callees.{firstNamed, operatorIn, isThere, Standing, Called}
 
@@ -70,10 +70,6 @@ pub none-called : (M : ℕ) (ts : List TagValue) (f : ℕ) (l : List Node) (n : 
 unfolding Called
 none-called M ts f l n k i e h = rw (nothing-called f l n k i e h) tt
 
--- the outputs that the code finds
-pub outputs-found : (M : ℕ) (gs vs : List ℕ) (p a b : ℕ) (i o : Span) → a ≡ pastIn (length gs) p → b ≡ pastIn (length gs) a → i ≡ spanBy (declaration M) gs vs b → o ≡ spanBy (declaration M) gs vs (i .end) → o ≡ spanBy (declaration M) gs vs (spanBy (declaration M) gs vs (pastIn (length gs) (pastIn (length gs) p)) .end)
-outputs-found M gs vs p a b i o ea eb ei eo = eo ∙ ap (λ (s : Span). spanBy (declaration M) gs vs (s .end)) (ei ∙ ap (spanBy (declaration M) gs vs) (eb ∙ ap (pastIn (length gs)) ea))
-
 -- ---- the kind that a value says
 pub says-kind : (v : ℕ) (o : FoundKind) (k : NodeKind) → kindOption o ≡ kindOf v → o ≡ FoundKind.Kind k → operatorIn v ≡ isOperatorKind k
 says-kind v o k e g = sym (ap (λ (z : Option NodeKind). isOperatorKind (kindOr z)) (ap kindOption (sym g) ∙ e))
@@ -84,18 +80,17 @@ says-none v o e g = sym (ap (λ (z : Option NodeKind). isOperatorKind (kindOr z)
 -- ---- what stands at a node's place
 -- M is the number of names
 module _ (M : ℕ) (gs vs : List ℕ) (same : length vs ≡ length gs) where
-  -- the outputs behind a node's name, kind and inputs
-  abbrev pub outputsAt : ℕ → Span
-  outputsAt p = spanBy (declaration M) gs vs (spanBy (declaration M) gs vs (pastIn (length gs) (pastIn (length gs) p)) .end)
-
+  -- a node's name, kind and outputs, by the code's places
   node-says : (p : ℕ) (n : Node) (q : ℕ) → node M (tokens gs vs) p ≡ got n q →
-      (getD vs p 0 ≡ n .name) × (kindIn (getD vs (pastIn (length gs) p) 0) ≡ n .kind) × Spans (declaration M) (tokens gs vs) (n .outputs) (outputsAt p)
+      (getD vs p 0 ≡ n .name) × (kindIn (getD vs (pastIn (length gs) p) 0) ≡ n .kind)
+      × ((a b : ℕ) (i o : Span) → a ≡ pastIn (length gs) p → b ≡ pastIn (length gs) a → Spanned (declaration M) gs vs b i → Spanned (declaration M) gs vs (i .end) o → Spans (declaration M) (tokens gs vs) (n .outputs) o)
   node-says p n q g =
-      let l = laid gs vs same M p _ _ refl refl _ _ _ _ _ refl refl refl refl refl _ _ _ refl refl refl n q g in
-      (l .named, l .kinded, l .outputs)
+      let l = laid gs vs same M p _ _ refl refl _ _ _ _ _ (spanned-by gs vs same (declaration M) _) (spanned-by gs vs same (declaration M) _) (spanned-by gs vs same (declaration M) _) (spanned-by gs vs same (equation M) _) (spanned-by gs vs same (probe M) _) _ _ _ refl refl refl n q g in
+      (l .named, l .kinded, λ a b i o ea eb ei eo. laid gs vs same M p a b ea eb i o _ _ _ ei eo (spanned-by gs vs same (declaration M) _) (spanned-by gs vs same (equation M) _) (spanned-by gs vs same (probe M) _) _ _ _ refl refl refl n q g .outputs)
 
   module _ (places : List ℕ) (n : ℕ) (l : List Node) (s : Standing M gs vs places n l) (i : ℕ) (h : i < n) where
-    at-place : (getD vs (getD places i 0) 0 ≡ getD l i nowhere .name) × (kindIn (getD vs (pastIn (length gs) (getD places i 0)) 0) ≡ getD l i nowhere .kind) × Spans (declaration M) (tokens gs vs) (getD l i nowhere .outputs) (outputsAt (getD places i 0))
+    at-place : (getD vs (getD places i 0) 0 ≡ getD l i nowhere .name) × (kindIn (getD vs (pastIn (length gs) (getD places i 0)) 0) ≡ getD l i nowhere .kind)
+        × ((a b : ℕ) (s o : Span) → a ≡ pastIn (length gs) (getD places i 0) → b ≡ pastIn (length gs) a → Spanned (declaration M) gs vs b s → Spanned (declaration M) gs vs (s .end) o → Spans (declaration M) (tokens gs vs) (getD l i nowhere .outputs) o)
     at-place = let a = s .each .stands i (getD l i nowhere) (get-at l i (omega (arith, s .count))) in node-says (getD places i 0) (getD l i nowhere) (a .0) (a .1)
 
     pub name-there : getD vs (getD places i 0) 0 ≡ getD l i nowhere .name
@@ -116,6 +111,6 @@ module _ (M : ℕ) (gs vs : List ℕ) (same : length vs ≡ length gs) where
       unfolding Called
       other-called j = rw (outputs-are, j) tt
 
-      pub operator-called : operatorIn v ≡ true → (s : Span) → s ≡ outputsAt (getD places i 0) → Called M (tokens gs vs) (operatorOutputs l f) (Callee.Operator (s .at) (s .count))
+      pub operator-called : operatorIn v ≡ true → (a b : ℕ) (s o : Span) → a ≡ pastIn (length gs) (getD places i 0) → b ≡ pastIn (length gs) a → Spanned (declaration M) gs vs b s → Spanned (declaration M) gs vs (s .end) o → Called M (tokens gs vs) (operatorOutputs l f) (Callee.Operator (o .at) (o .count))
       unfolding Called
-      operator-called j s m = rw (outputs-are, j, m) (_, at-place .2 .items)
+      operator-called j a b s o ea eb ei eo = rw (outputs-are, j) (_, at-place .2 a b s o ea eb ei eo .items)

@@ -256,7 +256,7 @@ fn check_over(
             check_expr(tags, values, names, env, table, equation, &on, at, n)
         }
         Presence::Deep => {
-            let end = operands::skip(tags, values, names, at);
+            let end = extents::expr_end(tags, values, at);
             let m = findings::push_deep(table, n);
             Walked { end: end, count: m }
         }

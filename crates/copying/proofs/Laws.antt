@@ -17,7 +17,7 @@ use Rattle.definitions.specs.Reading.{got, rejected, token}
 use Rattle.definitions.specs.Grammar.{high, count, counted, ty, exprs, fields, form, mostCounted, deepestType}
 use Rattle.definitions.specs.Output.{tyTokens, fieldTokens, iterationTokens, itemTokens, exprTokens, operandTokens}
 use Rattle.grammar.specs.declared.Shape.{Shape}
-use Rattle.grammar.specs.Shape.{shapeOf}
+use Rattle.grammar.specs.Shape.{shapeOf, following}
 use Rattle.grammar.proofs.Longer.{type-grows}
 use Rattle.grammar.proofs.Got.{bool-got, int-got, float-got, char-got, var-got, unary-got, binary-got, if-got, field-got, index-got, pre-got, arrow-got, when-got, when-not-got, merge-got, call-got, tuple-got, array-got, struct-got, cast-got, map-got, fold-got, exprs-nil, exprs-one}
 use Rattle.operands.specs.declared.Gap.{Gap}
@@ -28,7 +28,7 @@ use Rattle.operands.specs.Spread.{tree, spread, later, pastIn}
 use Rattle.operands.specs.Laid.{plainAt, operandsAt}
 use Rattle.operands.specs.Viewed.{Viewed}
 use Rattle.operands.proofs.Deeper.{tree-head}
-use Rattle.operands.proofs.Laws.{high-place, counted-place, past-in, spread-nil, spread-cons, laid-of}
+use Rattle.operands.proofs.Laws.{high-place, counted-place, past-in, spread-nil, spread-cons, laid-at, laid-of}
 use Rattle.shapes.specs.Shape.{many}
 use Rattle.shapes.proofs.Gives.{Stands, _then_}
 use Rattle.copying.specs.Copied.{around, slice, woven, Copied}
@@ -144,7 +144,7 @@ slice-head : (ts : List TagValue) (t : Token) (p s first : ℕ) → s ≡ p + 1 
 slice-head ts t p s first i j h = let n : first - p ≡ suc (first - s) = omega arith in rw (n, sym (h .stand))
 
 -- THE LAW: what the code finds of a first token's operands says what is copied
-pub copied-of : (M : ℕ) (ts : List TagValue) (p : ℕ) (t : ExprToken) (s : ℕ) (h : Shape) (o : Operands) (v : View) → token (exprTokenOf M) ts p ≡ got t s → h ≡ shapeOf t → o ≡ operandsAt M ts h s →
+pub copied-of : (M : ℕ) (ts : List TagValue) (p : ℕ) (t : ExprToken) (s : ℕ) (h : Shape) (o : Operands) (v : View) → token (exprTokenOf M) ts p ≡ got t s → h ≡ shapeOf t → ((es : Exprs) (q : ℕ) → following M h (tree M) ts s ≡ got es q → o ≡ operandsAt M ts h s) →
     v ≡ record { role = v .role; first = o .first; count = o .count; gap = o .gap } → Copied M ts p v
 copied-of M ts p t s h o v g i j k = record { copied = go }
   where
@@ -154,7 +154,7 @@ copied-of M ts p t s h o v g i j k = record { copied = go }
         let b : t ≡ a .0 = cc (a .1) in
         let c : s ≡ p + 1 = cc (a .1) in
         let d : form M t (tree M) ts s ≡ got e q = rw (b, c) (a .2) in
-        let m : o ≡ operandsAt M ts (shapeOf t) s = j ∙ ap (λ (z : Shape). operandsAt M ts z s) i in
+        let m : o ≡ operandsAt M ts (shapeOf t) s = laid-at M ts t s h o i j e q d in
         let n = laid-of M ts t s h o i j .past e q d in
         let f : map codeOf (around e ps) ≡ codeOf (Token.Expression t) ∷ (slice ts s (o .first) ++ woven M ts (o .gap) (o .count) (o .first) (map (map codeOf) ps)) = rw m (form-follows M ts s e q t d ps (l ∙ ap (λ (z : View). z .count) k ∙ ap (λ (z : Operands). z .count) m)) in
         rw k (f ∙ sym (ap (λ (z : List TagValue). z ++ woven M ts (o .gap) (o .count) (o .first) (map (map codeOf) ps)) (slice-head ts (Token.Expression t) p s (o .first) c n (expr-stands ts M p t s g))))

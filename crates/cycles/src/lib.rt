@@ -117,9 +117,10 @@ pub fn edges(tags: &[u8], values: &[u32], names: u32, places: &[usize; 32], n: u
     requires { ⌜ n ≤ 32 ⌝ }
     ensures { λ r. ⌜ ((types : List TypeDef) → Table names (tokens (now (tags .entry)) (now (values .entry))) (now (places .entry)) n types → Edges types n r) ⌝ }
 {
+    let most = 32 * n;
     let mut go = [0u8; 1024];
     let mut k: usize = 0;
-    while k < 1024 {
+    while k < most {
         go[k] = edge(tags, values, names, places, n, k / 32, k % 32);
         k += 1;
     }

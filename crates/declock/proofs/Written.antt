@@ -1,8 +1,9 @@
 -- A node with its working tables: what each part that is written says of it.
 -- Assumes nothing.
 use Prim.Native.Nat.{ℕ, _+_, _≤_, _<_}
-use mathlib.Core.Path.{_≡_, sym, ap, ap₂, _∙_, subst}
+use mathlib.Core.Path.{_≡_, refl, sym, ap, ap₂, _∙_, subst}
 use mathlib.Core.List.{List, [], _∷_, _++_, map}
+use mathlib.Core.Bool.{false}
 use native.Mathlib.Omega.{arith}
 use lib.ListN.{length, length-append}
 use Rattle.definitions.specs.declared.Token.{Token}
@@ -10,9 +11,11 @@ use Rattle.definitions.specs.Lists.{join, Letters}
 use Rattle.definitions.specs.Tree.{Equation, Node}
 use Rattle.definitions.specs.Clock.{Clock, inChainOrder}
 use Rattle.definitions.specs.Output.{lettersOf, declaredTokens, countedTokens, equationTokens, probeTokens, nodeTokens}
+use Rattle.definitions.specs.Declock.{Hold}
 use Rattle.layout.specs.declared.NodeLayout.{NodeLayout}
 use Rattle.order.specs.Order.{rowOf, picked}
 use Rattle.emit.specs.Out.{Out, emits}
+use Rattle.emit.proofs.Laws.{emits-none}
 use Rattle.needs.specs.Need.{Needs}
 use Rattle.stateless.specs.Yield.{Ids, Yield}
 use Rattle.stateless.specs.Faults.{oldFault}
@@ -21,7 +24,7 @@ use Rattle.stateless.specs.Rewritten.{localsBy, nodeBy}
 use Rattle.openings.specs.declared.Mode.{Mode}
 use Rattle.openings.specs.declared.Sizes.{Sizes}
 use Rattle.openings.specs.Planned.{idsOf}
-use Rattle.openings.specs.Shown.{told}
+use Rattle.openings.specs.Shown.{isTree, told}
 use Rattle.expressions.specs.declared.Walked.{Walked}
 use Rattle.equations.specs.Old.{Shows, FineOld}
 use Rattle.flags.specs.Tabled.{Tabled}
@@ -99,28 +102,54 @@ module _ (names : List Letters) {gs vs places typePlaces env flags firsts flagOr
   few-locals : length (node .locals) ≤ 128
   few-locals = omega (arith, h .few-declared, length-append (node .inputs) (node .outputs ++ node .locals), length-append (node .outputs) (node .locals))
 
+  -- what the old equations show of their holds
+  pub holds-shown : (m : Mode) (o : Out) {o′ : Out} {end : ℕ} {r : Walked} → isTree m ≡ false → Shows m ids 0 y end o o′ r → o′ ≡ emits o (told m [] ids 0 (y .holds))
+  unfolding told
+  holds-shown m o f s = s .written ∙ ap (emits o) (untold m f)
+    where
+      untold : (m : Mode) → isTree m ≡ false → told m (join (map equationTokens (y .value))) ids 0 (y .holds) ≡ told m [] ids 0 (y .holds)
+      untold Mode.Nothing f = refl
+      untold Mode.Tree f = let z : _≡_ {A = ℕ} 0 1 = cc in absurd (omega arith)
+      untold Mode.Equations f = refl
+      untold Mode.Declarations f = refl
+
+  -- where none is needed, nothing
+  pub holds-none : (m : Mode) (o : Out) → isTree m ≡ false → l .holds ≡ 0 → o ≡ emits o (told m [] ids 0 (y .holds))
+  unfolding told
+  holds-none m o f z = sym (ap (λ (hs : List Hold). emits o (told m [] ids 0 hs)) (none-of (y .holds) (counts .2 ∙ z)) ∙ (ap (emits o) (untold m) ∙ emits-none o))
+    where
+      none-of : (hs : List Hold) → length hs ≡ 0 → hs ≡ []
+      none-of [] e = refl
+      none-of (x ∷ hs) e = absurd (omega (arith, e))
+
+      untold : (m : Mode) → told m [] ids 0 [] ≡ []
+      untold Mode.Nothing = refl
+      untold Mode.Tree = refl
+      untold Mode.Equations = refl
+      untold Mode.Declarations = refl
+
   -- the front
-  pub ready-front : (o : Out) {o₁ o₂ o₃ o₄ o₅ : Out} {more end : ℕ} {r : Walked} → Counts 0 more
+  pub ready-front : (o : Out) {o₁ o₂ o₃ o₄ o₅ : Out} {more : ℕ} → Counts 0 more
       → o₁ ≡ emits o (Token.Node (node .name) ∷ Token.Kind (node .kind) ∷ (countedTokens declaredTokens (node .inputs) ++ countedTokens declaredTokens (node .outputs)))
       → (length (node .locals) + more < 4294967296 → o₂ ≡ emits o₁ (Token.Count (length (node .locals) + more) ∷ join (map declaredTokens (node .locals))))
       → o₃ ≡ emits o₂ (join (map declaredTokens (map localDeclared (flagLocals ids (picked (rowOf flags) flagOrder 0 (l .flags))))))
       → o₄ ≡ emits o₃ (join (map declaredTokens (map localDeclared (firstLocals ids (picked (rowOf firsts) firstOrder 0 (l .firsts))))))
-      → Shows Mode.Declarations ids 0 y end o₄ o₅ r → o₅ ≡ emits o (frontTokens node new)
+      → o₅ ≡ emits o₄ (told Mode.Declarations [] ids 0 (y .holds)) → o₅ ≡ emits o (frontTokens node new)
   unfolding told
-  ready-front o {o₁} {o₂} {o₃} {o₄} {o₅} {more} {end} {r} n a b c d s =
+  ready-front o {o₁} {o₂} {o₃} {o₄} {o₅} {more} n a b c d s =
       let t = h .tables in
       let m : more ≡ length new = counted 0 more (omega arith) n ∙ omega arith in
       front-written node (flagLocals ids flagged) (firstLocals ids firstly) (holdLocals ids 0 (y .holds)) o o₁ o₂ o₃ o₄ o₅ more m a
       (b (omega (arith, m, new-many, counts .3, counts .4, counts .5, few-locals)))
       (c ∙ ap (λ (cs : List Clock). emits o₂ (join (map declaredTokens (map localDeclared (flagLocals ids cs))))) (t .flag-order .sorted))
       (d ∙ ap (λ (cs : List Clock). emits o₃ (join (map declaredTokens (map localDeclared (firstLocals ids cs))))) (t .first-order .sorted))
-      (s .written)
+      s
 
   -- the body
-  pub ready-body : (o : Out) {o₁ o₂ o₃ o₄ o₅ : Out} {old total end end′ : ℕ} {r r′ : Walked} → old ≡ length (node .equations) → Counts old total → o₁ ≡ emits o (Token.Count total ∷ [])
+  pub ready-body : (o : Out) {o₁ o₂ o₃ o₄ o₅ : Out} {old total end : ℕ} {r : Walked} → old ≡ length (node .equations) → Counts old total → o₁ ≡ emits o (Token.Count total ∷ [])
       → o₂ ≡ emits o₁ (join (map equationTokens (map localEquation (flagLocals ids (picked (rowOf flags) flagOrder 0 (l .flags))))))
       → o₃ ≡ emits o₂ (join (map equationTokens (map localEquation (firstLocals ids (picked (rowOf firsts) firstOrder 0 (l .firsts))))))
-      → Shows Mode.Equations ids 0 y end o₃ o₄ r → Shows Mode.Tree ids 0 y end′ o₄ o₅ r′ → o₅ ≡ emits o (bodyTokens new (y .value))
+      → o₄ ≡ emits o₃ (told Mode.Equations [] ids 0 (y .holds)) → Shows Mode.Tree ids 0 y end o₄ o₅ r → o₅ ≡ emits o (bodyTokens new (y .value))
   unfolding told
   ready-body o {o₁} {o₂} {o₃} {o₄} {o₅} {old} {total} u n a b c s s′ =
       let t = h .tables in
@@ -129,7 +158,7 @@ module _ (names : List Letters) {gs vs places typePlaces env flags firsts flagOr
       body-written node (flagLocals ids flagged) (firstLocals ids firstly) (holdLocals ids 0 (y .holds)) o o₁ o₂ o₃ o₄ o₅ (y .value) total m a
       (b ∙ ap (λ (cs : List Clock). emits o₁ (join (map equationTokens (map localEquation (flagLocals ids cs))))) (t .flag-order .sorted))
       (c ∙ ap (λ (cs : List Clock). emits o₂ (join (map equationTokens (map localEquation (firstLocals ids cs))))) (t .first-order .sorted))
-      (s .written) (s′ .written)
+      s (s′ .written)
 
   -- the whole node
   pub ready-node : (o : Out) {o₁ o₂ o₃ : Out} → o₁ ≡ emits o (frontTokens node new) → o₂ ≡ emits o₁ (bodyTokens new (y .value)) → o₃ ≡ emits o₂ (countedTokens probeTokens (node .probes))

@@ -9,8 +9,9 @@ use new_names::Locals;
 use openings::Mode;
 use openings::Sizes;
 ghost use mathlib.Core.Path.{_≡_};
-ghost use mathlib.Core.List.{List};
-ghost use Prim.Native.Nat.{_+_, _≤_};
+ghost use mathlib.Core.List.{List, []};
+ghost use mathlib.Core.Bool.{false};
+ghost use Prim.Native.Nat.{ℕ, _+_, _≤_};
 ghost use lib.ListN.{length};
 ghost use Rattle.definitions.specs.Lists.{Letters};
 ghost use Rattle.definitions.specs.Output.{nodeTokens};
@@ -18,6 +19,7 @@ ghost use Rattle.emit.specs.Out.{out, emits};
 ghost use Rattle.stateless.specs.Yield.{Ids};
 ghost use Rattle.stateless.specs.Rewritten.{localsBy, nodeBy};
 ghost use Rattle.openings.specs.Planned.{idsOf};
+ghost use Rattle.openings.specs.Shown.{isTree, told};
 ghost use Rattle.declock.specs.Parts.{frontTokens, bodyTokens};
 ghost use Rattle.declock.specs.Ready.{Ready, needsIn, yieldIn};
 
@@ -45,6 +47,55 @@ fn count_of(l: Locals, more: u32) -> u32
         return 0;
     }
     narrow(l.flags + l.firsts + l.holds) + more
+}
+
+// The declarations of the holds, or their equations; where there are none, no equation is gone over.
+fn put_holds(
+    tags: &[u8],
+    values: &[u32],
+    places: &[usize; 16],
+    type_places: &[usize; 32],
+    flags: &[u32],
+    firsts: &[u32],
+    flag_ids: &[u32],
+    first_ids: &[u32],
+    hold_ids: &[u32],
+    env: &[u32],
+    otags: &mut [u8; 8192],
+    ovalues: &mut [u32; 8192],
+    k: Sizes,
+    l: Locals,
+    layout: NodeLayout,
+    mode: Mode,
+    w: usize,
+) -> usize
+    requires { ⌜ length (now values) ≡ length (now tags) ⌝ }
+    requires { ⌜ (k .nodes ≤ 16) × (k .types ≤ 32) ⌝ }
+    ensures { λ r. ⌜ ((names : List Letters) (flagOrder firstOrder : List ℕ) (h : Ready names (now (tags .entry)) (now (values .entry)) (now (places .entry)) (now («type_places» .entry)) (now (env .entry)) (now (flags .entry)) (now (firsts .entry)) flagOrder firstOrder k l layout) (ids : Ids) → ids ≡ idsOf (now (flags .entry)) (now (firsts .entry)) (now («flag_ids» .entry)) (now («first_ids» .entry)) (now («hold_ids» .entry)) k → isTree mode ≡ false → out (now (otags .exit)) (now (ovalues .exit)) r ≡ emits (out (now (otags .entry)) (now (ovalues .entry)) w) (told mode [] ids 0 (yieldIn h ids .holds))) ⌝ }
+{
+    if l.holds == 0 {
+        return w;
+    }
+    let r = equations::old_equations(
+        tags,
+        values,
+        places,
+        type_places,
+        flags,
+        firsts,
+        flag_ids,
+        first_ids,
+        hold_ids,
+        env,
+        otags,
+        ovalues,
+        k,
+        layout,
+        mode,
+        w,
+        0,
+    );
+    r.next
 }
 
 // The node up to its equations, with its new locals behind its own.
@@ -81,7 +132,7 @@ fn put_declared(
     let j = l.firsts;
     let c = flags::put_declarations(otags, ovalues, b, flags, n, flag_ids, flag_order, m);
     let d = flags::put_declarations(otags, ovalues, c, firsts, i, first_ids, first_order, j);
-    let r = equations::old_equations(
+    put_holds(
         tags,
         values,
         places,
@@ -95,12 +146,11 @@ fn put_declared(
         otags,
         ovalues,
         k,
+        l,
         layout,
         Mode::Declarations,
         d,
-        0,
-    );
-    r.next
+    )
 }
 
 // The equations of the new locals, then the old ones.
@@ -150,7 +200,7 @@ fn put_body(
         first_order,
         j,
     );
-    let d = equations::old_equations(
+    let held = put_holds(
         tags,
         values,
         places,
@@ -164,12 +214,11 @@ fn put_body(
         otags,
         ovalues,
         k,
+        l,
         layout,
         Mode::Equations,
         c,
-        0,
     );
-    let held = d.next;
     let e = equations::old_equations(
         tags,
         values,

@@ -1,13 +1,13 @@
 -- Laws of the clocks of names in a table.
 -- Assumes nothing.
 use mathlib.Core.Path.{_≡_, refl, sym, _∙_, ap}
-use mathlib.Core.List.{List, [], _∷_}
+use mathlib.Core.List.{List, _∷_}
 use mathlib.Core.Bool.{Bool, true, false}
 use mathlib.Core.Option.{Option, none, some}
 use mathlib.Core.Logic.{_⊎_, inl, inr}
 use Prim.Native.Nat.{ℕ, _+_, _*_, _≤_, _<_}
 use native.Mathlib.Omega.{arith}
-use lib.ListN.{length, getD, set, List·getD-eq-default}
+use lib.ListN.{length, getD, set}
 use lib.Seq.{getD-set-same, getD-set-other}
 use lib.Dec.{eqb, ltb}
 use borrow.Author.Tests.{eq-eqb, ne-eqb, eqb-true, eqb-false, ltb-true, ltb-false}
@@ -65,18 +65,14 @@ zero-more t x l h y u = go (eqb y x) refl
         let m : y < x = omega (arith, eqb-false y x q) in
         getD-set-other t (17 * x) (17 * y) 0 0 n ∙ h y m
 
-pub cleared : (t t′ : List ℕ) (x : ℕ) → length t′ ≡ length t → length t′ ≤ 17 * x → Zero t′ x → Cleared t t′
-cleared t t′ x n l h = record { same-length = n; nowhere = λ y. env-none t′ y (go y (ltb y x) refl) }
-  where
-    go : (y : ℕ) (b : Bool) → ltb y x ≡ b → getD t′ (17 * y) 0 ≡ 0
-    go y true q = h y (ltb-true y x q)
-    go y false q = let m : length t′ ≤ 17 * y = omega (arith, ltb-false y x q) in List·getD-eq-default t′ 0 m
+-- no room: nothing changes
+pub cleared-out : (t : List ℕ) (m : ℕ) → length t < 17 * m → Cleared t t m
+cleared-out t m h = record { same-length = refl; nowhere = λ l. absurd (omega arith) }
+
+pub cleared-in : (t t′ : List ℕ) (m x : ℕ) → length t′ ≡ length t → m ≤ x → Zero t′ x → Cleared t t′ m
+cleared-in t t′ m x n l h = record { same-length = n; nowhere = λ _ y u. env-none t′ y (h y (omega arith)) }
 
 -- ---- agreeing with the definitions' list of clocks
-pub agrees-clear : (t t′ : List ℕ) (m : ℕ) → 17 * m ≤ length t → Cleared t t′ → Agrees t′ m []
-unfolding clockOf
-agrees-clear t t′ m l c = record { room = omega (arith, c .same-length); same = λ x u. c .nowhere x }
-
 pub agrees-assign : (t t′ : List ℕ) (m x : ℕ) (c : Clock) (clocks : Clocks) → x < m → Assigned t t′ x c → Agrees t m clocks → Agrees t′ m (record { name = x; clock = c } ∷ clocks)
 unfolding clockOf
 agrees-assign t t′ m x c clocks l a g = record { room = omega (arith, a .same-length, g .room); same = λ y u. go y u (eqb x y) refl }

@@ -25,7 +25,7 @@ pub record Assigned (t t′ : List ℕ) (x : ℕ) (c : Clock) : Type 0 where
   pub here : 17 * x + 17 ≤ length t → envAt t′ x ≡ some c
   pub elsewhere : (y : ℕ) → (y ≡ x → ⊥) → envAt t′ y ≡ envAt t y
 
--- t′ is as long as t, and no name has a clock
-pub record Cleared (t t′ : List ℕ) : Type 0 where
+-- t′ is as long as t, and no name below m has a clock if there is room for these
+pub record Cleared (t t′ : List ℕ) (m : ℕ) : Type 0 where
   pub same-length : length t′ ≡ length t
-  pub nowhere : (x : ℕ) → envAt t′ x ≡ none
+  pub nowhere : 17 * m ≤ length t → (x : ℕ) → x < m → envAt t′ x ≡ none

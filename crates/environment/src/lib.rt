@@ -30,12 +30,16 @@ pub fn assign(table: &mut [u32], x: u32, c: Clock)
     flat::store(table, b, c);
 }
 
-// No name has a clock.
-pub fn clear(table: &mut [u32])
-    ensures { λ r. ⌜ Cleared (now (table .entry)) (now (table .exit)) ⌝ }
+// No name below m has a clock, if the table has room for them.
+pub fn clear(table: &mut [u32], m: u32)
+    ensures { λ r. ⌜ Cleared (now (table .entry)) (now (table .exit)) m ⌝ }
 {
+    let n = m as usize;
+    if table.len() < 17 * n {
+        return;
+    }
     let mut x: usize = 0;
-    while 17 * x < table.len() {
+    while x < n {
         table[17 * x] = 0;
         x += 1;
     }

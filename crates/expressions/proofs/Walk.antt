@@ -1,7 +1,7 @@
 -- The walk in the code's terms: operands one after another, an expression by its plan, a held `pre`.
 -- Assumes nothing.
-use mathlib.Core.Path.{_≡_, sym, _∙_, ap}
-use mathlib.Core.List.{List, [], _∷_, _++_, map}
+use mathlib.Core.Path.{_≡_, refl, sym, _∙_, ap}
+use mathlib.Core.List.{List, [], _∷_, _++_, map, append-nil}
 use mathlib.Core.Bool.{Bool, true, false, _&&_}
 use mathlib.Core.Option.{some}
 use Prim.Native.Nat.{ℕ, zero, suc, _+_, _-_, _≤_, _<_}
@@ -16,21 +16,26 @@ use Rattle.definitions.specs.Bytes.{tokens}
 use Rattle.definitions.specs.Tree.{Ty, TypeDef, Expr, Exprs, Node}
 use Rattle.definitions.specs.Reading.{got}
 use Rattle.definitions.specs.Clock.{Clock}
+use Rattle.grammar.specs.Shape.{shapeOf}
+use Rattle.shapes.specs.Shape.{many}
 use Rattle.definitions.specs.Declock.{declared, operandType}
 use Rattle.definitions.specs.Output.{e, exprTokens, operandTokens, declaredTokens}
 use Rattle.operands.specs.declared.Gap.{Gap}
+use Rattle.operands.specs.declared.Operands.{Operands}
 use Rattle.operands.specs.declared.View.{View}
-use Rattle.operands.specs.Role.{roleOfExpr, operandsOf}
+use Rattle.operands.specs.Role.{roleOf, roleOfExpr, operandsOf}
+use Rattle.operands.specs.Laid.{operandsAt}
 use Rattle.operands.specs.Spread.{tree, spread, later, operandAt, restAt}
 use Rattle.operands.specs.Viewed.{Viewed}
-use Rattle.operands.proofs.Laws.{spread-nil}
+use Rattle.operands.proofs.Deeper.{tree-head}
+use Rattle.operands.proofs.Laws.{spread-nil, laid-of, viewed}
 use Rattle.natural.proofs.Laws.{apart, spread-end}
-use Rattle.needs.specs.Need.{hereOn, restOn, roomFor, within, withins}
+use Rattle.needs.specs.Need.{isLeaf, hereOn, restOn, roomFor, within, withins}
 use Rattle.needs.proofs.Laws.{parts-within}
 use Rattle.stateless.specs.Yield.{Ids, Yield, held, yield, yields}
-use Rattle.copying.specs.Copied.{slice, woven}
+use Rattle.copying.specs.Copied.{around, slice, woven, Copied}
 use Rattle.copying.proofs.Weaving.{woven-nil, woven-in}
-use Rattle.copying.proofs.Laws.{spread-many}
+use Rattle.copying.proofs.Laws.{copied-of, around-own, spread-many, view-many}
 use Rattle.emit.specs.Out.{Out, puts, emits}
 use Rattle.openings.specs.declared.Mode.{Mode}
 use Rattle.openings.specs.declared.Plan.{Plan}
@@ -47,6 +52,13 @@ right-true true b h = h
 right-true false b h = let z : _≡_ {A = ℕ} 0 1 = cc in absurd (omega arith)
 
 -- ---- operands
+module _ (M : ℕ) (ts : List TagValue) (types : List TypeDef) (nodes : List Node) (node : Node) (ids : Ids) where
+  -- so many of the operands are left from p on, the first on one clock and the others on another; what is made of these is what is made of all
+  pub record Remains (m : Mode) (on rest : Clock) (n : ℕ) (g : Gap) (count p : ℕ) (o : Out) (q : ℕ) (All : Out → Walked → Type 0) : Type 0 where
+    pub others : Exprs
+    pub fine : FineAll M ts types nodes node ids on rest n g count p others q
+    pub made : (o′ : Out) (r : Walked) → MadeAll M ts m ids n (yields types nodes node ids on rest n others) g count p q o o′ r → All o′ r
+
 module _ (M : ℕ) (gs vs : List ℕ) (same : length vs ≡ length gs) (types : List TypeDef) (nodes : List Node) (node : Node) (ids : Ids) where
   -- the first operand, and the others
   pub record First (here rest : Clock) (n : ℕ) (g : Gap) (count p : ℕ) (es : Exprs) (q place : ℕ) : Type 0 where
@@ -76,43 +88,113 @@ module _ (M : ℕ) (gs vs : List ℕ) (same : length vs ≡ length gs) (types : 
           past = s .past;
         }
 
-    pub all-none : (m : Mode) (o : Out) (r : Walked) → count ≡ 0 → r .holds ≡ n → r .end ≡ p → MadeAll M (tokens gs vs) m ids n (yields types nodes node ids here rest n es) g count p q o o r
+    all-none : (m : Mode) (o : Out) (r : Walked) → count ≡ 0 → r .holds ≡ n → r .end ≡ p → MadeAll M (tokens gs vs) m ids n (yields types nodes node ids here rest n es) g count p q o o r
     unfolding yield operandTokens
     all-none m o r z h k =
         let s = spread-nil M (tree M) (tokens gs vs) g count p es q z (F .stand) in
         rw (s .0) (record { written = none-written m ids n o (woven M (tokens gs vs) g count p []) (woven-nil M (tokens gs vs) g count p [] z); holds = h; end = k ∙ sym (s .1) })
 
     module _ (z : count ≡ 0 → ⊥) (place : ℕ) (i : place ≡ operandAt (length gs) g p) (m : Mode) (o o₁ o₂ : Out) (r : Walked) (E : (a : Expr) (u : ℕ) → Fine M (tokens gs vs) types nodes node ids here n place a u → Made m ids n (yield types nodes node ids here n a) u o₁ o₂ r) (next : ℕ) (k : next ≡ restAt (length gs) g (r .end)) where
-      pub all-past : next ≤ p → ⊥
+      all-past : next ≤ p → ⊥
       all-past h =
           let s = first-fine place z i in
           let d = E (s .first) (s .end) (s .fine) in
           let j : next ≡ restAt (length gs) g (s .end) = k ∙ ap (restAt (length gs) g) (d .end) in
           omega (arith, s .past)
 
-      pub all-then : (v : Gap) → v ≡ later g → (o₃ o₄ : Out) (t : Walked) → o₁ ≡ puts o (inTree m (slice (tokens gs vs) p place)) → o₃ ≡ puts o₂ (inTree m (slice (tokens gs vs) (r .end) next)) →
-          ((fs : Exprs) (u : ℕ) → FineAll M (tokens gs vs) types nodes node ids rest rest (r .holds) v (count - 1) next fs u → MadeAll M (tokens gs vs) m ids (r .holds) (yields types nodes node ids rest rest (r .holds) fs) v (count - 1) next u o₃ o₄ t) →
-          MadeAll M (tokens gs vs) m ids n (yields types nodes node ids here rest n es) g count p q o o₄ t
+      all-rest : (v : Gap) → v ≡ later g → (o₃ : Out) → o₁ ≡ puts o (inTree m (slice (tokens gs vs) p place)) → o₃ ≡ puts o₂ (inTree m (slice (tokens gs vs) (r .end) next)) →
+          (All : Out → Walked → Type 0) → ((o′ : Out) (t : Walked) → MadeAll M (tokens gs vs) m ids n (yields types nodes node ids here rest n es) g count p q o o′ t → All o′ t) → Remains M (tokens gs vs) types nodes node ids m rest rest (r .holds) v (count - 1) next o₃ q All
       unfolding yield operandTokens
-      all-then v j o₃ o₄ t a b R =
+      all-rest v j o₃ a b All A =
           let s = first-fine place z i in
           let d = E (s .first) (s .end) (s .fine) in
           let y = yield types nodes node ids here n (s .first) in
           let u : next ≡ restAt (length gs) g (s .end) = k ∙ ap (restAt (length gs) g) (d .end) in
-          let f : FineAll M (tokens gs vs) types nodes node ids rest rest (r .holds) v (count - 1) next (s .others) q = rw (d .holds, j, u) (s .then) in
-          let x = R (s .others) q f in
           let ys = yields types nodes node ids rest rest (y .after) (s .others) in
           let l = woven M (tokens gs vs) v (count - 1) next (map (map codeOf) (operandTokens (ys .value))) in
-          let x′ : o₄ ≡ puts o₃ (coded m l ids (y .after) (ys .holds)) = rw (d .holds) at (x .written) in
-          let h : o₄ ≡ puts o₃ (coded m l ids (n + length (y .holds)) (ys .holds)) = x′ ∙ ap (λ (k : ℕ). puts o₃ (coded m l ids k (ys .holds))) (after-is types nodes node ids (s .first) here n) in
-          rw (s .whole)
-          (record {
-            written = step-written m ids n (y .holds) (ys .holds) o o₁ o₂ o₃ o₄ (slice (tokens gs vs) p place) (slice (tokens gs vs) (s .end) next) (woven M (tokens gs vs) v (count - 1) next (map (map codeOf) (operandTokens (ys .value)))) (exprTokens (y .value)) a (d .written) (rw (d .end) at b) h
-                ∙ ap (λ (l : List TagValue). puts o (coded m l ids n (y .holds ++ ys .holds)))
-                (sym (woven-in M gs vs same g count p (map codeOf (exprTokens (y .value))) (map (map codeOf) (operandTokens (ys .value))) place (s .end) next v (s .first) z i (s .fine .stands) u j));
-            holds = x .holds ∙ rw (d .holds);
-            end = x .end;
-          })
+          record {
+            others = s .others;
+            fine = rw (d .holds, j, u) (s .then);
+            made = λ o₄ t x.
+                let x′ : o₄ ≡ puts o₃ (coded m l ids (y .after) (ys .holds)) = rw (d .holds) at (x .written) in
+                let h : o₄ ≡ puts o₃ (coded m l ids (n + length (y .holds)) (ys .holds)) = x′ ∙ ap (λ (k : ℕ). puts o₃ (coded m l ids k (ys .holds))) (after-is types nodes node ids (s .first) here n) in
+                A o₄ t (rw (s .whole)
+                (record {
+                  written = step-written m ids n (y .holds) (ys .holds) o o₁ o₂ o₃ o₄ (slice (tokens gs vs) p place) (slice (tokens gs vs) (s .end) next) (woven M (tokens gs vs) v (count - 1) next (map (map codeOf) (operandTokens (ys .value)))) (exprTokens (y .value)) a (d .written) (rw (d .end) at b) h
+                      ∙ ap (λ (l : List TagValue). puts o (coded m l ids n (y .holds ++ ys .holds)))
+                      (sym (woven-in M gs vs same g count p (map codeOf (exprTokens (y .value))) (map (map codeOf) (operandTokens (ys .value))) place (s .end) next v (s .first) z i (s .fine .stands) u j));
+                  holds = x .holds ∙ rw (d .holds);
+                  end = x .end;
+                }));
+          }
+
+  -- all of them
+  pub remains-all : (m : Mode) (here rest : Clock) (n : ℕ) (g : Gap) (count p : ℕ) (o : Out) (es : Exprs) (q : ℕ) → FineAll M (tokens gs vs) types nodes node ids here rest n g count p es q →
+      Remains M (tokens gs vs) types nodes node ids m here rest n g count p o q (λ o′ r. MadeAll M (tokens gs vs) m ids n (yields types nodes node ids here rest n es) g count p q o o′ r)
+  remains-all m here rest n g count p o es q F = record { others = es; fine = F; made = λ o′ r x. x }
+
+  module _ (m : Mode) (on rest : Clock) (n : ℕ) (g : Gap) (count p : ℕ) (o : Out) (q : ℕ) (All : Out → Walked → Type 0) (h : Remains M (tokens gs vs) types nodes node ids m on rest n g count p o q All) where
+    -- none
+    pub remains-none : (r : Walked) → count ≡ 0 → r .holds ≡ n → r .end ≡ p → All o r
+    remains-none r z i j = h .made o r (all-none on rest n g count p (h .others) q (h .fine) m o r z i j)
+
+    -- the first of them, and the others
+    module _ (z : count ≡ 0 → ⊥) (place : ℕ) (i : place ≡ operandAt (length gs) g p) (o₁ o₂ : Out) (r : Walked) (E : (a : Expr) (u : ℕ) → Fine M (tokens gs vs) types nodes node ids on n place a u → Made m ids n (yield types nodes node ids on n a) u o₁ o₂ r) (next : ℕ) (k : next ≡ restAt (length gs) g (r .end)) where
+      pub remains-past : next ≤ p → ⊥
+      remains-past = all-past on rest n g count p (h .others) q (h .fine) z place i m o o₁ o₂ r E next k
+
+      pub remains-rest : (v : Gap) → v ≡ later g → (o₃ : Out) → o₁ ≡ puts o (inTree m (slice (tokens gs vs) p place)) → o₃ ≡ puts o₂ (inTree m (slice (tokens gs vs) (r .end) next)) → Remains M (tokens gs vs) types nodes node ids m rest rest (r .holds) v (count - 1) next o₃ q All
+      remains-rest v j o₃ a b = all-rest on rest n g count p (h .others) q (h .fine) z place i m o o₁ o₂ r E next k v j o₃ a b All (h .made)
+
+-- ---- a leaf
+leaf-operands : (x : Expr) → isLeaf x ≡ true → operandsOf x ≡ Exprs.end
+unfolding operandsOf
+leaf-operands (Expr.const l w) h = refl
+leaf-operands (Expr.var y) h = refl
+leaf-operands (Expr.op o es) h = let z : _≡_ {A = ℕ} 0 1 = cc in absurd (omega arith)
+leaf-operands (Expr.pre a) h = let z : _≡_ {A = ℕ} 0 1 = cc in absurd (omega arith)
+leaf-operands (Expr.arrow a b) h = let z : _≡_ {A = ℕ} 0 1 = cc in absurd (omega arith)
+leaf-operands (Expr.call f es) h = let z : _≡_ {A = ℕ} 0 1 = cc in absurd (omega arith)
+leaf-operands (Expr.when k a) h = let z : _≡_ {A = ℕ} 0 1 = cc in absurd (omega arith)
+leaf-operands (Expr.merge y a b) h = let z : _≡_ {A = ℕ} 0 1 = cc in absurd (omega arith)
+
+-- it stays as it is
+leaf-yield : (types : List TypeDef) (nodes : List Node) (node : Node) (ids : Ids) (c : Clock) (n : ℕ) (x : Expr) → isLeaf x ≡ true → yield types nodes node ids c n x ≡ record { value = x; holds = []; after = n }
+unfolding yield
+leaf-yield types nodes node ids c n (Expr.const l w) h = refl
+leaf-yield types nodes node ids c n (Expr.var y) h = refl
+leaf-yield types nodes node ids c n (Expr.op o es) h = let z : _≡_ {A = ℕ} 0 1 = cc in absurd (omega arith)
+leaf-yield types nodes node ids c n (Expr.pre a) h = let z : _≡_ {A = ℕ} 0 1 = cc in absurd (omega arith)
+leaf-yield types nodes node ids c n (Expr.arrow a b) h = let z : _≡_ {A = ℕ} 0 1 = cc in absurd (omega arith)
+leaf-yield types nodes node ids c n (Expr.call f es) h = let z : _≡_ {A = ℕ} 0 1 = cc in absurd (omega arith)
+leaf-yield types nodes node ids c n (Expr.when k a) h = let z : _≡_ {A = ℕ} 0 1 = cc in absurd (omega arith)
+leaf-yield types nodes node ids c n (Expr.merge y a b) h = let z : _≡_ {A = ℕ} 0 1 = cc in absurd (omega arith)
+
+-- its tokens are the source's: there are no operands for these to stand around
+leaf-tokens : (M : ℕ) (ts : List TagValue) (p : ℕ) (x : Expr) (q : ℕ) → tree M ts p ≡ got x q → isLeaf x ≡ true → map codeOf (exprTokens x) ≡ slice ts p q
+unfolding operandTokens
+leaf-tokens M ts p x q g h =
+    let a = tree-head M ts p x q g in
+    let o : Operands = operandsAt M ts (shapeOf (a .0)) (p + 1) in
+    let v : View = record { role = roleOf (a .0); first = o .first; count = o .count; gap = o .gap } in
+    let seen : Viewed M ts p v = viewed M ts p (a .0) (p + 1) v o (a .1) refl (laid-of M ts (a .0) (p + 1) (shapeOf (a .0)) o refl (λ es u r. refl)) refl in
+    let C : Copied M ts p v = copied-of M ts p (a .0) (p + 1) (shapeOf (a .0)) o v (a .1) refl (λ es u r. refl) refl in
+    let n : v .count ≡ 0 = sym (view-many M ts p v x q seen g) ∙ ap many (leaf-operands x h) in
+    let f : q ≡ v .first = spread-nil M (tree M) ts (v .gap) (v .count) (v .first) (operandsOf x) q n (seen .operands x q g) .1 in
+    let t : exprTokens x ≡ around x [] = around-own x ∙ ap (λ (es : Exprs). around x (operandTokens es)) (leaf-operands x h) in
+    ap (map codeOf) t ∙ (C .copied x q g [] (sym n) ∙ (ap (λ (l : List TagValue). slice ts p (v .first) ++ l) (woven-nil M ts (v .gap) (v .count) (v .first) [] n) ∙ (append-nil (slice ts p (v .first)) ∙ ap (slice ts p) (sym f))))
+
+leaf-written : (m : Mode) (ids : Ids) (n : ℕ) (o o₁ : Out) (s : List TagValue) (l : List Token) → map codeOf l ≡ s → o₁ ≡ puts o (inTree m s) → o₁ ≡ emits o (told m l ids n [])
+unfolding emits puts inTree told
+leaf-written Mode.Nothing ids n o o₁ s l h k = k
+leaf-written Mode.Tree ids n o o₁ s l h k = k ∙ ap (puts o) (sym h)
+leaf-written Mode.Equations ids n o o₁ s l h k = k
+leaf-written Mode.Declarations ids n o o₁ s l h k = k
+
+pub leaf-made : (M : ℕ) (ts : List TagValue) (types : List TypeDef) (nodes : List Node) (node : Node) (ids : Ids) (c : Clock) (n p : ℕ) (x : Expr) (q : ℕ) → Fine M ts types nodes node ids c n p x q → isLeaf x ≡ true → (m : Mode) (o o₁ : Out) (r : Walked) →
+    o₁ ≡ puts o (inTree m (slice ts p (r .end))) → r .holds ≡ n → r .end ≡ q → Made m ids n (yield types nodes node ids c n x) q o o₁ r
+leaf-made M ts types nodes node ids c n p x q F h m o o₁ r k i j =
+    rw (leaf-yield types nodes node ids c n x h) (record { written = leaf-written m ids n o o₁ (slice ts p (r .end)) (exprTokens x) (leaf-tokens M ts p x q (F .stands) h ∙ ap (slice ts p) (sym j)) k; holds = i; end = j })
 
 -- ---- an expression
 module _ (M : ℕ) (ts : List TagValue) (types : List TypeDef) (nodes : List Node) (node : Node) (ids : Ids) (c : Clock) (n at : ℕ) (e : Expr) (q : ℕ) (F : Fine M ts types nodes node ids c n at e q) (v : View) (seen : Viewed M ts at v) where

@@ -178,6 +178,62 @@ pub fn expr(
     }
 }
 
+// The operand that stands there; a leaf stays as it is.
+fn operand(
+    tags: &[u8],
+    values: &[u32],
+    places: &[usize; 16],
+    type_places: &[usize; 32],
+    flags: &[u32],
+    firsts: &[u32],
+    flag_ids: &[u32],
+    first_ids: &[u32],
+    hold_ids: &[u32],
+    otags: &mut [u8; 8192],
+    ovalues: &mut [u32; 8192],
+    k: Sizes,
+    layout: NodeLayout,
+    mode: Mode,
+    c: Clock,
+    w: usize,
+    n: u32,
+    at: usize,
+) -> Walked
+    requires { ⌜ length (now values) ≡ length (now tags) ⌝ }
+    requires { ⌜ (k .nodes ≤ 16) × (k .types ≤ 32) ⌝ }
+    ensures { λ r. ⌜ ((g : Grounds (now (tags .entry)) (now (values .entry)) (now (places .entry)) (now («type_places» .entry)) (now (flags .entry)) (now (firsts .entry)) k layout) (ids : Ids) (e : Expr) (q : ℕ) → ids ≡ idsOf (now (flags .entry)) (now (firsts .entry)) (now («flag_ids» .entry)) (now («first_ids» .entry)) (now («hold_ids» .entry)) k → Fine (k .names) (tokens (now (tags .entry)) (now (values .entry))) (g .types) (g .nodes) (g .node) ids (valueOf c) n at e q → Made mode ids n (yield (g .types) (g .nodes) (g .node) ids (valueOf c) n e) q (out (now (otags .entry)) (now (ovalues .entry)) w) (out (now (otags .exit)) (now (ovalues .exit)) (r .next)) r) ⌝ }
+{
+    let end = needs::leaf_end(tags, values, at);
+    if 0 < end {
+        let a = openings::put_span(otags, ovalues, w, mode, tags, values, at, end);
+        return Walked {
+            next: a,
+            holds: n,
+            end: end,
+        };
+    }
+    expr(
+        tags,
+        values,
+        places,
+        type_places,
+        flags,
+        firsts,
+        flag_ids,
+        first_ids,
+        hold_ids,
+        otags,
+        ovalues,
+        k,
+        layout,
+        mode,
+        c,
+        w,
+        n,
+        at,
+    )
+}
+
 // So many operands, the first on the clock `here`, the others on `rest`, with the source's tokens around them.
 pub fn exprs(
     tags: &[u8],
@@ -206,72 +262,58 @@ pub fn exprs(
     requires { ⌜ (k .nodes ≤ 16) × (k .types ≤ 32) ⌝ }
     ensures { λ r. ⌜ ((g : Grounds (now (tags .entry)) (now (values .entry)) (now (places .entry)) (now («type_places» .entry)) (now (flags .entry)) (now (firsts .entry)) k layout) (ids : Ids) (es : Exprs) (q : ℕ) → ids ≡ idsOf (now (flags .entry)) (now (firsts .entry)) (now («flag_ids» .entry)) (now («first_ids» .entry)) (now («hold_ids» .entry)) k → FineAll (k .names) (tokens (now (tags .entry)) (now (values .entry))) (g .types) (g .nodes) (g .node) ids (valueOf here) (valueOf rest) n gap count at es q → MadeAll (k .names) (tokens (now (tags .entry)) (now (values .entry))) mode ids n (yields (g .types) (g .nodes) (g .node) ids (valueOf here) (valueOf rest) n es) gap count at q (out (now (otags .entry)) (now (ovalues .entry)) w) (out (now (otags .exit)) (now (ovalues .exit)) (r .next)) r) ⌝ }
 {
-    if count == 0 {
-        return Walked {
-            next: w,
-            holds: n,
-            end: at,
-        };
+    let mut left = count;
+    let mut from = at;
+    let mut between = gap;
+    let mut on = here;
+    let mut to = w;
+    let mut holds = n;
+    while 0 < left {
+        let place = operands::operand_at(tags, between, from);
+        let a = openings::put_span(otags, ovalues, to, mode, tags, values, from, place);
+        let r = operand(
+            tags,
+            values,
+            places,
+            type_places,
+            flags,
+            firsts,
+            flag_ids,
+            first_ids,
+            hold_ids,
+            otags,
+            ovalues,
+            k,
+            layout,
+            mode,
+            on,
+            a,
+            holds,
+            place,
+        );
+        let inner = r.next;
+        holds = r.holds;
+        let end = r.end;
+        let o = operands::after_operand(tags, between, end);
+        let next = o.next;
+        to = openings::put_span(otags, ovalues, inner, mode, tags, values, end, next);
+        if next <= from {
+            return Walked {
+                next: to,
+                holds: holds,
+                end: from,
+            };
+        }
+        from = next;
+        between = o.gap;
+        on = rest;
+        left -= 1;
     }
-    let place = operands::operand_at(tags, gap, at);
-    let a = openings::put_span(otags, ovalues, w, mode, tags, values, at, place);
-    let r = expr(
-        tags,
-        values,
-        places,
-        type_places,
-        flags,
-        firsts,
-        flag_ids,
-        first_ids,
-        hold_ids,
-        otags,
-        ovalues,
-        k,
-        layout,
-        mode,
-        here,
-        a,
-        n,
-        place,
-    );
-    let inner = r.next;
-    let holds = r.holds;
-    let end = r.end;
-    let o = operands::after_operand(tags, gap, end);
-    let next = o.next;
-    let later = o.gap;
-    let b = openings::put_span(otags, ovalues, inner, mode, tags, values, end, next);
-    if next <= at {
-        return Walked {
-            next: b,
-            holds: holds,
-            end: at,
-        };
+    Walked {
+        next: to,
+        holds: holds,
+        end: from,
     }
-    exprs(
-        tags,
-        values,
-        places,
-        type_places,
-        flags,
-        firsts,
-        flag_ids,
-        first_ids,
-        hold_ids,
-        otags,
-        ovalues,
-        k,
-        layout,
-        mode,
-        rest,
-        rest,
-        b,
-        holds,
-        later,
-        count - 1,
-        next,
-    )
 }
 
 // A `pre` that is held under this flag, of the operand that stands there: the operand's holds, then its own.

@@ -1,27 +1,26 @@
 -- Laws of tables of findings.
 -- Assumes nothing.
 use mathlib.Core.Path.{_≡_, refl, sym, _∙_, ap}
-use mathlib.Core.List.{List, [], _∷_, _++_, map, append-assoc, append-nil}
+use mathlib.Core.List.{List, [], _∷_, _++_, append-assoc, append-nil}
 use mathlib.Core.Bool.{Bool, true, false, _||_}
 use mathlib.Core.Logic.{_⊎_, inl, inr}
 use Prim.Native.Nat.{ℕ, zero, suc, _+_, _-_, _*_, _≤_, _<_}
 use native.Mathlib.Omega.{arith}
 use native.Mathlib.Numerals.{add-one, sub-one}
-use lib.ListN.{length, getD, set, length-set, length-map, length-append, List·getD-eq-default}
+use lib.ListN.{length, getD, set, length-set, length-append, List·getD-eq-default}
 use lib.Seq.{getD-set-same, getD-set-other}
 use lib.Dec.{eqb, ltb}
 use borrow.Author.Tests.{lt-ltb, le-ltb, eqb-true, eqb-false, ne-eqb, ltb-true, ltb-false}
 use Rattle.definitions.specs.declared.Test.{Test}
 use Rattle.definitions.specs.declared.Condition.{Condition}
-use Rattle.definitions.specs.Lists.{choose, any, over}
+use Rattle.definitions.specs.Lists.{choose, any}
 use Rattle.definitions.specs.Clock.{Clock, isBase}
-use Rattle.definitions.specs.Declock.{add}
-use Rattle.definitions.specs.InferClocks.{Fault, leftElsewhere, usedElsewhere, whenElsewhere, clockNameElsewhere, notSingleCall, faultNumber, NodeFault, Finding, found, site, tooDeep, isTooDeep, clockFaults, sites}
+use Rattle.definitions.specs.InferClocks.{Fault, leftElsewhere, usedElsewhere, whenElsewhere, clockNameElsewhere, notSingleCall, NodeFault, Finding, found, site, tooDeep, isTooDeep, clockFaults, sites}
 use Rattle.flat.specs.Flat.{wordOf, testOf, clockIn}
 use Rattle.flat.proofs.Laws.{Within, clock-same, test-word}
 use Rattle.rows.specs.Rows.{clocksFrom, clocksIn, Has}
 use Rattle.rows.proofs.Laws as rows
-use Rattle.findings.specs.Findings.{flagWord, faultAs, findingAs, faultIn, findingIn, findingsFrom, findingsIn, Holds, noFault, addAll}
+use Rattle.findings.specs.Findings.{flagWord, faultAs, findingAs, faultIn, findingIn, findingsFrom, findingsIn, Holds, noFault}
 
 -- ---- the findings of rows
 module _ (t : List ℕ) where
@@ -248,10 +247,23 @@ sites-append (site c ∷ k) l = go (isBase c) (sites-append k l)
     go false e = ap (λ (m : List Clock). c ∷ m) e
 sites-append (tooDeep ∷ k) l = sites-append k l
 
-pub all-append : (k l : List Clock) (cs : List Clock) → addAll (k ++ l) cs ≡ addAll l (addAll k cs)
-unfolding addAll
-all-append [] l cs = refl
-all-append (c ∷ k) l cs = all-append k l (add c cs)
+-- ---- a row that is a fault, or not
+module _ (t : List ℕ) (b k : ℕ) (e : k ≡ getD t b 0) where
+  pub row-is : (x : Bool) → x ≡ ltb k 5 → clockFaults (findingIn t b ∷ []) ≡ choose x (faultIn t b ∷ []) []
+  unfolding clockFaults
+  row-is true h = ap (λ (f : Finding). clockFaults (f ∷ [])) (row-fault t b (omega (arith, ltb-true k 5 (sym h))))
+  row-is false h = row-faultless t b (omega (arith, ltb-false k 5 (sym h))) []
+
+-- one row more
+faults-last : (t : List ℕ) (i : ℕ) → clockFaults (findingsIn t (i + 1)) ≡ clockFaults (findingsIn t i) ++ clockFaults (findingIn t (38 * i) ∷ [])
+faults-last t i = ap clockFaults (in-last t i) ∙ faults-append (findingsIn t i) (findingIn t (38 * i) ∷ [])
+
+module _ (t : List ℕ) (i : ℕ) (x : Bool) (h : clockFaults (findingIn t (38 * i) ∷ []) ≡ choose x (faultIn t (38 * i) ∷ []) []) where
+  pub faults-one : x ≡ true → clockFaults (findingsIn t (i + 1)) ≡ clockFaults (findingsIn t i) ++ (faultIn t (38 * i) ∷ [])
+  faults-one e = faults-last t i ∙ ap (λ (l : List NodeFault). clockFaults (findingsIn t i) ++ l) (h ∙ ap (λ (b : Bool). choose b (faultIn t (38 * i) ∷ []) []) e)
+
+  pub faults-no : x ≡ false → clockFaults (findingsIn t (i + 1)) ≡ clockFaults (findingsIn t i)
+  faults-no e = faults-last t i ∙ (ap (λ (l : List NodeFault). clockFaults (findingsIn t i) ++ l) (h ∙ ap (λ (b : Bool). choose b (faultIn t (38 * i) ∷ []) []) e) ∙ append-nil _)
 
 -- ---- the rows from i on, n in all
 module _ (t : List ℕ) (n i k : ℕ) (l : i < n) (e : k ≡ getD t (38 * i) 0) where
@@ -301,16 +313,10 @@ module _ (t : List ℕ) (n i k j : ℕ) (l : i < n) (e : k ≡ getD t (38 * i) 0
 -- ---- the first rows, one more
 module _ (t : List ℕ) (i k : ℕ) (e : k ≡ getD t (38 * i) 0) where
   pub faults-more : k < 5 → clockFaults (findingsIn t (i + 1)) ≡ clockFaults (findingsIn t i) ++ (faultIn t (38 * i) ∷ [])
-  unfolding clockFaults
-  faults-more h =
-      ap clockFaults (in-last t i) ∙ (faults-append (findingsIn t i) _
-      ∙ ap (λ (f : Finding). clockFaults (findingsIn t i) ++ clockFaults (f ∷ [])) (row-fault t (38 * i) (omega arith)))
+  faults-more h = faults-one t i true (row-is t (38 * i) k e true (sym (lt-ltb k 5 h))) refl
 
   pub faults-same : 5 ≤ k → clockFaults (findingsIn t (i + 1)) ≡ clockFaults (findingsIn t i)
-  unfolding clockFaults
-  faults-same h =
-      ap clockFaults (in-last t i) ∙ (faults-append (findingsIn t i) _
-      ∙ (ap (λ (m : List NodeFault). clockFaults (findingsIn t i) ++ m) (row-faultless t (38 * i) (omega arith) []) ∙ append-nil _))
+  faults-same h = faults-no t i false (row-is t (38 * i) k e false (sym (le-ltb k 5 h))) refl
 
   pub sites-same : (k ≡ 5 → ⊥) → sites (findingsIn t (i + 1)) ≡ sites (findingsIn t i)
   unfolding sites
@@ -342,23 +348,6 @@ count-more fs f m e = e₁ ∙ sym (length-append fs (f ∷ []))
     e₁ : m + 1 ≡ length fs + 1
     e₁ = ap (λ (x : ℕ). x + 1) e
 
--- ---- over a lent list
-over-last : (l : List ℕ) (a : ℕ) (lent : List ℕ) → over (l ++ (a ∷ [])) lent ≡ set (over l lent) (length l) a
-over-last [] a [] = refl
-over-last [] a (b ∷ lent) = refl
-over-last (c ∷ l) a [] = refl
-over-last (c ∷ l) a (b ∷ lent) = ap (λ (m : List ℕ). c ∷ m) (over-last l a lent)
-
-map-last : {A B : Type 0} (g : A → B) (l : List A) (a : A) → map g (l ++ (a ∷ [])) ≡ map g l ++ (g a ∷ [])
-map-last g [] a = refl
-map-last g (b ∷ l) a = ap (λ (m : List _). g b ∷ m) (map-last g l a)
-
--- one more written
-pub over-more : (g : NodeFault → ℕ) (fs : List NodeFault) (f : NodeFault) (lent now′ : List ℕ) (m x : ℕ) → m ≡ length fs → x ≡ g f → now′ ≡ over (map g fs) lent → set now′ m x ≡ over (map g (fs ++ (f ∷ []))) lent
-over-more g fs f lent now′ m x a b c =
-    let n : m ≡ length (map g fs) = a ∙ sym (length-map fs g) in
-    rw (n, b, c) (sym (ap (λ (l : List ℕ). over l lent) (map-last g fs f) ∙ over-last (map g fs) (g f) lent))
-
 -- ---- what is known of the first i rows, when all are passed
 pub counted : {A : Type 0} (t : List ℕ) (n i : ℕ) (g : List Finding → A) {a : A} → i ≤ n → n ≤ i → a ≡ g (findingsIn t i) → a ≡ g (findingsIn t n)
 counted t n i g l h e = let q : i ≡ n = omega arith in rw (sym q) e
@@ -387,58 +376,7 @@ found-as x h g i j = rw (i, j)
 pub found-none : (h : Fault) → h ≡ notSingleCall → record { equation = 0; fault = h } ≡ noFault
 found-none h e = rw e
 
--- ---- the faults of the first i rows, written over the lent lists
-pub record Written (t : List ℕ) (i : ℕ) (a₀ b₀ a b : List ℕ) (m : ℕ) : Type 0 where
-  pub count : m ≡ length (clockFaults (findingsIn t i))
-  pub numbers : a ≡ over (map (λ f. faultNumber (f .fault)) (clockFaults (findingsIn t i))) a₀
-  pub equations : b ≡ over (map (λ f. f .equation) (clockFaults (findingsIn t i))) b₀
-
-pub written-none : (t a b : List ℕ) → Written t 0 a b a b 0
-written-none t a b = let e = none-yet t .0 in record { count = rw e; numbers = rw e; equations = rw e }
-
-over-length : (l lent : List ℕ) → length (over l lent) ≡ length lent
-over-length [] lent = refl
-over-length (a ∷ l) [] = refl
-over-length (a ∷ l) (b ∷ lent) = ap suc (over-length l lent)
-
-pub written-length : (t : List ℕ) (i : ℕ) (a₀ b₀ a b : List ℕ) (m : ℕ) → Written t i a₀ b₀ a b m → (length a ≡ length a₀) × (length b ≡ length b₀)
-written-length t i a₀ b₀ a b m w = (
-  ap length (w .numbers) ∙ over-length (map (λ (f : NodeFault). faultNumber (f .fault)) (clockFaults (findingsIn t i))) a₀,
-  ap length (w .equations) ∙ over-length (map (λ (f : NodeFault). f .equation) (clockFaults (findingsIn t i))) b₀,
-)
-
-module _ (t : List ℕ) (i : ℕ) (a₀ b₀ a b : List ℕ) (m : ℕ) where
-  pub written-same : clockFaults (findingsIn t (i + 1)) ≡ clockFaults (findingsIn t i) → Written t i a₀ b₀ a b m → Written t (i + 1) a₀ b₀ a b m
-  written-same e w = record { count = rw e (w .count); numbers = rw e (w .numbers); equations = rw e (w .equations) }
-
-  pub written-more : (f g : NodeFault) (x : ℕ) (a′ b′ : List ℕ) → clockFaults (findingsIn t (i + 1)) ≡ clockFaults (findingsIn t i) ++ (f ∷ []) → g ≡ f → x ≡ faultNumber (g .fault) → a′ ≡ set a m x → b′ ≡ set b m (g .equation) → Written t i a₀ b₀ a b m → Written t (i + 1) a₀ b₀ a′ b′ (m + 1)
-  written-more f g x a′ b′ e s p u v w =
-      let n : x ≡ faultNumber (f .fault) = p ∙ ap (λ (h : NodeFault). faultNumber (h .fault)) s in
-      let q : g .equation ≡ f .equation = ap (λ (h : NodeFault). h .equation) s in
-      record {
-        count = rw e (count-more (clockFaults (findingsIn t i)) f m (w .count));
-        numbers = u ∙ (over-more (λ (h : NodeFault). faultNumber (h .fault)) (clockFaults (findingsIn t i)) f a₀ a m x (w .count) n (w .numbers) ∙ rw e);
-        equations = v ∙ (over-more (λ (h : NodeFault). h .equation) (clockFaults (findingsIn t i)) f b₀ b m (g .equation) (w .count) q (w .equations) ∙ rw e);
-      }
-
-pub written : (t : List ℕ) (n i : ℕ) (a₀ b₀ a b : List ℕ) (m : ℕ) → i ≤ n → n ≤ i → Written t i a₀ b₀ a b m → Written t n a₀ b₀ a b m
-written t n i a₀ b₀ a b m l h w = let q : i ≡ n = omega arith in rw (sym q) w
-
--- ---- the sites of the first i rows, added to a table of clocks
-pub added-none : (t r : List ℕ) (m : ℕ) (cs : List Clock) → Has r m cs → Has r m (addAll (sites (findingsIn t 0)) cs)
-unfolding addAll
-added-none t r m cs h = rw (none-yet t .1) h
-
-pub added-same : (t r : List ℕ) (i m : ℕ) (cs : List Clock) → sites (findingsIn t (i + 1)) ≡ sites (findingsIn t i) → Has r m (addAll (sites (findingsIn t i)) cs) → Has r m (addAll (sites (findingsIn t (i + 1))) cs)
-added-same t r i m cs e h = rw e h
-
-pub added-more : (t r : List ℕ) (i m : ℕ) (c d : Clock) (cs : List Clock) → sites (findingsIn t (i + 1)) ≡ sites (findingsIn t i) ++ (d ∷ []) → c ≡ d → Has r m (add c (addAll (sites (findingsIn t i)) cs)) → Has r m (addAll (sites (findingsIn t (i + 1))) cs)
-unfolding addAll
-added-more t r i m c d cs e q h = rw (e, all-append (sites (findingsIn t i)) (d ∷ []) cs, sym q) h
-
-pub added-all : (t : List ℕ) (n i : ℕ) (r : List ℕ) (m : ℕ) (cs : List Clock) → i ≤ n → n ≤ i → Has r m (addAll (sites (findingsIn t i)) cs) → Has r m (addAll (sites (findingsIn t n)) cs)
-added-all t n i r m cs l h a = let q : i ≡ n = omega arith in rw (sym q) a
-
+-- ---- sites
 pub base-of : (b x : Bool) (c d : Clock) → c ≡ d → b ≡ isBase c → b ≡ x → isBase d ≡ x
 base-of b x c d e i j = ap isBase (sym e) ∙ (sym i ∙ j)
 

@@ -8,7 +8,6 @@ use lib.ListN.{length, getD}
 use lib.Dec.{eqb, ltb}
 use Rattle.definitions.specs.Lists.{choose}
 use Rattle.definitions.specs.Clock.{Clock}
-use Rattle.definitions.specs.Declock.{add}
 use Rattle.definitions.specs.InferClocks.{Fault, leftElsewhere, usedElsewhere, whenElsewhere, clockNameElsewhere, notSingleCall, NodeFault, Finding, found, site, tooDeep}
 use Rattle.flat.specs.Flat.{testOf, clockIn}
 
@@ -53,8 +52,3 @@ Holds t n fs = ((38 * n ≤ length t) × (findingsIn t n ≡ fs)) ⊎ ((length t
 -- what stands for a fault that there is not
 abbrev pub noFault : NodeFault
 noFault = record { equation = 0; fault = notSingleCall }
-
--- clocks added in order, each once
-unfoldable pub addAll : List Clock → List Clock → List Clock
-addAll [] cs = cs
-addAll (c ∷ l) cs = addAll l (add c cs)

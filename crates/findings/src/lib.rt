@@ -5,17 +5,17 @@ use definitions::Condition;
 use fault::Fault;
 ghost use mathlib.Core.Path.{_≡_};
 ghost use mathlib.Core.Logic.{_⊎_};
-ghost use mathlib.Core.List.{List, [], _∷_, _++_, map};
+ghost use mathlib.Core.List.{List, [], _∷_, _++_};
 ghost use Prim.Native.Nat.{ℕ, _+_, _*_, _≤_, _<_};
-ghost use lib.ListN.{length, getD, set};
-ghost use Rattle.definitions.specs.Lists.{any, over};
+ghost use lib.ListN.{length, getD};
+ghost use Rattle.definitions.specs.Lists.{any, choose};
 ghost use Rattle.definitions.specs.Clock as clocks;
-ghost use Rattle.definitions.specs.InferClocks.{leftElsewhere, usedElsewhere, whenElsewhere, clockNameElsewhere, faultNumber, Finding, found, site, tooDeep, isTooDeep, clockFaults, sites};
+ghost use Rattle.definitions.specs.InferClocks.{leftElsewhere, usedElsewhere, whenElsewhere, clockNameElsewhere, Finding, found, site, tooDeep, isTooDeep, clockFaults, sites};
 ghost use Rattle.clock.specs.Value.{valueOf};
 ghost use Rattle.flat.specs.Flat.{clockIn};
 ghost use Rattle.fault.specs.Value.{faultOf};
 ghost use Rattle.rows.specs.Rows.{Has};
-ghost use Rattle.findings.specs.Findings.{flagWord, findingAs, faultIn, findingIn, findingsIn, Holds, noFault, addAll};
+ghost use Rattle.findings.specs.Findings.{flagWord, findingAs, faultIn, findingIn, findingsIn, Holds, noFault};
 
 // A row's first words: 1 to 4 a fault, 5 a site, 6 too deep a clock; a name; a flag; the equation.
 pub struct Words {
@@ -291,8 +291,16 @@ fn fault_in(table: &[u32], i: usize) -> Fault
     fault::clock_name_elsewhere(x, c, d)
 }
 
+// Is the finding in row i a fault?
+pub fn is_fault(table: &[u32], i: usize) -> bool
+    ensures { λ r. ⌜ clockFaults (findingIn (now (table .entry)) (38 * i) ∷ []) ≡ choose r (faultIn (now (table .entry)) (38 * i) ∷ []) [] ⌝ }
+{
+    let k = kind_at(table, i);
+    k < 5
+}
+
 // The fault in row i, and its equation.
-fn found_in(table: &[u32], i: usize) -> Found
+pub fn found_in(table: &[u32], i: usize) -> Found
     ensures { λ r. ⌜ record { equation = r .equation; fault = faultOf (r .fault) } ≡ faultIn (now (table .entry)) (38 * i) ⌝ }
 {
     let fault = fault_in(table, i);
@@ -320,66 +328,6 @@ pub fn nth_fault(table: &[u32], n: usize, j: usize) -> Found
     }
     let fault = fault::not_single_call();
     Found { fault, equation: 0 }
-}
-
-// A word at j from now on, where the list reaches so far.
-fn put(list: &mut [u32], j: usize, x: u32)
-    ensures { λ r. ⌜ now (list .exit) ≡ set (now (list .entry)) j x ⌝ }
-{
-    if j < list.len() {
-        list[j] = x;
-        return;
-    }
-}
-
-// The numbers and equations of the clock faults, as far as the lists reach: how many faults there are.
-pub fn write_faults(table: &[u32], n: usize, numbers: &mut [u32], equations: &mut [u32]) -> usize
-    ensures { λ r. ⌜ r ≡ length (clockFaults (findingsIn (now (table .entry)) n)) ⌝ }
-    ensures { λ r. ⌜ now (numbers .exit) ≡ over (map (λ f. faultNumber (f .fault)) (clockFaults (findingsIn (now (table .entry)) n))) (now (numbers .entry)) ⌝ }
-    ensures { λ r. ⌜ now (equations .exit) ≡ over (map (λ f. f .equation) (clockFaults (findingsIn (now (table .entry)) n))) (now (equations .entry)) ⌝ }
-{
-    let mut i: usize = 0;
-    let mut m: usize = 0;
-    while i < n {
-        let k = kind_at(table, i);
-        if 5 <= k {
-            i += 1;
-            continue;
-        }
-        let f = found_in(table, i);
-        let fault = f.fault;
-        let number = fault::fault_number(fault);
-        put(numbers, m, number);
-        put(equations, m, f.equation);
-        m += 1;
-        i += 1;
-    }
-    m
-}
-
-// The clocks of `pre` and `->` other than base, each once, added to a table of clocks: how many it has then.
-pub fn add_sites(table: &[u32], n: usize, rows: &mut [u32], m: usize) -> usize
-    ensures { λ r. ⌜ length (now (rows .exit)) ≡ length (now (rows .entry)) ⌝ }
-    ensures { λ r. ⌜ ((cs : List clocks.Clock) → Has (now (rows .entry)) m cs → Has (now (rows .exit)) r (addAll (sites (findingsIn (now (table .entry)) n)) cs)) ⌝ }
-{
-    let mut i: usize = 0;
-    let mut at = m;
-    while i < n {
-        let k = kind_at(table, i);
-        if k != 5 {
-            i += 1;
-            continue;
-        }
-        let c = clock_at(table, i, 21);
-        let plain = clock::is_base(c);
-        if plain {
-            i += 1;
-            continue;
-        }
-        at = rows::find_or_add(rows, at, c);
-        i += 1;
-    }
-    at
 }
 
 // A clock behind those of a table of clocks, if there is room: how many it has then.

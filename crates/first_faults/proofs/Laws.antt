@@ -7,16 +7,17 @@ use mathlib.Core.Bool.{Bool, true, false}
 use mathlib.Core.Option.{Option, none, some, Option·some-injective, Option·none-ne-some}
 use native.Mathlib.Omega.{arith}
 use lib.ListN.{length, getD, getElem?, length-map}
-use Rattle.definitions.specs.Lists.{choose, any, orElse}
+use Rattle.definitions.specs.Lists.{choose, orElse}
 use Rattle.definitions.specs.Tokens.{TagValue}
 use Rattle.definitions.specs.Bytes.{tokens}
 use Rattle.definitions.specs.Tree.{TypeDef, Node}
 use Rattle.definitions.specs.Reading.{Reader, got, times}
 use Rattle.definitions.specs.Grammar.{typeDef, node}
 use Rattle.definitions.specs.Refusals.{accepted}
-use Rattle.definitions.specs.InferClocks.{Formed, formed, Clocks, Fault, NodeFault, Clocked, Clocking, Finding, clockedBy, clocking, clockFaults, samples, usesClocks}
+use Rattle.definitions.specs.InferClocks.{Formed, formed, Clocks, Fault, NodeFault, Clocked, Clocking, Finding, clockedBy, clocking, clockFaults, usesClocks}
 use Rattle.definitions.specs.Output.{condactId, ClockedNode, nodeFaults}
 use Rattle.definitions.specs.Answer.{Input, clockings}
+use Rattle.shapes.proofs.Clockless.{no-node-faults}
 use Rattle.layout.specs.declared.NodeLayout.{NodeLayout}
 use Rattle.layout.specs.declared.SheetLayout.{SheetLayout}
 use Rattle.layout.specs.Laid.{Laid, LaidSheet, Places}
@@ -28,7 +29,7 @@ use Rattle.infer_clocks.specs.declared.NodeClocked.{NodeClocked}
 use Rattle.infer_clocks.specs.Clocked.{Tells, Clocked as Clocks′}
 use Rattle.stateless.specs.Faults.{rightFault, atEquation, oldFault}
 use Rattle.stateless.specs.Sheets.{NodeHere, withinAll, oneOf, faultsBy}
-use Rattle.stateless.proofs.Nodes.{clockings-form, node-here, same-clocking, not-too-deep, clocked, all-within, node-faults, unclocked-faultless, rewriting-faulty}
+use Rattle.stateless.proofs.Nodes.{clockings-form, node-here, same-clocking, not-too-deep, clocked, all-within, node-faults, rewriting-faulty}
 use Rattle.stateless.proofs.Stops as stops
 use Rattle.fault.specs.Value.{faultOf}
 use Rattle.environment.specs.Environment.{Agrees}
@@ -118,10 +119,9 @@ by-first : (o : Option NodeFault) → getElem? (oneOf o) 0 ≡ o
 by-first none = refl
 by-first (some f) = refl
 
--- the code's test of equations says whether a node uses clocks
-pub uses-by : (n : Node) (b : Bool) → b ≡ any (λ e. samples (e .right)) (n .equations) → b ≡ usesClocks n
-unfolding usesClocks
-uses-by n b e = e
+-- a node that uses no clocks has none
+pub none-unclocked : (r : Input) (n : Node) (k : Clocking) (j : ℕ) (found : Option NodeFault) → usesClocks n ≡ false → clocking n ≡ formed k → found ≡ none → found ≡ getElem? (nodeFaults (r .names) (r .sheet) (record { node = n; clocking = k })) j
+none-unclocked r n k j found u f e = e ∙ sym (ap (λ (x : List NodeFault). getElem? x j) (no-node-faults (r .names) (r .sheet) (record { node = n; clocking = k }) u f))
 
 module _ (r : Input) (n : Node) (k : Clocking) (t : List ℕ) (m count j : ℕ) (found : Option NodeFault) (all : findingsIn t m ≡ k .findings) (counted : count ≡ length (clockFaults (findingsIn t m))) where
   -- a clock fault
@@ -143,51 +143,43 @@ module _ (r : Input) (n : Node) (k : Clocking) (t : List ℕ) (m count j : ℕ) 
         ∙ by-later (usesClocks n) (stops.faultOf (r .sheet) (r .names) (record { node = n; clocking = k })) j l))
 
     -- it is the first
-    pub from-rewriting : j ≤ 0 → (b : Bool) → b ≡ usesClocks n → b ≡ true → found ≡ stops.faultOf (r .sheet) (r .names) (record { node = n; clocking = k })
+    pub from-rewriting : j ≤ 0 → usesClocks n ≡ true → found ≡ stops.faultOf (r .sheet) (r .names) (record { node = n; clocking = k })
         → found ≡ getElem? (nodeFaults (r .names) (r .sheet) (record { node = n; clocking = k })) j
-    from-rewriting l b u v e =
+    from-rewriting l u e =
         let z : j ≡ 0 = omega arith in
         e ∙ sym (ap (λ (i : ℕ). getElem? (nodeFaults (r .names) (r .sheet) (record { node = n; clocking = k })) i) z
-        ∙ (ap (λ (x : List NodeFault). getElem? x 0) (rewriting-faulty (r .names) (r .sheet) (record { node = n; clocking = k }) no-clock-fault (sym u ∙ v))
+        ∙ (ap (λ (x : List NodeFault). getElem? x 0) (rewriting-faulty (r .names) (r .sheet) (record { node = n; clocking = k }) no-clock-fault u)
         ∙ by-first (stops.faultOf (r .sheet) (r .names) (record { node = n; clocking = k }))))
 
-    -- a node that uses no clocks has none
-    pub none-unclocked : (b : Bool) → b ≡ usesClocks n → b ≡ false → found ≡ none → found ≡ getElem? (nodeFaults (r .names) (r .sheet) (record { node = n; clocking = k })) j
-    none-unclocked b u v e = e ∙ sym (ap (λ (x : List NodeFault). getElem? x j) (unclocked-faultless (r .names) (r .sheet) (record { node = n; clocking = k }) no-clock-fault (sym u ∙ v)))
-
--- ---- node k
+-- ---- a node whose clocks are formed, by what inference tells
 clocks-as : (env tb : List ℕ) (M : ℕ) (a b : NodeClocked) (v : Formed Clocking) → a ≡ b → Clocks′ env tb M a v → Clocks′ env tb M b v
 clocks-as env tb M a b v e c = subst (λ (x : NodeClocked). Clocks′ env tb M x v) e c
 
+module _ (env tb : List ℕ) (M : ℕ) (n : Node) (k : Clocking) (a : NodeClocked) (f : clocking n ≡ formed k) (C : Clocks′ env tb M a (clocking n)) where
+  pub none-deep : a ≡ NodeClocked.Deep → ⊥
+  unfolding Clocks′
+  none-deep e = not-too-deep n k f (clocks-as env tb M a NodeClocked.Deep (clocking n) e C)
+
+  pub tells : (passes m : ℕ) → a ≡ NodeClocked.Clocked passes m → Tells env tb M passes m k
+  unfolding Clocks′
+  tells passes m e =
+      let c = clocks-as env tb M a (NodeClocked.Clocked passes m) (clocking n) e C in
+      subst (λ (x : Clocking). Tells env tb M passes m x) (same-clocking n (c .0) k (c .1) f) (c .2)
+
+-- ---- node k
 module _ (gs vs : List ℕ) (t : Tables) (r : Input) (ns : List ClockedNode) (h : Tabled gs vs t r) (f : clockings 0 (r .sheet .nodes) ≡ accepted ns) (k j : ℕ) where
   pub past-nodes : (o : Option NodeFault) → t .nodes ≤ k → o ≡ none → o ≡ faultIn r (getElem? ns k) j
   past-nodes o l e = e ∙ sym (ap (λ (x : Option ClockedNode). faultIn r x j) (item-none ns k (omega (arith, l, clockings-form 0 (r .sheet .nodes) ns f .same-length, h .nodes .count))))
 
-  module _ (few : k < t .nodes) (l : NodeLayout) (L : (n : Node) (q : ℕ) → node (t .names) (tokens gs vs) (getD (t .places) k 0) ≡ got n q → Laid (t .names) (tokens gs vs) n q l)
-      (env tb : List ℕ) (a : NodeClocked) (C : (n : Node) (q : ℕ) → Laid (t .names) (tokens gs vs) n q l → Clocks′ env tb (t .names) a (clocking n)) where
-    here : NodeHere (r .sheet .nodes) ns k
-    here = node-here (clockings-form 0 (r .sheet .nodes) ns f) k (omega (arith, few, h .nodes .count))
-
-    laid : (q : ℕ) × Laid (t .names) (tokens gs vs) (here .clocked .node) q l
-    laid = let p = h .nodes .each .stands k (here .clocked .node) (here .node-here) in (p .0, L (here .clocked .node) (p .0) (p .1))
-
-    -- its clocks are formed
-    pub none-deep : a ≡ NodeClocked.Deep → ⊥
-    unfolding Clocks′
-    none-deep e =
-        let c = clocks-as env tb (t .names) a NodeClocked.Deep (clocking (here .clocked .node)) e (C (here .clocked .node) (laid .0) (laid .1)) in
-        not-too-deep (here .clocked .node) (here .clocked .clocking) (here .forms) c
-
-    pub at-node : (o : Option NodeFault) (passes m : ℕ) → a ≡ NodeClocked.Clocked passes m
-        → ((i : Input) (n : Node) (q : ℕ) (c : Clocking) (passes : ℕ) → Tabled gs vs t i → Laid (t .names) (tokens gs vs) n q l → clocking n ≡ formed c → Tells env tb (t .names) passes m c → o ≡ getElem? (nodeFaults (i .names) (i .sheet) (record { node = n; clocking = c })) j)
-        → o ≡ faultIn r (getElem? ns k) j
-    unfolding Clocks′
-    at-node o passes m e F =
-        let c = clocks-as env tb (t .names) a (NodeClocked.Clocked passes m) (clocking (here .clocked .node)) e (C (here .clocked .node) (laid .0) (laid .1)) in
-        let s = same-clocking (here .clocked .node) (c .0) (here .clocked .clocking) (c .1) (here .forms) in
-        F r (here .clocked .node) (laid .0) (c .0) passes h (laid .1) (c .1) (c .2)
-        ∙ (ap (λ (x : Clocking). getElem? (nodeFaults (r .names) (r .sheet) (record { node = here .clocked .node; clocking = x })) j) s
-        ∙ sym (ap (λ (x : Option ClockedNode). faultIn r x j) (here .here)))
+  pub at-node : (o : Option NodeFault) (l : NodeLayout) → k < t .nodes
+      → ((n : Node) (q : ℕ) → node (t .names) (tokens gs vs) (getD (t .places) k 0) ≡ got n q → Laid (t .names) (tokens gs vs) n q l)
+      → ((n : Node) (q : ℕ) (c : Clocking) → Laid (t .names) (tokens gs vs) n q l → clocking n ≡ formed c → o ≡ getElem? (nodeFaults (r .names) (r .sheet) (record { node = n; clocking = c })) j)
+      → o ≡ faultIn r (getElem? ns k) j
+  at-node o l few L F =
+      let here = node-here (clockings-form 0 (r .sheet .nodes) ns f) k (omega (arith, few, h .nodes .count)) in
+      let p = h .nodes .each .stands k (here .clocked .node) (here .node-here) in
+      F (here .clocked .node) (p .0) (here .clocked .clocking) (L (here .clocked .node) (p .0) (p .1)) (here .forms)
+      ∙ sym (ap (λ (x : Option ClockedNode). faultIn r x j) (here .here))
 
 -- ---- the tables of a sheet
 same-times : {A : Type 0} (R : Reader A) (ts : List TagValue) (n w count at q : ℕ) (l : List A) → w ≡ count → (w ≤ 32 → n ≡ w) → count ≤ 32 → times count R ts at ≡ got l q → times n R ts at ≡ got l q

@@ -16,7 +16,7 @@ ghost use Rattle.definitions.specs.Bytes.{tokens};
 ghost use Rattle.definitions.specs.Tree.{Node};
 ghost use Rattle.definitions.specs.Reading.{got};
 ghost use Rattle.definitions.specs.Grammar.{sheet};
-ghost use Rattle.definitions.specs.InferClocks.{NodeFault, Clocking, formed, clocking, clockFaults};
+ghost use Rattle.definitions.specs.InferClocks.{NodeFault, Clocking, formed, clocking, clockFaults, usesClocks};
 ghost use Rattle.definitions.specs.Refusals.{accepted};
 ghost use Rattle.definitions.specs.Output.{condactId, ClockedNode, nodeFaults};
 ghost use Rattle.definitions.specs.Answer.{Input, clockings, firstOf};
@@ -160,7 +160,8 @@ fn rewriting_fault(tags: &[u8], values: &[u32], t: Tables, l: NodeLayout, env: &
     met_fault(f, e.count)
 }
 
-// Fault j of a node with this layout, whose clocks are inferred and which has n findings: its clock faults, else rewriting's first.
+// Fault j of a node with this layout that uses clocks, whose clocks are inferred and which has n findings: its clock faults, else
+// rewriting's first.
 fn clocked_fault(
     tags: &[u8],
     values: &[u32],
@@ -173,7 +174,7 @@ fn clocked_fault(
 ) -> FaultFound
     requires { ⌜ length (now values) ≡ length (now tags) ⌝ }
     requires { ⌜ (t .nodes ≤ 16) × (t .types ≤ 32) ⌝ }
-    ensures { λ r. ⌜ ((i : Input) (node : Node) (q : ℕ) (k : Clocking) (passes : ℕ) → Tabled (now (tags .entry)) (now (values .entry)) t i → Laid (t .names) (tokens (now (tags .entry)) (now (values .entry))) node q l → clocking node ≡ formed k → Tells (now (env .entry)) (now (table .entry)) (t .names) passes n k → foundOf r ≡ getElem? (nodeFaults (i .names) (i .sheet) (record { node = node; clocking = k })) j) ⌝ }
+    ensures { λ r. ⌜ ((i : Input) (node : Node) (q : ℕ) (k : Clocking) (passes : ℕ) → Tabled (now (tags .entry)) (now (values .entry)) t i → Laid (t .names) (tokens (now (tags .entry)) (now (values .entry))) node q l → usesClocks node ≡ true → clocking node ≡ formed k → Tells (now (env .entry)) (now (table .entry)) (t .names) passes n k → foundOf r ≡ getElem? (nodeFaults (i .names) (i .sheet) (record { node = node; clocking = k })) j) ⌝ }
 {
     let m = findings::fault_count(table, n);
     if 0 < m {
@@ -182,14 +183,42 @@ fn clocked_fault(
     if 0 < j {
         return no_fault();
     }
-    let e = l.equations;
-    if sheet::equations_use_clocks(tags, values, t.names, e.count, e.at) {
-        return rewriting_fault(tags, values, t, l, env);
-    }
-    no_fault()
+    rewriting_fault(tags, values, t, l, env)
 }
 
-// Fault j of node k.
+// Fault j of a node with this layout that uses clocks.
+fn laid_fault(
+    tags: &[u8],
+    values: &[u32],
+    t: Tables,
+    l: NodeLayout,
+    j: usize,
+    env: &mut [u32],
+    table: &mut [u32],
+) -> FaultFound
+    requires { ⌜ length (now values) ≡ length (now tags) ⌝ }
+    requires { ⌜ (t .nodes ≤ 16) × (t .types ≤ 32) ⌝ }
+    ensures { λ r. ⌜ ((i : Input) (node : Node) (q : ℕ) (k : Clocking) → Tabled (now (tags .entry)) (now (values .entry)) t i → Laid (t .names) (tokens (now (tags .entry)) (now (values .entry))) node q l → usesClocks node ≡ true → clocking node ≡ formed k → Roomy (t .names) (length (now (tags .entry))) (now (env .entry)) (now (table .entry)) → foundOf r ≡ getElem? (nodeFaults (i .names) (i .sheet) (record { node = node; clocking = k })) j) ⌝ }
+{
+    let mut marks = [0u8; 1024];
+    let mut ports = [0u32; 1024];
+    let clocked = infer_clocks::clock_laid(
+        tags,
+        values,
+        t.names,
+        l,
+        env,
+        &mut marks,
+        &mut ports,
+        table,
+    );
+    match clocked {
+        NodeClocked::Deep => no_fault(),
+        NodeClocked::Clocked(_, n) => clocked_fault(tags, values, t, l, env, table, n, j),
+    }
+}
+
+// Fault j of node k: a node that uses no clocks has none, so its clocks are not inferred.
 pub fn fault_at(
     tags: &[u8],
     values: &[u32],
@@ -209,22 +238,11 @@ pub fn fault_at(
     let places = t.places;
     let at = places[k];
     let l = layout::node_at(tags, values, t.names, at);
-    let mut marks = [0u8; 1024];
-    let mut ports = [0u32; 1024];
-    let clocked = infer_clocks::clock_laid(
-        tags,
-        values,
-        t.names,
-        l,
-        env,
-        &mut marks,
-        &mut ports,
-        table,
-    );
-    match clocked {
-        NodeClocked::Deep => no_fault(),
-        NodeClocked::Clocked(_, n) => clocked_fault(tags, values, t, l, env, table, n, j),
+    let e = l.equations;
+    if extents::equations_use_clocks(tags, values, e.count, e.at) {
+        return laid_fault(tags, values, t, l, j, env, table);
     }
+    no_fault()
 }
 
 // A fault record in the three words from b on.

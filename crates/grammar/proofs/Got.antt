@@ -40,7 +40,7 @@ pub same : {A : Type 0} (x : Got A) (a : A) (q : ℕ) (r : Read) (s : ℕ) → x
 same x a q r s g e b = let f : Read.Next q ≡ Read.Next s = sym (e ∙ ap outcome g) ∙ b in cc
 
 -- a test that was passed
-limited-got : {A : Type 0} (test : A → Bool) (r : Reader A) (ts : List TagValue) (p : ℕ) (a : A) (q : ℕ) → limited test r ts p ≡ got a q → (r ts p ≡ got a q) × (test a ≡ true)
+pub limited-got : {A : Type 0} (test : A → Bool) (r : Reader A) (ts : List TagValue) (p : ℕ) (a : A) (q : ℕ) → limited test r ts p ≡ got a q → (r ts p ≡ got a q) × (test a ≡ true)
 unfolding limited
 limited-got test r ts p a q g = let m = after-got (r ts p) _ a q g in go (m .0) (m .1) (test (m .0)) refl (m .2) (m .3)
   where

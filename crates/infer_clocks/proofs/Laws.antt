@@ -23,9 +23,10 @@ use Rattle.definitions.specs.Clock.{Clock, base, isBase, inChainOrder}
 use Rattle.clock.specs.declared.Presence.{Presence}
 use Rattle.clock.specs.Value.{naturalAt}
 use Rattle.definitions.specs.Refusals.{Answer, accepted, refused}
-use Rattle.definitions.specs.InferClocks.{Formed, deep, formed, _>>=_, Natural, Clocks, Finding, found, site, tooDeep, Inferred, Clocking, Clocked, isTooDeep, ports, natural, orBase, clockedBy, checkEquation, inferred, clocking, sites, chains}
+use Rattle.definitions.specs.InferClocks.{Formed, deep, formed, _>>=_, Natural, Clocks, Finding, found, site, tooDeep, Inferred, Clocking, Clocked, isTooDeep, ports, natural, orBase, clockedBy, checkEquation, inferred, clocking, sites, chains, samples, usesClocks}
 use Rattle.definitions.specs.Output.{ClockedNode}
 use Rattle.definitions.specs.Answer.{clockings}
+use Rattle.shapes.proofs.Clockless.{clockless}
 use Rattle.grammar.proofs.Laws.{tokens-length}
 use Rattle.grammar.proofs.Got.{times-nil, times-cons}
 use Rattle.grammar.proofs.Longer.{times-keeps, keeps, equation-grows}
@@ -259,9 +260,6 @@ tallied-count t s c v e h = rw e at h
 pub still : (a b c : ℕ) → a ≤ b → c ≡ b → a ≤ c
 still a b c h e = omega arith
 
-pub within : (a b c : ℕ) → a < b → b ≤ c → a < c
-within a b c h k = omega arith
-
 pub room-stays : (ts vs t t′ : List ℕ) → length vs ≡ length ts → 38 * length ts ≤ length t → length t′ ≡ length t → 38 * length (tokens ts vs) ≤ length t′
 room-stays ts vs t t′ e h k = omega (arith, tokens-length ts vs e, h, k)
 
@@ -295,6 +293,34 @@ module _ (M : ℕ) (ts : List TagValue) (n : Node) (env marks words t : List ℕ
 
     pub laid-told : b ≡ false → Clocks′ env t M (NodeClocked.Clocked k c) (clocking n)
     laid-told f = findings-told n (made .0) (made .1) M ts count at q g (counted .0) (counted .1) env t c room (counted .2) (sym d ∙ f) (made .3) k (made .2)
+
+-- ---- was too deep a clock formed in a node?
+is-deep : {A : Type 0} (v : Formed A) → isDeep v ≡ true → v ≡ deep
+is-deep deep e = refl
+is-deep (formed a) e = let z : _≡_ {A = ℕ} 0 1 = cc in absurd (omega arith)
+
+not-deep : {A : Type 0} (v : Formed A) → isDeep v ≡ false → (a : A) × (v ≡ formed a)
+not-deep deep e = let z : _≡_ {A = ℕ} 0 1 = cc in absurd (omega arith)
+not-deep (formed a) e = (a, refl)
+
+-- the code's test of equations says whether a node uses clocks
+pub uses-by : (n : Node) (b : Bool) → b ≡ any (λ e. samples (e .right)) (n .equations) → b ≡ usesClocks n
+unfolding usesClocks
+uses-by n b e = e
+
+-- not in one that uses no clocks
+pub deep-unused : (n : Node) (b : Bool) → b ≡ any (λ e. samples (e .right)) (n .equations) → b ≡ false → false ≡ isDeep (clocking n)
+deep-unused n b e f = sym (ap isDeep (clockless n (sym (uses-by n b e) ∙ f) .1 .clocks))
+
+-- the code's answer says it
+module _ (M : ℕ) (n : Node) (env t : List ℕ) (r : NodeClocked) (h : Clocks′ env t M r (clocking n)) where
+  pub deep-told : r ≡ NodeClocked.Deep → true ≡ isDeep (clocking n)
+  unfolding Clocks′
+  deep-told j = let x : clocking n ≡ deep = rw j at h in sym (ap isDeep x)
+
+  pub deep-not-told : (p m : ℕ) → r ≡ NodeClocked.Clocked p m → false ≡ isDeep (clocking n)
+  unfolding Clocks′
+  deep-not-told p m j = let x : Clocks′ env t M (NodeClocked.Clocked p m) (clocking n) = rw j at h in sym (ap isDeep (x .1))
 
 -- the names' clocks alone, of a node whose clocks are formed
 pub names-formed : (M : ℕ) (n : Node) (env : List ℕ) (r : Inference) (k : Clocking) → clocking n ≡ formed k → Infers env M r (inferred n) → Agrees env M (k .names)
@@ -358,16 +384,15 @@ module _ (i : ℕ) (n : Node) (k : Clocking) (all ns : List Node) (r : all ≡ n
   rest-fine : (l : List ClockedNode) → clockings (i + 1) ns ≡ accepted l → clockings i all ≡ accepted (record { node = n; clocking = k } ∷ l)
   rest-fine l e = ap (clockings i) r ∙ next-fine i n k ns l h (ap (λ (x : ℕ). clockings x ns) (sym (add-one i)) ∙ e)
 
-module _ (M : ℕ) (ts : List TagValue) (env t : List ℕ) (count i place q : ℕ) (v : Answer (List ClockedNode)) (l : NodeLayout) (r : NodeClocked) (z : i < count)
+module _ (M : ℕ) (ts : List TagValue) (count i place q : ℕ) (v : Answer (List ClockedNode)) (l : NodeLayout) (b : Bool) (z : i < count)
     (L : (n : Node) (q : ℕ) → node M ts place ≡ got n q → Laid M ts n q l)
-    (E : (n : Node) (q : ℕ) → Laid M ts n q l → Clocks′ env t M r (clocking n))
+    (E : (n : Node) (q : ℕ) → Laid M ts n q l → b ≡ isDeep (clocking n))
     (h : Nodes M ts (count - i) i place q v) where
-  pub nodes-step : (p m : ℕ) → r ≡ NodeClocked.Clocked p m → Nodes M ts (count - (i + 1)) (i + 1) (l .end) q v
-  unfolding Clocks′
-  nodes-step p m j =
+  pub nodes-step : b ≡ false → Nodes M ts (count - (i + 1)) (i + 1) (l .end) q v
+  nodes-step j =
       let c = times-cons (node M) ts (count - i) place (h .rest) q (λ y. omega (arith, y)) (h .items) in
       let d = L (c .0) (c .1) (c .3) in
-      let x : Clocks′ env t M (NodeClocked.Clocked p m) (clocking (c .0)) = rw j at (E (c .0) (c .1) d) in
+      let x = not-deep (clocking (c .0)) (sym (E (c .0) (c .1) d) ∙ j) in
       let u : count - (i + 1) ≡ count - i - 1 = omega arith in
       record {
         rest = c .2;
@@ -376,12 +401,12 @@ module _ (M : ℕ) (ts : List TagValue) (env t : List ℕ) (count i place q : �
         fine = λ k e. h .fine (record { node = c .0; clocking = x .0 } ∷ k) (rest-fine i (c .0) (x .0) (h .rest) (c .2) (c .5) (x .1) k e);
       }
 
-  pub nodes-deep : r ≡ NodeClocked.Deep → Deeply (Deepest.At i) v
-  unfolding Clocks′ Deeply
+  pub nodes-deep : b ≡ true → Deeply (Deepest.At i) v
+  unfolding Deeply
   nodes-deep j =
       let c = times-cons (node M) ts (count - i) place (h .rest) q (λ y. omega (arith, y)) (h .items) in
       let d = L (c .0) (c .1) (c .3) in
-      let x : Clocks′ env t M NodeClocked.Deep (clocking (c .0)) = rw j at (E (c .0) (c .1) d) in
+      let x = is-deep (clocking (c .0)) (sym (E (c .0) (c .1) d) ∙ j) in
       h .sunk i (ap (clockings i) (c .5) ∙ here-sunk i (c .0) (c .2) x)
 
 -- ---- the chains

@@ -7,7 +7,7 @@ use lib.ListN.{length}
 use Rattle.definitions.specs.declared.Refusal.{Refusal}
 use Rattle.definitions.specs.Tree.{Equation, Node}
 use Rattle.definitions.specs.Refusals.{Answer, accepted, refused}
-use Rattle.definitions.specs.InferClocks.{Formed, deep, formed, _>>=_, Natural, Clocks, Finding, Clocking, natural, orBase, checkEquation}
+use Rattle.definitions.specs.InferClocks.{Formed, deep, formed, _>>=_, Clocks, Finding, Clocking, natural, orBase, checkEquation}
 use Rattle.definitions.specs.Output.{ClockedNode}
 use Rattle.environment.specs.Environment.{Agrees}
 use Rattle.findings.specs.Findings.{findingsIn, Holds}
@@ -27,10 +27,10 @@ module _ (node : Node) (clocks : Clocks) where
   foundFrom i [] = formed []
   foundFrom i (e ∷ es) = foundIn i e >>= λ l. foundFrom (suc i) es >>= λ rest. formed (l ++ rest)
 
--- is it too deep a clock?
-abbrev pub isDeep : Natural → Bool
+-- was too deep a clock formed?
+abbrev pub isDeep : {A : Type 0} → Formed A → Bool
 isDeep deep = true
-isDeep (formed o) = false
+isDeep (formed a) = false
 
 -- these findings, then others
 abbrev pub joined : List Finding → Formed (List Finding) → Formed (List Finding)

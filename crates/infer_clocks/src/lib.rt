@@ -87,24 +87,20 @@ fn wide(x: u8) -> u32
     x as u32
 }
 
-// A mark, 0 past the last.
-fn mark_at(marks: &[u8], i: usize) -> u32
-    ensures { λ r. ⌜ r ≡ getD (now (marks .entry)) i 0 ⌝ }
+// The marks of the names below m as words, if both have room for them.
+fn widen(marks: &[u8], ports: &mut [u32], m: u32)
+    ensures { λ r. ⌜ (m ≤ length (now (marks .entry)) → m ≤ length (now (ports .entry)) → (x : ℕ) → x < m → getD (now (ports .exit)) x 0 ≡ getD (now (marks .entry)) x 0) ⌝ }
 {
-    if i < marks.len() {
-        return wide(marks[i]);
+    let n = m as usize;
+    if marks.len() < n {
+        return;
     }
-    0
-}
-
-// The marks as words.
-fn widen(marks: &[u8], ports: &mut [u32])
-    ensures { λ r. ⌜ ((x : ℕ) → x < length (now (ports .entry)) → getD (now (ports .exit)) x 0 ≡ getD (now (marks .entry)) x 0) ⌝ }
-{
+    if ports.len() < n {
+        return;
+    }
     let mut i: usize = 0;
-    while i < ports.len() {
-        let w = mark_at(marks, i);
-        ports[i] = w;
+    while i < n {
+        ports[i] = wide(marks[i]);
         i += 1;
     }
 }
@@ -189,7 +185,7 @@ pub fn clock_laid(
     match inferred {
         Inference::Deep => NodeClocked::Deep,
         Inference::Passes(k) => {
-            widen(marks, ports);
+            widen(marks, ports, names);
             let e = l.equations;
             let count = e.count;
             let at = e.at;
@@ -216,6 +212,32 @@ pub fn name_clocks(tags: &[u8], values: &[u32], names: u32, l: NodeLayout, env: 
     passes::infer(tags, values, names, l, env, &mut marks);
 }
 
+// Is too deep a clock formed in a node with this layout? Not in one that uses no clocks, so its clocks are not inferred.
+fn deep_laid(
+    tags: &[u8],
+    values: &[u32],
+    names: u32,
+    l: NodeLayout,
+    env: &mut [u32],
+    marks: &mut [u8],
+    ports: &mut [u32],
+    table: &mut [u32],
+) -> bool
+    requires { ⌜ length (now values) ≡ length (now tags) ⌝ }
+    ensures { λ r. ⌜ ((n : Node) (q : ℕ) → Laid names (tokens (now (tags .entry)) (now (values .entry))) n q l → 17 * names ≤ length (now (env .entry)) → names ≤ length (now (marks .entry)) → names ≤ length (now (ports .entry)) → 38 * length (now (tags .entry)) ≤ length (now (table .entry)) → r ≡ isDeep (clocking n)) ⌝ }
+{
+    let e = l.equations;
+    let uses = extents::equations_use_clocks(tags, values, e.count, e.at);
+    if !uses {
+        return false;
+    }
+    let k = clock_laid(tags, values, names, l, env, marks, ports, table);
+    match k {
+        NodeClocked::Deep => true,
+        NodeClocked::Clocked(_, _) => false,
+    }
+}
+
 // The first of so many nodes, the first of which stands there, in which too deep a clock is formed.
 pub fn first_deep(
     tags: &[u8],
@@ -235,17 +257,11 @@ pub fn first_deep(
     let mut place = at;
     while i < count {
         let l = layout::node_at(tags, values, names, place);
-        let end = l.end;
-        let k = clock_laid(tags, values, names, l, env, marks, ports, table);
-        match k {
-            NodeClocked::Deep => {
-                return Deepest::At(i);
-            }
-            NodeClocked::Clocked(_, _) => {
-                place = end;
-                i += 1;
-            }
+        if deep_laid(tags, values, names, l, env, marks, ports, table) {
+            return Deepest::At(i);
         }
+        place = l.end;
+        i += 1;
     }
     Deepest::Nowhere
 }

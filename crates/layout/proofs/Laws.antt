@@ -18,7 +18,6 @@ use Rattle.definitions.specs.Tree.{Declared, Expr, Equation, Node, Sheet}
 use Rattle.definitions.specs.Bytes.{tokens}
 use Rattle.definitions.specs.Reading.{Got, got, Reader, token, times}
 use Rattle.definitions.specs.Grammar.{tagged, counted, count, name, kindAt, declaration, declarations, typeDef, expr, equation, probe, node, sheet}
-use Rattle.grammar.specs.declared.Read.{Read}
 use Rattle.grammar.specs.Outcome.{outcome}
 use Rattle.grammar.proofs.Laws.{tokens-length, times-length}
 use Rattle.grammar.proofs.Parts.{counted-within}
@@ -26,7 +25,7 @@ use Rattle.grammar.proofs.Longer.{token-got, counted-grows, tagged-grows, name-
 use Rattle.grammar.proofs.Got.{times-nil, times-cons, token-value, tagged-value, counted-value, declarations-got, equation-got, node-got, sheet-got}
 use Rattle.typedefs.proofs.Laws.{placeAt, item}
 use Rattle.layout.specs.declared.Span.{Span}
-use Rattle.layout.specs.Spans.{pastIn, kindOr, kindIn, endOf, spanBy, Spans}
+use Rattle.layout.specs.Spans.{pastIn, kindOr, kindIn, endOf, Spanned, Spans}
 use Rattle.layout.specs.Laid.{Laid, LaidEquation, LaidSheet, Places}
 
 past-is : (n p : ℕ) → p < n → pastIn n p ≡ p + 1
@@ -42,23 +41,29 @@ kind-is t v k g = go (eqb t 41) (kindOf v) g
 
 -- over the two arrays
 module _ (ts vs : List ℕ) (same-length : length vs ≡ length ts) where
+  -- a list behind its count, as reading it says where it ends
+  abbrev pub spanBy : {A : Type 0} → Reader A → ℕ → Span
+  spanBy R p = record { at = pastIn (length ts) p; count = getD vs p 0; end = endOf (outcome (times (getD vs p 0) R (tokens ts vs) (pastIn (length ts) p))) p }
+
+  pub spanned-by : {A : Type 0} (R : Reader A) (p : ℕ) → Spanned R ts vs p (spanBy R p)
+  spanned-by R p = record { first = refl; counted = refl; ended = λ l q g. ap (λ (x : Got (List _)). endOf (outcome x) p) g }
+
+  -- the same items, by equal counts and places
+  moved : {A : Type 0} (R : Reader A) (n m p r : ℕ) (l : List A) (q : ℕ) → n ≡ m → p ≡ r → times n R (tokens ts vs) p ≡ got l q → times m R (tokens ts vs) r ≡ got l q
+  moved R n m p r l q e f h = rw (← e, ← f) h
+
   -- a list behind its count
   module _ {A : Type 0} (R : Reader A) (p tag low most n u : ℕ) (l : List A) (q : ℕ) (g : counted tag low most (tokens ts vs) p ≡ got n u) (h : times n R (tokens ts vs) u ≡ got l q) where
-    span-got : Spans R (tokens ts vs) l (spanBy R ts vs p) × (spanBy R ts vs p .end ≡ q)
-    span-got =
+    pub span-at : (s : Span) (p′ : ℕ) → Spanned R ts vs p′ s → p′ ≡ p → Spans R (tokens ts vs) l s × (s .end ≡ q)
+    span-at s p′ e f =
         let w = counted-grows tag low most (tokens ts vs) p n u g in
         let b : p < length ts = omega (arith, w .0, w .1, tokens-length ts vs same-length) in
         let v = counted-value ts vs same-length p tag low most n u b g in
-        let k : u ≡ pastIn (length ts) p = v .2 ∙ sym (past-is (length ts) p b) in
-        let i : times (getD vs p 0) R (tokens ts vs) (pastIn (length ts) p) ≡ got l q = go (getD vs p 0) (v .0) (pastIn (length ts) p) k in
-        let z : spanBy R ts vs p .end ≡ q = ap (λ (x : Got (List A)). endOf (outcome x) p) i in
-        (record { items = i ∙ ap (got l) (sym z); many = sym (v .0) ∙ sym (times-length R (tokens ts vs) n u l q h) }, z)
-      where
-        go : (m : ℕ) → n ≡ m → (s : ℕ) → u ≡ s → times m R (tokens ts vs) s ≡ got l q
-        go m e s f = rw (← e, ← f) h
-
-    pub span-at : (s : Span) (p′ : ℕ) → s ≡ spanBy R ts vs p′ → p′ ≡ p → Spans R (tokens ts vs) l s × (s .end ≡ q)
-    span-at s p′ e f = subst⁻¹ (λ (x : Span). Spans R (tokens ts vs) l x × (x .end ≡ q)) (e ∙ ap (spanBy R ts vs) f) span-got
+        let c : n ≡ s .count = v .0 ∙ ap (λ (z : ℕ). getD vs z 0) (sym f) ∙ sym (e .counted) in
+        let k : u ≡ s .at = v .2 ∙ sym (past-is (length ts) p b) ∙ ap (pastIn (length ts)) (sym f) ∙ sym (e .first) in
+        let i : times (s .count) R (tokens ts vs) (s .at) ≡ got l q = moved R n (s .count) u (s .at) l q c k h in
+        let z = e .ended l q i in
+        (record { items = i ∙ ap (got l) (sym z); many = sym c ∙ sym (times-length R (tokens ts vs) n u l q h) }, z)
 
   at-name : (M p x q : ℕ) → p < length ts → name M (tokens ts vs) p ≡ got x q → (x ≡ getD vs p 0) × (q ≡ p + 1)
   unfolding name
@@ -94,7 +99,7 @@ module _ (ts vs : List ℕ) (same-length : length vs ≡ length ts) where
         (kind-is (getD ts k 0) (getD vs k 0) (n .kind) (v .0), v .1 ∙ sym (past-is (length ts) k b))
 
   module _ (M : ℕ) where
-    declared-at : (most p : ℕ) (l : List Declared) (q : ℕ) → declarations M most (tokens ts vs) p ≡ got l q → (s : Span) (p′ : ℕ) → s ≡ spanBy (declaration M) ts vs p′ → p′ ≡ p → Spans (declaration M) (tokens ts vs) l s × (s .end ≡ q)
+    declared-at : (most p : ℕ) (l : List Declared) (q : ℕ) → declarations M most (tokens ts vs) p ≡ got l q → (s : Span) (p′ : ℕ) → Spanned (declaration M) ts vs p′ s → p′ ≡ p → Spans (declaration M) (tokens ts vs) l s × (s .end ≡ q)
     unfolding count
     declared-at most p l q g s p′ e f =
         let d = declarations-got M (tokens ts vs) p most l q g in
@@ -102,8 +107,8 @@ module _ (ts vs : List ℕ) (same-length : length vs ≡ length ts) where
 
     -- the places and counts that the code finds are those of the node that was read
     pub laid : (p a b : ℕ) → a ≡ pastIn (length ts) p → b ≡ pastIn (length ts) a →
-        (i o l k r : Span) → i ≡ spanBy (declaration M) ts vs b → o ≡ spanBy (declaration M) ts vs (i .end) → l ≡ spanBy (declaration M) ts vs (o .end) →
-        k ≡ spanBy (equation M) ts vs (l .end) → r ≡ spanBy (probe M) ts vs (k .end) →
+        (i o l k r : Span) → Spanned (declaration M) ts vs b i → Spanned (declaration M) ts vs (i .end) o → Spanned (declaration M) ts vs (o .end) l →
+        Spanned (equation M) ts vs (l .end) k → Spanned (probe M) ts vs (k .end) r →
         (x y : ℕ) (d : NodeKind) → x ≡ getD vs p 0 → y ≡ getD vs a 0 → d ≡ kindIn y →
         (n : Node) (q : ℕ) → node M (tokens ts vs) p ≡ got n q →
         Laid M (tokens ts vs) n q (record { name = x; kind = d; inputs = i; outputs = o; locals = l; equations = k; probes = r; end = r .end })
@@ -130,32 +135,37 @@ module _ (ts vs : List ℕ) (same-length : length vs ≡ length ts) where
           ends = sr .1;
         }
 
-    pub laid-equation : (p : ℕ) (l : Span) → l ≡ spanBy (name M) ts vs p → (r : Read) → r ≡ outcome (expr M 32 (tokens ts vs) (l .end)) → (z : ℕ) → z ≡ endOf r p →
+    pub laid-equation : (p : ℕ) (l : Span) → Spanned (name M) ts vs p l → (z : ℕ) → ((e : Expr) (q : ℕ) → expr M 32 (tokens ts vs) (l .end) ≡ got e q → z ≡ q) →
         (e : Equation) (q : ℕ) → equation M (tokens ts vs) p ≡ got e q → LaidEquation M (tokens ts vs) e q (record { left = l; right = l .end; end = z })
-    laid-equation p l el r er z ez e q g =
+    laid-equation p l el z ez e q g =
         let t = equation-got M (tokens ts vs) p e q g in
         let s = span-at (name M) p 3 1 8 (t .0) (t .1) (t .2) (t .3) (t .5) (t .6) l p el refl in
         let fl : t .2 ≡ e .left = sym (ap (λ (y : Equation). y .left) (t .8)) in
         let fr : t .4 ≡ e .right = sym (ap (λ (y : Equation). y .right) (t .8)) in
         let x : expr M 32 (tokens ts vs) (l .end) ≡ got (e .right) q = ap (expr M 32 (tokens ts vs)) (s .1) ∙ t .7 ∙ ap (λ (y : Expr). got y q) fr in
-        record { left = subst (λ (y : List ℕ). Spans (name M) (tokens ts vs) y l) fl (s .0); right = x; ends = ez ∙ ap (λ (y : Read). endOf y p) (er ∙ ap outcome x) }
+        record { left = subst (λ (y : List ℕ). Spans (name M) (tokens ts vs) y l) fl (s .0); right = x; ends = ez (e .right) q x }
 
-    pub laid-sheet : (t m : Span) → t ≡ spanBy (typeDef M) ts vs 0 → m ≡ spanBy (node M) ts vs (t .end) →
-        (s : Sheet) (q : ℕ) → sheet M (tokens ts vs) 0 ≡ got s q → LaidSheet M (tokens ts vs) s (record { types = t; nodes = m })
-    laid-sheet t m et em s q g =
+    pub laid-sheet : (t : Span) → Spanned (typeDef M) ts vs 0 t → (a c : ℕ) → a ≡ pastIn (length ts) (t .end) → c ≡ getD vs (t .end) 0 →
+        (s : Sheet) (q : ℕ) → sheet M (tokens ts vs) 0 ≡ got s q → LaidSheet M (tokens ts vs) s (record { types = t; nodes = record { at = a; count = c; end = length ts } })
+    laid-sheet t et a c ea ec s q g =
         let x = sheet-got M (tokens ts vs) 0 s q g in
         let st = span-at (typeDef M) 0 1 0 32 (x .0) (x .1) (s .types) (x .2) (x .5) (x .6) t 0 et refl in
-        let sm = span-at (node M) (x .2) 2 0 16 (x .3) (x .4) (s .nodes) q (x .7) (x .8) m (t .end) em (st .1) in
-        let a = times-length (typeDef M) (tokens ts vs) (x .0) (x .1) (s .types) (x .2) (x .6) in
-        let b = times-length (node M) (tokens ts vs) (x .3) (x .4) (s .nodes) q (x .8) in
-        let c = counted-within 1 0 32 (tokens ts vs) 0 (x .0) (x .1) (x .5) in
+        let w = counted-grows 2 0 16 (tokens ts vs) (x .2) (x .3) (x .4) (x .7) in
+        let b : x .2 < length ts = omega (arith, w .0, w .1, tokens-length ts vs same-length) in
+        let v = counted-value ts vs same-length (x .2) 2 0 16 (x .3) (x .4) b (x .7) in
+        let fc : x .3 ≡ c = v .0 ∙ ap (λ (z : ℕ). getD vs z 0) (sym (st .1)) ∙ sym ec in
+        let fa : x .4 ≡ a = v .2 ∙ sym (past-is (length ts) (x .2) b) ∙ ap (pastIn (length ts)) (sym (st .1)) ∙ sym ea in
+        let i = moved (node M) (x .3) c (x .4) a (s .nodes) q fc fa (x .8) in
+        let h = times-length (typeDef M) (tokens ts vs) (x .0) (x .1) (s .types) (x .2) (x .6) in
+        let j = times-length (node M) (tokens ts vs) (x .3) (x .4) (s .nodes) q (x .8) in
+        let k = counted-within 1 0 32 (tokens ts vs) 0 (x .0) (x .1) (x .5) in
         let d = counted-within 2 0 16 (tokens ts vs) (x .2) (x .3) (x .4) (x .7) in
         record {
           types = st .0;
-          nodes = sm .0;
-          few-types = omega (arith, a, c .1, st .0 .many);
-          few-nodes = omega (arith, b, d .1, sm .0 .many);
-          whole = sm .1 ∙ x .9;
+          nodes = record { items = i ∙ ap (got (s .nodes)) (x .9 ∙ tokens-length ts vs same-length); many = sym fc ∙ sym j };
+          few-types = omega (arith, h, k .1, st .0 .many);
+          few-nodes = omega (arith, d .1, fc);
+          whole = sym (tokens-length ts vs same-length);
         }
 
 -- what stands past the last node

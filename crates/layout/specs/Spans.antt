@@ -11,7 +11,6 @@ use Rattle.definitions.specs.Tokens.{TagValue, kindOf}
 use Rattle.definitions.specs.Bytes.{tokens}
 use Rattle.definitions.specs.Reading.{Reader, got, times}
 use Rattle.grammar.specs.declared.Read.{Read}
-use Rattle.grammar.specs.Outcome.{outcome}
 use Rattle.layout.specs.declared.Span.{Span}
 
 -- the place after this one, of so many
@@ -32,13 +31,10 @@ endOf (Read.Next q) p = q
 endOf (Read.Refused t) p = p
 
 -- a list behind its count: as many items as the value at p says, from the next place on
-abbrev pub spanBy : {A : Type 0} → Reader A → List ℕ → List ℕ → ℕ → Span
-spanBy R ts vs p =
-    record {
-      at = pastIn (length ts) p;
-      count = getD vs p 0;
-      end = endOf (outcome (times (getD vs p 0) R (tokens ts vs) (pastIn (length ts) p))) p;
-    }
+pub record Spanned {A : Type 0} (R : Reader A) (gs vs : List ℕ) (p : ℕ) (s : Span) : Type 0 where
+  pub first : s .at ≡ pastIn (length gs) p
+  pub counted : s .count ≡ getD vs p 0
+  pub ended : (l : List A) (q : ℕ) → times (s .count) R (tokens gs vs) (s .at) ≡ got l q → s .end ≡ q
 
 -- the list l stands there
 pub record Spans {A : Type 0} (R : Reader A) (ts : List TagValue) (l : List A) (s : Span) : Type 0 where

@@ -11,7 +11,7 @@ ghost use Rattle.definitions.specs.Bytes.{tokens};
 ghost use Rattle.definitions.specs.Tree.{Equation, Node, Sheet};
 ghost use Rattle.definitions.specs.Reading.{got, times};
 ghost use Rattle.definitions.specs.Grammar.{name, declaration, equation, probe, node, sheet, typeDef};
-ghost use Rattle.layout.specs.Spans.{pastIn, kindIn, endOf, spanBy};
+ghost use Rattle.layout.specs.Spans.{pastIn, kindIn, endOf, Spanned};
 ghost use Rattle.layout.specs.Laid.{Laid, LaidEquation, LaidSheet, Places};
 
 // A list behind its count: where its first item stands, how many there are, and the place after the last.
@@ -77,12 +77,11 @@ fn ended(read: Read, at: usize) -> usize
 // Names with their types behind their count.
 pub fn declared_at(tags: &[u8], values: &[u32], names: u32, at: usize) -> Span
     requires { ⌜ length (now values) ≡ length (now tags) ⌝ }
-    ensures { λ r. ⌜ r ≡ spanBy (declaration names) (now (tags .entry)) (now (values .entry)) at ⌝ }
+    ensures { λ r. ⌜ Spanned (declaration names) (now (tags .entry)) (now (values .entry)) at r ⌝ }
 {
     let count = typedefs::value_at(values, at);
     let first = past(tags, at);
-    let read = grammar::read_declarations(tags, values, names, count, first);
-    let end = ended(read, at);
+    let end = extents::declarations_end(tags, values, count, first);
     Span {
         at: first,
         count,
@@ -93,12 +92,11 @@ pub fn declared_at(tags: &[u8], values: &[u32], names: u32, at: usize) -> Span
 // Names behind their count.
 pub fn names_at(tags: &[u8], values: &[u32], names: u32, at: usize) -> Span
     requires { ⌜ length (now values) ≡ length (now tags) ⌝ }
-    ensures { λ r. ⌜ r ≡ spanBy (name names) (now (tags .entry)) (now (values .entry)) at ⌝ }
+    ensures { λ r. ⌜ Spanned (name names) (now (tags .entry)) (now (values .entry)) at r ⌝ }
 {
     let count = typedefs::value_at(values, at);
     let first = past(tags, at);
-    let read = grammar::read_names(tags, values, names, count, first);
-    let end = ended(read, at);
+    let end = extents::names_end(tags, values, count, first);
     Span {
         at: first,
         count,
@@ -109,12 +107,11 @@ pub fn names_at(tags: &[u8], values: &[u32], names: u32, at: usize) -> Span
 // Equations behind their count.
 pub fn equations_at(tags: &[u8], values: &[u32], names: u32, at: usize) -> Span
     requires { ⌜ length (now values) ≡ length (now tags) ⌝ }
-    ensures { λ r. ⌜ r ≡ spanBy (equation names) (now (tags .entry)) (now (values .entry)) at ⌝ }
+    ensures { λ r. ⌜ Spanned (equation names) (now (tags .entry)) (now (values .entry)) at r ⌝ }
 {
     let count = typedefs::value_at(values, at);
     let first = past(tags, at);
-    let read = grammar::read_equations(tags, values, names, count, first);
-    let end = ended(read, at);
+    let end = extents::equations_end(tags, values, count, first);
     Span {
         at: first,
         count,
@@ -125,12 +122,11 @@ pub fn equations_at(tags: &[u8], values: &[u32], names: u32, at: usize) -> Span
 // Probes behind their count.
 pub fn probes_at(tags: &[u8], values: &[u32], names: u32, at: usize) -> Span
     requires { ⌜ length (now values) ≡ length (now tags) ⌝ }
-    ensures { λ r. ⌜ r ≡ spanBy (probe names) (now (tags .entry)) (now (values .entry)) at ⌝ }
+    ensures { λ r. ⌜ Spanned (probe names) (now (tags .entry)) (now (values .entry)) at r ⌝ }
 {
     let count = typedefs::value_at(values, at);
     let first = past(tags, at);
-    let read = grammar::read_probes(tags, values, names, count, first);
-    let end = ended(read, at);
+    let end = extents::probes_end(tags, values, count, first);
     Span {
         at: first,
         count,
@@ -141,27 +137,11 @@ pub fn probes_at(tags: &[u8], values: &[u32], names: u32, at: usize) -> Span
 // Types' definitions behind their count.
 pub fn types_at(tags: &[u8], values: &[u32], names: u32, at: usize) -> Span
     requires { ⌜ length (now values) ≡ length (now tags) ⌝ }
-    ensures { λ r. ⌜ r ≡ spanBy (typeDef names) (now (tags .entry)) (now (values .entry)) at ⌝ }
+    ensures { λ r. ⌜ Spanned (typeDef names) (now (tags .entry)) (now (values .entry)) at r ⌝ }
 {
     let count = typedefs::value_at(values, at);
     let first = past(tags, at);
     let read = grammar::read_definitions(tags, values, names, count, first);
-    let end = ended(read, at);
-    Span {
-        at: first,
-        count,
-        end,
-    }
-}
-
-// Nodes behind their count.
-pub fn nodes_at(tags: &[u8], values: &[u32], names: u32, at: usize) -> Span
-    requires { ⌜ length (now values) ≡ length (now tags) ⌝ }
-    ensures { λ r. ⌜ r ≡ spanBy (node names) (now (tags .entry)) (now (values .entry)) at ⌝ }
-{
-    let count = typedefs::value_at(values, at);
-    let first = past(tags, at);
-    let read = grammar::read_nodes(tags, values, names, count, first);
     let end = ended(read, at);
     Span {
         at: first,
@@ -204,18 +184,20 @@ pub fn equation_at(tags: &[u8], values: &[u32], names: u32, at: usize) -> Equati
 {
     let left = names_at(tags, values, names, at);
     let right = left.end;
-    let read = grammar::read_expr(tags, values, names, 32, right);
-    let end = ended(read, at);
+    let end = extents::expr_end(tags, values, right);
     EquationLayout { left, right, end }
 }
 
-// The parts of a sheet.
+// The parts of a sheet: its nodes fill it.
 pub fn sheet_at(tags: &[u8], values: &[u32], names: u32) -> SheetLayout
     requires { ⌜ length (now values) ≡ length (now tags) ⌝ }
     ensures { λ r. ⌜ ((s : Sheet) (q : ℕ) → sheet names (tokens (now (tags .entry)) (now (values .entry))) 0 ≡ got s q → LaidSheet names (tokens (now (tags .entry)) (now (values .entry))) s r) ⌝ }
 {
     let types = types_at(tags, values, names, 0);
-    let nodes = nodes_at(tags, values, names, types.end);
+    let at = past(tags, types.end);
+    let count = typedefs::value_at(values, types.end);
+    let end = tags.len();
+    let nodes = Span { at, count, end };
     SheetLayout { types, nodes }
 }
 
@@ -230,16 +212,9 @@ pub fn node_places(tags: &[u8], values: &[u32], names: u32, n: usize, at: usize)
     let mut i: usize = 0;
     while i < n {
         places[i] = place;
-        let item = grammar::read_node(tags, values, names, place);
-        match item {
-            Read::Next(next) => {
-                place = next;
-                i += 1;
-            }
-            Read::Refused(_) => {
-                return places;
-            }
-        }
+        let l = node_at(tags, values, names, place);
+        place = l.end;
+        i += 1;
     }
     places
 }

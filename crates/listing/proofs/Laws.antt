@@ -3,18 +3,17 @@ use mathlib.Core.Path.{_≡_, refl, sym, _∙_, ap}
 use mathlib.Core.List.{List, [], _∷_, _++_, map, append-assoc, append-nil}
 use mathlib.Core.Bool.{Bool, true, false}
 use mathlib.Core.Option.{Option}
-use Prim.Native.Nat.{ℕ, zero, suc, _+_, _-_, _≤_, _<_, min}
+use Prim.Native.Nat.{ℕ, zero, suc, _+_, _-_, _*_, _≤_, _<_, min}
 use native.Mathlib.Omega.{arith}
 use native.Mathlib.Numerals.{add-one}
-use lib.ListN.{length, getD, take, length-append}
-use lib.Seq.{take-suc, take-all}
+use lib.ListN.{length, getD, length-append}
 use Rattle.definitions.specs.Lists.{choose, any, join, numbered, Letters}
 use Rattle.definitions.specs.Tokens.{TagValue}
 use Rattle.definitions.specs.Tree.{Expr, Equation, Node}
 use Rattle.definitions.specs.Reading.{got, times}
 use Rattle.definitions.specs.Grammar.{equation}
 use Rattle.definitions.specs.Clock.{Clock, depth}
-use Rattle.definitions.specs.InferClocks.{Formed, deep, formed, _>>=_, Natural, Clocks, Clocked, Clocking, Inferred, Finding, isTooDeep, natural, orBase, clockedBy, checkEquation, inferred, clocking, chains, clockFaults}
+use Rattle.definitions.specs.InferClocks.{Formed, deep, formed, _>>=_, Natural, Clocks, Clocked, Clocking, Inferred, Finding, NodeFault, isTooDeep, natural, orBase, clockedBy, checkEquation, inferred, clocking, chains, clockFaults}
 use Rattle.definitions.specs.Texts.{faultLine}
 use Rattle.definitions.specs.Answer.{nodeClocks, nodeListing}
 use Rattle.grammar.proofs.Got.{times-nil, times-cons}
@@ -23,7 +22,8 @@ use Rattle.operands.specs.Spread.{tree}
 use Rattle.layout.specs.declared.EquationLayout.{EquationLayout}
 use Rattle.layout.specs.declared.NodeLayout.{NodeLayout}
 use Rattle.layout.specs.Laid.{Laid, LaidEquation}
-use Rattle.findings.specs.Findings.{findingsIn}
+use Rattle.findings.specs.Findings.{faultIn, findingIn, findingsIn}
+use Rattle.findings.proofs.Laws.{none-yet, faults-one, faults-no}
 use Rattle.order.specs.Order.{rowOf, picked}
 use Rattle.infer_clocks.specs.Clocked.{Tells}
 use Rattle.spelling.specs.Writing.{Put, farthest}
@@ -33,19 +33,23 @@ use Rattle.texts.proofs.Joining.{also, put-as}
 use Rattle.listing.specs.Low.{Low}
 use Rattle.texts.proofs.Listing.{put-line, put-numbered, put-listing}
 
--- ---- a line for each of the first items of a list
-module _ {A : Type 0} (f : A → Letters) (l : List A) {p : ℕ} {s : List ℕ} where
-  pub front-none : {q : ℕ} → q ≡ min (p + 0) farthest → Put (join (map f (take 0 l))) p s q s
-  front-none e = put-none s e
+-- ---- a line for each fault of the first rows
+module _ (line : NodeFault → Letters) (t : List ℕ) {p : ℕ} {s : List ℕ} where
+  pub faults-none : {q : ℕ} → q ≡ min (p + 0) farthest → Put (join (map line (clockFaults (findingsIn t 0)))) p s q s
+  faults-none e = put-as (ap (λ (l : List NodeFault). join (map line l)) (sym (none-yet t .0))) (put-none s e)
 
-  pub front-line : (j : ℕ) (d a : A) {q r : ℕ} {s₁ s₂ : List ℕ} → j < length l → a ≡ getD l j d → length s ≤ farthest
-      → Put (join (map f (take j l))) p s q s₁ → Put (f a) q s₁ r s₂ → Put (join (map f (take (j + 1) l))) p s r s₂
-  front-line j d a h e k u v =
-      let g : take j l ++ (a ∷ []) ≡ take (j + 1) l = ap (λ (b : A). take j l ++ (b ∷ [])) e ∙ (sym (take-suc l j d h) ∙ ap (λ (i : ℕ). take i l) (sym (add-one j))) in
-      put-as (ap (λ (x : List A). join (map f x)) g) (put-line f (take j l) a k u v)
+  module _ (i : ℕ) (x : Bool) (h : clockFaults (findingIn t (38 * i) ∷ []) ≡ choose x (faultIn t (38 * i) ∷ []) []) where
+    pub fault-line : (f : NodeFault) {q r : ℕ} {s₁ s₂ : List ℕ} → x ≡ true → f ≡ faultIn t (38 * i) → length s ≤ farthest
+        → Put (join (map line (clockFaults (findingsIn t i)))) p s q s₁ → Put (line f) q s₁ r s₂ → Put (join (map line (clockFaults (findingsIn t (i + 1))))) p s r s₂
+    fault-line f e g k u v =
+        let b : clockFaults (findingsIn t i) ++ (f ∷ []) ≡ clockFaults (findingsIn t (i + 1)) = ap (λ (y : NodeFault). clockFaults (findingsIn t i) ++ (y ∷ [])) g ∙ sym (faults-one t i x h e) in
+        put-as (ap (λ (l : List NodeFault). join (map line l)) b) (put-line line (clockFaults (findingsIn t i)) f k u v)
 
-  pub front-all : (j m : ℕ) {q : ℕ} {s₁ : List ℕ} → m ≡ length l → m ≤ j → Put (join (map f (take j l))) p s q s₁ → Put (join (map f l)) p s q s₁
-  front-all j m e h u = put-as (ap (λ (x : List A). join (map f x)) (take-all j l (omega arith))) u
+    pub fault-pass : {q : ℕ} {s₁ : List ℕ} → x ≡ false → Put (join (map line (clockFaults (findingsIn t i)))) p s q s₁ → Put (join (map line (clockFaults (findingsIn t (i + 1))))) p s q s₁
+    fault-pass e u = put-as (ap (λ (l : List NodeFault). join (map line l)) (sym (faults-no t i x h e))) u
+
+  pub faults-all : (i n : ℕ) {q : ℕ} {s₁ : List ℕ} → i ≤ n → n ≤ i → Put (join (map line (clockFaults (findingsIn t i)))) p s q s₁ → Put (join (map line (clockFaults (findingsIn t n)))) p s q s₁
+  faults-all i n g h u = let e : i ≡ n = omega arith in put-as (ap (λ (j : ℕ). join (map line (clockFaults (findingsIn t j)))) e) u
 
 -- ---- a line for each chain
 module _ (f : ℕ → Clock) (o : List ℕ) where

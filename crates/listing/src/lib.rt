@@ -12,7 +12,7 @@ ghost use Rattle.definitions.specs.Bytes.{tokens};
 ghost use Rattle.definitions.specs.Tree.{Equation, Node};
 ghost use Rattle.definitions.specs.Reading.{got, times};
 ghost use Rattle.definitions.specs.Grammar.{equation};
-ghost use Rattle.definitions.specs.InferClocks.{Clocks, Clocked, Clocking, formed, clockedBy, clocking, clockFaults};
+ghost use Rattle.definitions.specs.InferClocks.{Clocks, Clocked, Clocking, formed, clockedBy, clocking, chains, clockFaults};
 ghost use Rattle.definitions.specs.Texts.{faultLine};
 ghost use Rattle.definitions.specs.Answer.{nodeListing};
 ghost use Rattle.environment.specs.Environment.{Agrees};
@@ -122,20 +122,24 @@ pub fn put_faults(
     requires { ⌜ length (now out) ≤ farthest ⌝ }
     ensures { λ r. ⌜ Put (join (map (faultLine (lettersAt (now (starts .entry)) (now (letters .entry))) node) (clockFaults (findingsIn (now (table .entry)) n)))) at (now (out .entry)) r (now (out .exit)) ⌝ }
 {
-    let m = findings::fault_count(table, n);
     let mut next = counted(at);
-    let mut j: usize = 0;
-    while j < m {
-        let f = findings::nth_fault(table, n, j);
-        let fault = f.fault;
-        let equation = wide(f.equation);
-        next = texts::put_fault_line(out, next, starts, letters, node, equation, fault);
-        j += 1;
+    let mut i: usize = 0;
+    while i < n {
+        let faulty = findings::is_fault(table, i);
+        if faulty {
+            let f = findings::found_in(table, i);
+            let fault = f.fault;
+            let equation = wide(f.equation);
+            next = texts::put_fault_line(out, next, starts, letters, node, equation, fault);
+            i += 1;
+            continue;
+        }
+        i += 1;
     }
     next
 }
 
-// The listing of a node.
+// The listing of a node, whose m chains stand in the rows that `chain` says.
 pub fn put_node(
     out: &mut [u8],
     at: usize,
@@ -146,24 +150,23 @@ pub fn put_node(
     env: &[u32],
     table: &[u32],
     told: Told,
-    rows: &mut [u32],
-    chain: &mut [u32],
+    rows: &[u32],
+    chain: &[u32],
+    m: usize,
 ) -> usize
     requires { ⌜ length (now out) ≤ farthest ⌝ }
     requires { ⌜ length (now values) ≡ length (now tags) ⌝ }
     ensures { λ r. ⌜ r ≤ farthest ⌝ }
-    ensures { λ r. ⌜ ((node : Node) (q : ℕ) (k : Clocking) → Laid (told .names) (tokens (now (tags .entry)) (now (values .entry))) node q (told .layout) → clocking node ≡ formed k → Tells (now (env .entry)) (now (table .entry)) (told .names) (told .passes) (told .findings) k → 17 * told .findings ≤ length (now (rows .entry)) → told .findings ≤ length (now (chain .entry)) → told .findings < 4294967296 → Put (nodeListing (lettersAt (now (starts .entry)) (now (letters .entry))) (told .number) (record { node = node; clocking = k })) at (now (out .entry)) r (now (out .exit))) ⌝ }
-    ensures { λ r. ⌜ ((node : Node) (q : ℕ) (k : Clocking) → Laid (told .names) (tokens (now (tags .entry)) (now (values .entry))) node q (told .layout) → clocking node ≡ formed k → Tells (now (env .entry)) (now (table .entry)) (told .names) (told .passes) (told .findings) k → 17 * told .findings ≤ length (now (rows .entry)) → told .findings ≤ length (now (chain .entry)) → told .findings < 4294967296 → length (now (letters .entry)) ≤ 16384 → length (now (tags .entry)) ≤ 4096 → told .findings ≤ 4096 → length (nodeListing (lettersAt (now (starts .entry)) (now (letters .entry))) (told .number) (record { node = node; clocking = k })) ≤ farthest) ⌝ }
+    ensures { λ r. ⌜ ((node : Node) (q : ℕ) (k : Clocking) → Laid (told .names) (tokens (now (tags .entry)) (now (values .entry))) node q (told .layout) → clocking node ≡ formed k → Tells (now (env .entry)) (now (table .entry)) (told .names) (told .passes) (told .findings) k → picked (rowOf (now (rows .entry))) (now (chain .entry)) 0 m ≡ chains (lettersAt (now (starts .entry)) (now (letters .entry))) (findingsIn (now (table .entry)) (told .findings)) → Put (nodeListing (lettersAt (now (starts .entry)) (now (letters .entry))) (told .number) (record { node = node; clocking = k })) at (now (out .entry)) r (now (out .exit))) ⌝ }
+    ensures { λ r. ⌜ ((node : Node) (q : ℕ) (k : Clocking) → Laid (told .names) (tokens (now (tags .entry)) (now (values .entry))) node q (told .layout) → clocking node ≡ formed k → Tells (now (env .entry)) (now (table .entry)) (told .names) (told .passes) (told .findings) k → picked (rowOf (now (rows .entry))) (now (chain .entry)) 0 m ≡ chains (lettersAt (now (starts .entry)) (now (letters .entry))) (findingsIn (now (table .entry)) (told .findings)) → length (now (letters .entry)) ≤ 16384 → length (now (tags .entry)) ≤ 4096 → told .findings ≤ 4096 → length (nodeListing (lettersAt (now (starts .entry)) (now (letters .entry))) (told .number) (record { node = node; clocking = k })) ≤ farthest) ⌝ }
 {
     let l = told.layout;
-    let n = told.findings;
-    let m = infer_clocks::chain_rows(starts, letters, table, n, rows, chain);
     let e = l.equations;
     let equations = wide(e.count);
     let a = texts::put_head(out, at, starts, letters, l.name, equations, told.passes, m);
     let b = put_equations(out, a, starts, letters, tags, values, told.names, env, e);
     let c = put_chains(out, b, starts, letters, rows, chain, m);
-    put_faults(out, c, starts, letters, table, n, told.number)
+    put_faults(out, c, starts, letters, table, told.findings, told.number)
 }
 
 // How long the listing of a node is.
@@ -175,12 +178,13 @@ pub fn measure_node(
     env: &[u32],
     table: &[u32],
     told: Told,
-    rows: &mut [u32],
-    chain: &mut [u32],
+    rows: &[u32],
+    chain: &[u32],
+    m: usize,
 ) -> usize
     requires { ⌜ length (now values) ≡ length (now tags) ⌝ }
     ensures { λ r. ⌜ r ≤ farthest ⌝ }
-    ensures { λ r. ⌜ ((node : Node) (q : ℕ) (k : Clocking) → Laid (told .names) (tokens (now (tags .entry)) (now (values .entry))) node q (told .layout) → clocking node ≡ formed k → Tells (now (env .entry)) (now (table .entry)) (told .names) (told .passes) (told .findings) k → 17 * told .findings ≤ length (now (rows .entry)) → told .findings ≤ length (now (chain .entry)) → length (now (letters .entry)) ≤ 16384 → length (now (tags .entry)) ≤ 4096 → told .findings ≤ 4096 → r ≡ length (nodeListing (lettersAt (now (starts .entry)) (now (letters .entry))) (told .number) (record { node = node; clocking = k }))) ⌝ }
+    ensures { λ r. ⌜ ((node : Node) (q : ℕ) (k : Clocking) → Laid (told .names) (tokens (now (tags .entry)) (now (values .entry))) node q (told .layout) → clocking node ≡ formed k → Tells (now (env .entry)) (now (table .entry)) (told .names) (told .passes) (told .findings) k → picked (rowOf (now (rows .entry))) (now (chain .entry)) 0 m ≡ chains (lettersAt (now (starts .entry)) (now (letters .entry))) (findingsIn (now (table .entry)) (told .findings)) → length (now (letters .entry)) ≤ 16384 → length (now (tags .entry)) ≤ 4096 → told .findings ≤ 4096 → r ≡ length (nodeListing (lettersAt (now (starts .entry)) (now (letters .entry))) (told .number) (record { node = node; clocking = k }))) ⌝ }
 {
     let mut none = [0u8; 1];
     put_node(
@@ -195,6 +199,7 @@ pub fn measure_node(
         told,
         rows,
         chain,
+        m,
     )
 }
 
@@ -214,10 +219,22 @@ pub fn node_into(
     requires { ⌜ length (now values) ≡ length (now tags) ⌝ }
     ensures { λ r. ⌜ ((node : Node) (q : ℕ) (k : Clocking) → Laid (told .names) (tokens (now (tags .entry)) (now (values .entry))) node q (told .layout) → clocking node ≡ formed k → Tells (now (env .entry)) (now (table .entry)) (told .names) (told .passes) (told .findings) k → 17 * told .findings ≤ length (now (rows .entry)) → told .findings ≤ length (now (chain .entry)) → length (now (letters .entry)) ≤ 16384 → length (now (tags .entry)) ≤ 4096 → told .findings ≤ 4096 → Gives (nodeListing (lettersAt (now (starts .entry)) (now (letters .entry))) (told .number) (record { node = node; clocking = k })) (now (out .entry)) r (now (out .exit))) ⌝ }
 {
-    let m = measure_node(starts, letters, tags, values, env, table, told, rows, chain);
-    if m <= out.len() {
+    let m = infer_clocks::chain_rows(starts, letters, table, told.findings, rows, chain);
+    let size = measure_node(
+        starts,
+        letters,
+        tags,
+        values,
+        env,
+        table,
+        told,
+        rows,
+        chain,
+        m,
+    );
+    if size <= out.len() {
         put_node(
-            &mut out[..m],
+            &mut out[..size],
             0,
             starts,
             letters,
@@ -228,8 +245,9 @@ pub fn node_into(
             told,
             rows,
             chain,
+            m,
         );
-        return Lending::Written(m);
+        return Lending::Written(size);
     }
-    Lending::Lent(m)
+    Lending::Lent(size)
 }

@@ -25,7 +25,6 @@ use Rattle.operands.specs.declared.Gap.{Gap}
 use Rattle.operands.specs.declared.Role.{Role}
 use Rattle.operands.specs.Role.{roleOfExpr, operandsOf}
 use Rattle.operands.specs.Spread.{tree, spread, later, operandAt, restAt}
-use Rattle.operands.specs.Laid.{skipped}
 use Rattle.operands.proofs.Laws.{spread-nil, spread-cons, before-place, behind-place}
 use Rattle.operands.proofs.Roles.{Among}
 use Rattle.natural.specs.declared.Found.{Found}
@@ -78,10 +77,6 @@ module _ (f : Found) (n : Natural) (q : ℕ) (h : Finds f n q) where
     above-some j k =
         let l : up ≡ parentOf n = i ∙ ap parentOf (h .clock) in
         record { clock = k ∙ l; end = λ e. absurd (kept-some up j (l ∙ e)) }
-
--- the place that skipping gives
-pub skip-end : (M : ℕ) (ts : List TagValue) (p : ℕ) (e : Expr) (q r : ℕ) → tree M ts p ≡ got e q → r ≡ skipped p (tree M ts p) → r ≡ q
-skip-end M ts p e q r g i = i ∙ ap (skipped p) g
 
 -- ---- operands
 -- the first clock among them is that of the definitions

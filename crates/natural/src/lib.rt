@@ -4,10 +4,11 @@ use clock::Natural;
 use clock::Presence;
 use definitions::Condition;
 use operands::Gap;
+use operands::Leaf;
 use operands::Role;
 ghost use mathlib.Core.Path.{_≡_};
 ghost use mathlib.Core.Option.{none, some};
-ghost use Prim.Native.Nat.{ℕ};
+ghost use Prim.Native.Nat.{ℕ, _<_};
 ghost use lib.ListN.{length};
 ghost use Rattle.definitions.specs.Bytes.{tokens};
 ghost use Rattle.definitions.specs.Tree.{Expr, Exprs};
@@ -79,13 +80,29 @@ fn above(tags: &[u8], values: &[u32], names: u32, f: Found, at: usize) -> Found
     }
     let up = clock::parent_of(n);
     if is_free(up) {
-        let end = operands::skip(tags, values, names, at);
+        let end = extents::expr_end(tags, values, at);
         return nothing(end);
     }
     let end = f.end;
     Found {
         natural: up,
         end: end,
+    }
+}
+
+// Where a leaf without a clock ends; its own place, if it has a clock or is no leaf.
+fn free_leaf(tags: &[u8], values: &[u32], env: &[u32], at: usize) -> usize
+    requires { ⌜ length (now values) ≡ length (now tags) ⌝ }
+    ensures { λ r. ⌜ ((M : ℕ) (e : Expr) (q : ℕ) (clocks : Clocks) → tree M (tokens (now (tags .entry)) (now (values .entry))) at ≡ got e q → Agrees (now (env .entry)) M clocks → at < r → (natural clocks e ≡ formed none) × (r ≡ q)) ⌝ }
+{
+    let leaf = operands::leaf_at(tags, values, at);
+    match leaf {
+        Leaf::Name(x, end) => {
+            let w = flat::word_at(env, 17 * (x as usize));
+            if w == 0 { end } else { at }
+        }
+        Leaf::Constant(end) => end,
+        Leaf::Other => at,
     }
 }
 
@@ -165,6 +182,16 @@ pub fn first_found(
         return nothing(at);
     }
     let place = operands::operand_at(tags, gap, at);
+    let free = free_leaf(tags, values, env, place);
+    if place < free {
+        let behind = operands::after_operand(tags, gap, free);
+        let past = behind.next;
+        let after = behind.gap;
+        if past <= at {
+            return nothing(at);
+        }
+        return first_found(tags, values, names, env, up, after, count - 1, past);
+    }
     let f = operand_clock(tags, values, names, env, up, place);
     let n = f.natural;
     if is_free(n) {

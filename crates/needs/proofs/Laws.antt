@@ -4,12 +4,11 @@ use Prim.Native.Nat.{ℕ, zero, suc, _+_, _-_, _≤_, _<_}
 use mathlib.Core.Path.{_≡_, refl, sym, _∙_, ap, subst}
 use mathlib.Core.List.{List, [], _∷_}
 use mathlib.Core.Bool.{Bool, true, false, _&&_}
-use mathlib.Core.Option.{Option, none, some}
 use native.Mathlib.Omega.{arith}
 use lib.Dec.{ltb}
-use lib.ListN.{length}
+use lib.ListN.{length, getD, set}
 use types.Run.{miss}
-use borrow.Author.Tests.{lt-ltb, ltb-true}
+use borrow.Author.Tests.{ltb-true}
 use Rattle.definitions.specs.declared.Condition.{Condition}
 use Rattle.definitions.specs.Lists.{choose}
 use Rattle.definitions.specs.Bytes.{tokens}
@@ -18,22 +17,23 @@ use Rattle.definitions.specs.Tree.{Head, Expr, Exprs, Node}
 use Rattle.definitions.specs.Reading.{got}
 use Rattle.definitions.specs.Clock.{Clock, base, _/_, depth, deepest, parent, isOn, isNot, isBase}
 use Rattle.definitions.specs.Declock.{operatorOutputs, add, addWithParents}
-use Rattle.definitions.specs.InferClocks.{formed, conditionOver}
-use Rattle.clock.specs.declared.Presence.{Presence}
-use Rattle.clock.specs.declared.Natural.{Natural}
-use Rattle.clock.specs.Value.{valueOf, naturalOf, naturalAt}
+use Rattle.clock.specs.Value.{clockAt, capped}
+use Rattle.clock.proofs.Laws.{depth-at, clock-push}
 use Rattle.operands.specs.declared.Gap.{Gap}
+use Rattle.operands.specs.declared.Leaf.{Leaf}
 use Rattle.operands.specs.declared.Role.{Role}
 use Rattle.operands.specs.Role.{roleOfHead, roleOfExpr, operandsOf}
 use Rattle.operands.specs.Spread.{tree, spread, later, operandAt, restAt}
+use Rattle.operands.specs.Leaf.{leafAt}
 use Rattle.operands.proofs.Laws.{spread-nil}
 use Rattle.operands.proofs.Roles.{Among}
+use Rattle.operands.proofs.Leaves.{leaf-says, IsConstant}
 use Rattle.natural.proofs.Laws.{Apart, apart}
 use Rattle.rows.specs.Rows.{Has}
-use Rattle.callees.specs.Callees.{isThere, Standing}
+use Rattle.callees.specs.Callees.{isThere}
 use Rattle.needs.specs.declared.Counts.{Counts}
 use Rattle.needs.specs.declared.Turn.{Turn}
-use Rattle.needs.specs.Need.{Needs, withHold, withFirst, withGate, settled, isBare, preTurn, arrowTurn, callTurn, hereOn, restOn, roomFor, within, withins, turnOf, needed, neededAll, mostHolds, oneMore, Counted}
+use Rattle.needs.specs.Need.{Needs, withHold, withFirst, withGate, settled, isBare, isLeaf, preTurn, arrowTurn, callTurn, hereOn, restOn, roomFor, within, withins, turnOf, needed, neededAll, mostHolds, oneMore, Counted}
 
 -- ---- both
 left-of : (a b : Bool) → a && b ≡ true → a ≡ true
@@ -53,13 +53,15 @@ both-true true false h = h
 both-true false b h = h
 
 -- ---- clocks
-pub pushed : (n : Natural) (c : Clock) (k : Condition) → naturalOf n ≡ conditionOver k (formed (some c)) → depth c < 8 → valueOf (n .clock) ≡ c / k
-pushed n c k e h = go (n .presence) (valueOf (n .clock)) (e ∙ rw (lt-ltb (depth c) 8 h))
-  where
-    go : (p : Presence) (v : Clock) → naturalAt p v ≡ formed (some (c / k)) → v ≡ c / k
-    go Presence.Free v j = let z : _≡_ {A = ℕ} 0 1 = cc in absurd (omega arith)
-    go Presence.On v j = cc
-    go Presence.Deep v j = let z : _≡_ {A = ℕ} 0 1 = cc in absurd (omega arith)
+-- one condition more
+pub branch-on : (ks : List Condition) (d : ℕ) (k : Condition) → length ks ≡ 8 → d < 8 → clockAt (set ks d k) (capped (d + 1)) ≡ clockAt ks (capped d) / k
+branch-on ks d k n l =
+    let e : capped d ≡ d = omega arith in
+    let f : capped (d + 1) ≡ d + 1 = omega arith in
+    rw (e, f) (clock-push ks d k (omega (arith, n, l)))
+
+pub no-branch : (ks : List Condition) (d : ℕ) → 8 ≤ d → depth (clockAt ks (capped d)) < 8 → ⊥
+no-branch ks d l h = omega (arith, depth-at ks (capped d), l, h)
 
 -- the roles other than `Sample` and `Join`
 abbrev plain : List ℕ
@@ -120,6 +122,28 @@ not-bare (Expr.merge x a b) h = refl
 
 pub bare-other : (e : Expr) (v : Role) → v ≡ roleOfExpr e → Among others v → false ≡ isBare e
 bare-other e v i h = not-bare e (rw i at h)
+
+-- ---- a leaf
+module _ (M : ℕ) (gs vs : List ℕ) (same : length vs ≡ length gs) (p : ℕ) (e : Expr) (q : ℕ) (g : tree M (tokens gs vs) p ≡ got e q) (k : Leaf) (i : k ≡ leafAt (length gs) (getD gs p 0) (getD vs p 0) p) where
+  pub leaf-name : (x s : ℕ) → k ≡ Leaf.Name x s → (isLeaf e ≡ true) × (s ≡ q)
+  leaf-name x s j = let a : (e ≡ Expr.var x) × (q ≡ s) = rw j at (leaf-says M gs vs same p e q g k i) in (rw (a .0), sym (a .1))
+
+  pub leaf-constant : (s : ℕ) → k ≡ Leaf.Constant s → (isLeaf e ≡ true) × (s ≡ q)
+  leaf-constant s j = let a : IsConstant M gs vs same p e q g s = rw j at (leaf-says M gs vs same p e q g k i) in (rw (a .2), sym (a .3))
+
+pub leaf-needs : (l : List Node) (c : Clock) (e : Expr) (y : Needs) → isLeaf e ≡ true → y ≡ needed l c e y
+unfolding needed
+leaf-needs l c (Expr.const x w) y h = refl
+leaf-needs l c (Expr.var x) y h = refl
+leaf-needs l c (Expr.op o es) y h = let z : _≡_ {A = ℕ} 0 1 = cc in absurd (omega arith)
+leaf-needs l c (Expr.pre a) y h = let z : _≡_ {A = ℕ} 0 1 = cc in absurd (omega arith)
+leaf-needs l c (Expr.arrow a b) y h = let z : _≡_ {A = ℕ} 0 1 = cc in absurd (omega arith)
+leaf-needs l c (Expr.call f es) y h = let z : _≡_ {A = ℕ} 0 1 = cc in absurd (omega arith)
+leaf-needs l c (Expr.when k a) y h = let z : _≡_ {A = ℕ} 0 1 = cc in absurd (omega arith)
+leaf-needs l c (Expr.merge x a b) y h = let z : _≡_ {A = ℕ} 0 1 = cc in absurd (omega arith)
+
+pub leaf-counted : (l : List Node) (c : Clock) (e : Expr) (t u : List ℕ) (s : Counts) (y : Needs) → isLeaf e ≡ true → Counted t u s y → Counted t u s (needed l c e y)
+leaf-counted l c e t u s y h a = subst (λ (z : Needs). Counted t u s z) (leaf-needs l c e y h) a
 
 -- ---- what an expression needs for itself
 module _ (l : List Node) (c : Clock) (e : Expr) (b : Bool) (on : b ≡ isBase c) where
@@ -274,6 +298,27 @@ module _ (l : List Node) (c here rest : Clock) (v : Role) (e : Expr) (i : v ≡ 
   pub parts-counted : (t : Turn) (y : Needs) (f g : List ℕ) (n : Counts) → t ≡ turnOf l c e → Counted f g n (settled t c (neededAll l here rest (operandsOf e) y)) → Counted f g n (needed l c e y)
   parts-counted t y f g n j a = subst (λ (z : Needs). Counted f g n z) (parts-needed t y j) a
 
+-- ---- the walk over operands
+-- n of them from p on are left, the first on one clock and the others on another; what is needed so far; with these it is what all need
+pub record Remains (M : ℕ) (ts : List TagValue) (l : List Node) (on rest : Clock) (g : Gap) (n p : ℕ) (t u : List ℕ) (s : Counts) (q : ℕ) (all : Needs) : Type 0 where
+  pub others : Exprs
+  pub so-far : Needs
+  pub stand : spread M g n (tree M) ts p ≡ got others q
+  pub clocks : withins on rest others ≡ true
+  pub counted : Counted t u s so-far
+  pub same : neededAll l on rest others so-far ≡ all
+
+module _ (M : ℕ) (ts : List TagValue) (l : List Node) (on rest : Clock) (g : Gap) (n p : ℕ) (t u : List ℕ) (s : Counts) (q : ℕ) where
+  pub remains-all : (es : Exprs) (y : Needs) → spread M g n (tree M) ts p ≡ got es q → withins on rest es ≡ true → Counted t u s y → Remains M ts l on rest g n p t u s q (neededAll l on rest es y)
+  remains-all es y h w a = record { others = es; so-far = y; stand = h; clocks = w; counted = a; same = refl }
+
+  pub remains-none : (all : Needs) → Remains M ts l on rest g n p t u s q all → n ≡ 0 → Counted t u s all × (p ≡ q)
+  unfolding needed
+  remains-none all h z =
+      let e = spread-nil M (tree M) ts g n p (h .others) q z (h .stand) in
+      let m : h .so-far ≡ all = rw (e .0) at (h .same) in
+      (subst (λ (y : Needs). Counted t u s y) m (h .counted), sym (e .1))
+
 -- ---- operands by their places
 pub not-past : (p q : ℕ) → p < q → q ≤ p → ⊥
 not-past p q h k = omega arith
@@ -292,31 +337,34 @@ module _ (M : ℕ) (gs vs : List ℕ) (same : length vs ≡ length gs) (g : Gap)
           let m : a ≡ s .first = cc (s .whole) in
           (s .end, s .here ∙ ap (λ (x : Expr). got x (s .end)) (sym m))
 
-  module _ (z : n ≡ 0 → ⊥) (places : List ℕ) (nodes : ℕ) (l : List Node) (st : Standing M gs vs places nodes l) (here rest : Clock) (t u t₁ u₁ : List ℕ) (s n₁ : Counts) (end : ℕ)
-      (F : (e : Expr) (q : ℕ) (l : List Node) (y : Needs) → tree M (tokens gs vs) place ≡ got e q → within here e ≡ true → Standing M gs vs places nodes l → Counted t u s y → Counted t₁ u₁ n₁ (needed l here e y) × (end ≡ q))
-      (es : Exprs) (q : ℕ) (y : Needs) (h : spread M g n (tree M) (tokens gs vs) p ≡ got es q) (w : withins here rest es ≡ true) (a : Counted t u s y) (next : ℕ) (k : next ≡ restAt (length gs) g end) where
-    first-within : (e : Expr) (r : Exprs) → es ≡ Exprs.and e r → (within here e ≡ true) × (withins rest rest r ≡ true)
+  -- the first of the operands that are left, by what the walk over it answers
+  module _ (z : n ≡ 0 → ⊥) (l : List Node) (on rest : Clock) (t u t₁ u₁ : List ℕ) (s n₁ : Counts) (end : ℕ)
+      (F : (e : Expr) (q : ℕ) (y : Needs) → tree M (tokens gs vs) place ≡ got e q → within on e ≡ true → Counted t u s y → Counted t₁ u₁ n₁ (needed l on e y) × (end ≡ q))
+      (q : ℕ) (all : Needs) (h : Remains M (tokens gs vs) l on rest g n p t u s q all) (next : ℕ) (k : next ≡ restAt (length gs) g end) where
+    abbrev split : Apart M gs vs g n p (h .others) q place
+    split = apart M gs vs same g n p (h .others) q place z i (h .stand)
+
+    clocked : (within on (split .first) ≡ true) × (withins rest rest (split .rest) ≡ true)
     unfolding within
-    first-within e r j = let v : within here e && withins rest rest r ≡ true = rw j at w in (left-of (within here e) (withins rest rest r) v, right-of (within here e) (withins rest rest r) v)
+    clocked = let v : within on (split .first) && withins rest rest (split .rest) ≡ true = rw (split .whole) at (h .clocks) in (left-of (within on (split .first)) (withins rest rest (split .rest)) v, right-of (within on (split .first)) (withins rest rest (split .rest)) v)
 
-    pub all-past : p < next
-    all-past =
-        let x = apart M gs vs same g n p es q place z i h in
-        let b = F (x .first) (x .end) l y (x .here) (first-within (x .first) (x .rest) (x .whole) .0) st a in
-        let m : next ≡ restAt (length gs) g (x .end) = k ∙ ap (restAt (length gs) g) (b .1) in
-        rw m (x .past)
+    walked : Counted t₁ u₁ n₁ (needed l on (split .first) (h .so-far)) × (end ≡ split .end)
+    walked = F (split .first) (split .end) (h .so-far) (split .here) (clocked .0) (h .counted)
 
-    pub all-then : (v : Gap) → v ≡ later g → (t₂ u₂ : List ℕ) (n₂ : Counts) (last : ℕ) →
-        ((es : Exprs) (q : ℕ) (l : List Node) (y : Needs) → spread M v (n - 1) (tree M) (tokens gs vs) next ≡ got es q → withins rest rest es ≡ true → Standing M gs vs places nodes l → Counted t₁ u₁ n₁ y → Counted t₂ u₂ n₂ (neededAll l rest rest es y) × (last ≡ q)) →
-        Counted t₂ u₂ n₂ (neededAll l here rest es y) × (last ≡ q)
+    ends : next ≡ restAt (length gs) g (split .end)
+    ends = k ∙ ap (restAt (length gs) g) (walked .1)
+
+    pub remains-past : p < next
+    remains-past = rw ends (split .past)
+
+    pub remains-rest : (v : Gap) → v ≡ later g → Remains M (tokens gs vs) l rest rest v (n - 1) next t₁ u₁ n₁ q all
     unfolding needed
-    all-then v j t₂ u₂ n₂ last R =
-        let x = apart M gs vs same g n p es q place z i h in
-        let o = first-within (x .first) (x .rest) (x .whole) in
-        let b = F (x .first) (x .end) l y (x .here) (o .0) st a in
-        let m : next ≡ restAt (length gs) g (x .end) = k ∙ ap (restAt (length gs) g) (b .1) in
-        rw (x .whole) (R (x .rest) q l (needed l here (x .first) y) (rw (j, m) (x .others)) (o .1) st (b .0))
-
-pub all-none : (l : List Node) (c d : Clock) (t u : List ℕ) (s : Counts) (y : Needs) (es : Exprs) → es ≡ Exprs.end → Counted t u s y → Counted t u s (neededAll l c d es y)
-unfolding needed
-all-none l c d t u s y es i a = rw i a
+    remains-rest v j =
+        record {
+          others = split .rest;
+          so-far = needed l on (split .first) (h .so-far);
+          stand = rw (j, ends) (split .others);
+          clocks = clocked .1;
+          counted = walked .0;
+          same = ap (λ (es : Exprs). neededAll l on rest es (h .so-far)) (sym (split .whole)) ∙ h .same;
+        }

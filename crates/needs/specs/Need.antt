@@ -56,6 +56,17 @@ isBare (Expr.call f es) = false
 isBare (Expr.when k e) = false
 isBare (Expr.merge x a b) = false
 
+-- is it a name or a constant?
+abbrev pub isLeaf : Expr → Bool
+isLeaf (Expr.const l w) = true
+isLeaf (Expr.var x) = true
+isLeaf (Expr.op h es) = false
+isLeaf (Expr.pre e) = false
+isLeaf (Expr.arrow a b) = false
+isLeaf (Expr.call f es) = false
+isLeaf (Expr.when k e) = false
+isLeaf (Expr.merge x a b) = false
+
 -- what a `pre`, a `->` and a call need for themselves
 abbrev pub preTurn : Clock → Bool → Turn
 preTurn c bare = choose (isBase c) Turn.Keep (choose bare Turn.Keep Turn.Hold)

@@ -5,6 +5,7 @@ use clock::Clock;
 use definitions::Condition;
 use definitions::Test;
 use operands::Gap;
+use operands::Leaf;
 use operands::Role;
 ghost use mathlib.Core.Path.{_≡_};
 ghost use mathlib.Core.List.{List};
@@ -16,10 +17,11 @@ ghost use Rattle.definitions.specs.Tree.{Expr, Exprs, Node};
 ghost use Rattle.definitions.specs.Reading.{got};
 ghost use Rattle.definitions.specs.Clock.{depth, _/_};
 ghost use Rattle.clock.specs.Value.{valueOf};
+ghost use Rattle.operands.specs.declared.Role.{Role};
 ghost use Rattle.operands.specs.Role.{roleOfExpr};
 ghost use Rattle.operands.specs.Spread.{tree, spread};
 ghost use Rattle.callees.specs.Callees.{Standing};
-ghost use Rattle.needs.specs.Need.{Needs, mostHolds, oneMore, isBare, settled, turnOf, hereOn, restOn, roomFor, needed, neededAll, within, withins, Counted};
+ghost use Rattle.needs.specs.Need.{Needs, mostHolds, oneMore, isBare, isLeaf, settled, turnOf, hereOn, restOn, roomFor, needed, neededAll, within, withins, Counted};
 
 // How many clocks each table has, how many holds there are, whether `condact` is needed.
 pub struct Counts {
@@ -56,12 +58,34 @@ pub fn is_bare(tags: &[u8], values: &[u32], names: u32, at: usize) -> bool
     }
 }
 
-// A condition over a clock that has fewer than eight.
-fn under(c: Clock, k: Condition) -> Clock
-    ensures { λ r. ⌜ (depth (valueOf c) < 8 → valueOf r ≡ valueOf c / k) ⌝ }
+// Where the name or the constant that stands there ends; 0, where none does.
+pub fn leaf_end(tags: &[u8], values: &[u32], at: usize) -> usize
+    requires { ⌜ length (now values) ≡ length (now tags) ⌝ }
+    ensures { λ r. ⌜ ((names : ℕ) (e : Expr) (q : ℕ) → tree names (tokens (now (tags .entry)) (now (values .entry))) at ≡ got e q → 0 < r → (isLeaf e ≡ true) × (r ≡ q)) ⌝ }
 {
-    let n = clock::push(c, k);
-    n.clock
+    let leaf = operands::leaf_at(tags, values, at);
+    match leaf {
+        Leaf::Name(_, end) => end,
+        Leaf::Constant(end) => end,
+        Leaf::Other => 0,
+    }
+}
+
+// The clock of the branch of a merge by this name with this test, over one that has fewer than eight conditions.
+fn branch(c: Clock, x: u32, test: Test) -> Clock
+    ensures { λ r. ⌜ (depth (valueOf c) < 8 → valueOf r ≡ valueOf c / record { name = x; test = test }) ⌝ }
+{
+    let d = c.depth;
+    if d < 8 {
+        let mut out = c;
+        out.conditions[d] = Condition {
+            name: x,
+            test: test,
+        };
+        out.depth = d + 1;
+        return out;
+    }
+    c
 }
 
 // The clock of the first operand.
@@ -70,13 +94,7 @@ pub fn here_on(role: Role, c: Clock) -> Clock
 {
     match role {
         Role::Sample(_) => clock::parent(c),
-        Role::Join(x) => under(
-            c,
-            Condition {
-                name: x,
-                test: Test::On,
-            },
-        ),
+        Role::Join(x) => branch(c, x, Test::On),
         _ => c,
     }
 }
@@ -87,13 +105,7 @@ pub fn rest_on(role: Role, c: Clock) -> Clock
 {
     match role {
         Role::Sample(_) => clock::parent(c),
-        Role::Join(x) => under(
-            c,
-            Condition {
-                name: x,
-                test: Test::Not,
-            },
-        ),
+        Role::Join(x) => branch(c, x, Test::Not),
         _ => c,
     }
 }
@@ -240,6 +252,35 @@ pub fn need(
     }
 }
 
+// What the operand that stands there needs; a leaf needs nothing.
+fn need_operand(
+    tags: &[u8],
+    values: &[u32],
+    names: u32,
+    places: &[usize; 16],
+    nodes: usize,
+    flags: &mut [u32],
+    firsts: &mut [u32],
+    c: Clock,
+    s: Counts,
+    at: usize,
+) -> Walked
+    requires { ⌜ length (now values) ≡ length (now tags) ⌝ }
+    requires { ⌜ nodes ≤ 16 ⌝ }
+    ensures { λ r. ⌜ length (now (flags .exit)) ≡ length (now (flags .entry)) ⌝ }
+    ensures { λ r. ⌜ length (now (firsts .exit)) ≡ length (now (firsts .entry)) ⌝ }
+    ensures { λ r. ⌜ ((e : Expr) (q : ℕ) (l : List Node) (y : Needs) → tree names (tokens (now (tags .entry)) (now (values .entry))) at ≡ got e q → within (valueOf c) e ≡ true → Standing names (now (tags .entry)) (now (values .entry)) (now (places .entry)) nodes l → Counted (now (flags .entry)) (now (firsts .entry)) s y → Counted (now (flags .exit)) (now (firsts .exit)) (r .counts) (needed l (valueOf c) e y) × (r .end ≡ q)) ⌝ }
+{
+    let end = leaf_end(tags, values, at);
+    if 0 < end {
+        return Walked {
+            counts: s,
+            end: end,
+        };
+    }
+    need(tags, values, names, places, nodes, flags, firsts, c, s, at)
+}
+
 // What so many operands need, the first on the clock `here`, the others on `rest`.
 pub fn need_all(
     tags: &[u8],
@@ -262,43 +303,41 @@ pub fn need_all(
     ensures { λ r. ⌜ length (now (firsts .exit)) ≡ length (now (firsts .entry)) ⌝ }
     ensures { λ r. ⌜ ((es : Exprs) (q : ℕ) (l : List Node) (y : Needs) → spread names gap count (tree names) (tokens (now (tags .entry)) (now (values .entry))) at ≡ got es q → withins (valueOf here) (valueOf rest) es ≡ true → Standing names (now (tags .entry)) (now (values .entry)) (now (places .entry)) nodes l → Counted (now (flags .entry)) (now (firsts .entry)) s y → Counted (now (flags .exit)) (now (firsts .exit)) (r .counts) (neededAll l (valueOf here) (valueOf rest) es y) × (r .end ≡ q)) ⌝ }
 {
-    if count == 0 {
-        return Walked { counts: s, end: at };
+    let mut left = count;
+    let mut from = at;
+    let mut between = gap;
+    let mut on = here;
+    let mut counts = s;
+    while 0 < left {
+        let place = operands::operand_at(tags, between, from);
+        let w = need_operand(
+            tags,
+            values,
+            names,
+            places,
+            nodes,
+            flags,
+            firsts,
+            on,
+            counts,
+            place,
+        );
+        counts = w.counts;
+        let o = operands::after_operand(tags, between, w.end);
+        let next = o.next;
+        if next <= from {
+            return Walked {
+                counts: counts,
+                end: from,
+            };
+        }
+        from = next;
+        between = o.gap;
+        on = rest;
+        left -= 1;
     }
-    let place = operands::operand_at(tags, gap, at);
-    let w = need(
-        tags,
-        values,
-        names,
-        places,
-        nodes,
-        flags,
-        firsts,
-        here,
-        s,
-        place,
-    );
-    let n = w.counts;
-    let end = w.end;
-    let o = operands::after_operand(tags, gap, end);
-    let next = o.next;
-    let later = o.gap;
-    if next <= at {
-        return Walked { counts: n, end: at };
+    Walked {
+        counts: counts,
+        end: from,
     }
-    need_all(
-        tags,
-        values,
-        names,
-        places,
-        nodes,
-        flags,
-        firsts,
-        rest,
-        rest,
-        n,
-        later,
-        count - 1,
-        next,
-    )
 }

@@ -21,12 +21,13 @@ use Rattle.definitions.specs.Reading.{got, rejected, Reader, allowed, token, li
 use Rattle.definitions.specs.Grammar.{tagged, high, name, count, counted, ty, append, exprs, fields, form, expr, mostCounted, deepestType}
 use Rattle.definitions.specs.Bytes.{tokens}
 use Rattle.grammar.specs.declared.Shape.{Shape}
-use Rattle.grammar.specs.Shape.{shapeOf}
+use Rattle.grammar.specs.Shape.{shapeOf, following}
 use Rattle.grammar.specs.declared.Read.{Read}
 use Rattle.grammar.specs.declared.Counted.{Counted}
 use Rattle.grammar.specs.Outcome.{outcome, counts}
 use Rattle.grammar.proofs.Laws.{after-got, wrap-got, tokens-length, there, next-got, refused, count-got, count-refused}
 use Rattle.grammar.proofs.Longer.{token-got, type-grows, expr-grows}
+use Rattle.grammar.proofs.Got.{exprs-cons}
 use Rattle.operands.specs.declared.Gap.{Gap}
 use Rattle.operands.specs.declared.Operand.{Operand}
 use Rattle.operands.specs.declared.Operands.{Operands}
@@ -194,9 +195,49 @@ module _ (M : ℕ) (ts : List TagValue) where
       let d = wrap-got (exprs (c .0) (tree M) ts (c .1)) _ es q (c .3) in
       iteration-lie p (a .0) (a .1) (b .0) (b .1) (c .0) (c .1) (d .0) es q (a .2) (b .2) (c .2) (d .1) (d .2)
 
+-- an iteration's operands were read where its parts were
+iteration-read : (M : ℕ) (ts : List TagValue) (p k s : ℕ) (vs : Exprs) (u n w : ℕ) (es : Exprs) (q : ℕ) → counted 3 0 1 ts p ≡ got k s → exprs k (tree M) ts s ≡ got vs u → count mostCounted ts u ≡ got n w → exprs n (tree M) ts w ≡ got es q → following M Shape.Iteration (tree M) ts p ≡ got es q
+unfolding following
+iteration-read M ts p k s vs u n w es q a b c d = rw a (rw b (rw c d))
+
+-- operands that were laid out were read
+laid-read : (M : ℕ) (ts : List TagValue) (h : Shape) (p : ℕ) (es : Exprs) (q : ℕ) → laid M h (tree M) ts p ≡ got es q → (fs : Exprs) × (following M h (tree M) ts p ≡ got fs q)
+unfolding laid following
+laid-read M ts Shape.Wide p es q g = (es, g)
+laid-read M ts (Shape.Operands k) p es q g = (es, g)
+laid-read M ts Shape.Items p es q g = (es, g)
+laid-read M ts Shape.Fields p es q g = (es, g)
+laid-read M ts Shape.Cast p es q g = (es, g)
+laid-read M ts Shape.Iteration p es q g =
+    let a = after-got (counted 3 0 1 ts p) _ es q g in
+    let b = after-got (exprs (a .0) (tree M) ts (a .1)) _ es q (a .3) in
+    let c = after-got (count mostCounted ts (b .1)) _ es q (b .3) in
+    let d = wrap-got (exprs (c .0) (tree M) ts (c .1)) _ es q (c .3) in
+    (d .0, iteration-read M ts p (a .0) (a .1) (b .0) (b .1) (c .0) (c .1) (d .0) q (a .2) (b .2) (c .2) (d .1))
+
+-- the start value that an iteration's count says was read
+pub start-read : (M : ℕ) (ts : List TagValue) (p k s : ℕ) (es : Exprs) (q : ℕ) → counted 3 0 1 ts p ≡ got k s → (k ≡ 0 → ⊥) → following M Shape.Iteration (tree M) ts p ≡ got es q → (e : Expr) × (u : ℕ) × (tree M ts s ≡ got e u)
+unfolding following
+start-read M ts p k s es q c z g =
+    let a = after-got (counted 3 0 1 ts p) _ es q g in
+    let i : a .0 ≡ k = cc (a .2) in
+    let j : a .1 ≡ s = cc (a .2) in
+    let b = after-got (exprs (a .0) (tree M) ts (a .1)) _ es q (a .3) in
+    let x = exprs-cons (tree M) ts (a .0) (a .1) (b .0) (b .1) (λ e. z (sym i ∙ e)) (b .2) in
+    (x .0, x .1, ap (tree M ts) (sym j) ∙ x .3)
+
 -- what the code finds for a first token
-pub laid-of : (M : ℕ) (ts : List TagValue) (t : ExprToken) (p : ℕ) (h : Shape) (o : Operands) → h ≡ shapeOf t → o ≡ operandsAt M ts h p → Laid M ts t p o
-laid-of M ts t p h o i j = record { operands = λ e q g. rw (j, i) (lies M ts (shapeOf t) p _ q (formed M (tree M) ts p e q t g .1) .0); past = λ e q g. rw (j, i) (lies M ts (shapeOf t) p _ q (formed M (tree M) ts p e q t g .1) .1) }
+module _ (M : ℕ) (ts : List TagValue) (t : ExprToken) (p : ℕ) (h : Shape) (o : Operands) (i : h ≡ shapeOf t) (j : (es : Exprs) (q : ℕ) → following M h (tree M) ts p ≡ got es q → o ≡ operandsAt M ts h p) where
+  pub laid-at : (e : Expr) (q : ℕ) → form M t (tree M) ts p ≡ got e q → o ≡ operandsAt M ts (shapeOf t) p
+  laid-at e q g =
+      let f = laid-read M ts (shapeOf t) p (operandsOf e) q (formed M (tree M) ts p e q t g .1) in
+      j (f .0) q (rw i (f .1)) ∙ ap (λ (z : Shape). operandsAt M ts z p) i
+
+  pub laid-of : Laid M ts t p o
+  laid-of = record {
+    operands = λ e q g. rw (laid-at e q g) (lies M ts (shapeOf t) p _ q (formed M (tree M) ts p e q t g .1) .0);
+    past = λ e q g. rw (laid-at e q g) (lies M ts (shapeOf t) p _ q (formed M (tree M) ts p e q t g .1) .1);
+  }
 
 -- THE LAW: an expression that was read has a first token, whose role is its own; its operands stand where the code finds them
 pub reads : (M : ℕ) (ts : List TagValue) (p : ℕ) (e : Expr) (q : ℕ) → tree M ts p ≡ got e q →
@@ -243,7 +284,7 @@ unviewed M ts p t v g = record { role = λ e q h. absurd (no e q h); operands = 
     no e q h = let a = tree-head M ts p e q h in let z : _≡_ {A = ℕ} 0 1 = cc (a .1) in omega arith
 
 -- what the code finds of the first operand
-pub stepped : (M : ℕ) (ts : List TagValue) (g : Gap) (p end : ℕ) (o : Operand) → o .at ≡ operandAt (length ts) g p → end ≡ skipped (o .at) (tree M ts (o .at)) → o .next ≡ restAt (length ts) g end → o .gap ≡ later g → Stepped M ts g p o
+pub stepped : (M : ℕ) (ts : List TagValue) (g : Gap) (p end : ℕ) (o : Operand) → o .at ≡ operandAt (length ts) g p → ((e : Expr) (q : ℕ) → tree M ts (o .at) ≡ got e q → end ≡ q) → o .next ≡ restAt (length ts) g end → o .gap ≡ later g → Stepped M ts g p o
 stepped M ts g p end o a b c d = record { at-or-past = at-or-past g a; split = split }
   where
     at-or-past : (g : Gap) → o .at ≡ operandAt (length ts) g p → p ≤ o .at
@@ -262,14 +303,14 @@ stepped M ts g p end o a b c d = record { at-or-past = at-or-past g a; split = s
         let i : o .at ≡ k .1 = a ∙ sym (f .0) in
         let here : tree M ts (o .at) ≡ got (k .2) (k .3) = rw i (k .8) in
         let l = expr-grows M 32 ts (o .at) (k .2) (k .3) here in
-        let j : end ≡ k .3 = rw here at b in
+        let j : end ≡ k .3 = b (k .2) (k .3) here in
         let w = behind-place g ts (k .3) (k .4) (k .5) (l .1) (k .9) in
         let m : o .next ≡ k .5 = rw j at c ∙ sym (w .0) in
         let u = spread-grows M 32 ts (later g) (n - 1) (k .5) (k .6) q (k .10) in
         record { first = k .2; end = k .3; rest = k .6; whole = k .11; here = here; others = rw (m, d) (k .10); past = omega arith; within = (l .0, omega arith, omega arith, l .1) }
 
 -- the same over the two arrays
-pub stepped-in : (M : ℕ) (gs vs : List ℕ) → length vs ≡ length gs → (g : Gap) (p end : ℕ) (o : Operand) → o .at ≡ operandAt (length gs) g p → end ≡ skipped (o .at) (tree M (tokens gs vs) (o .at)) → o .next ≡ restAt (length gs) g end → o .gap ≡ later g → Stepped M (tokens gs vs) g p o
+pub stepped-in : (M : ℕ) (gs vs : List ℕ) → length vs ≡ length gs → (g : Gap) (p end : ℕ) (o : Operand) → o .at ≡ operandAt (length gs) g p → ((e : Expr) (q : ℕ) → tree M (tokens gs vs) (o .at) ≡ got e q → end ≡ q) → o .next ≡ restAt (length gs) g end → o .gap ≡ later g → Stepped M (tokens gs vs) g p o
 stepped-in M gs vs same g p end o a b c d =
     let l = sym (tokens-length gs vs same) in
     stepped M (tokens gs vs) g p end o (a ∙ ap (λ (k : ℕ). operandAt k g p) l) b (c ∙ ap (λ (k : ℕ). restAt k g end) l) d
@@ -286,12 +327,6 @@ pub past-out : (most p : ℕ) → most ≤ p → p ≡ pastIn most p
 past-out most p h = rw (le-ltb p most h)
 
 module _ (M : ℕ) (ts : List TagValue) (p : ℕ) (r : Read) where
-  pub skip-got : (q : ℕ) → r ≡ outcome (expr M 32 ts p) → r ≡ Read.Next q → q ≡ skipped p (tree M ts p)
-  skip-got q e g = rw (next-got (expr M 32 ts p) r q e g .1)
-
-  pub skip-none : (t : Refusal) → r ≡ outcome (expr M 32 ts p) → r ≡ Read.Refused t → p ≡ skipped p (tree M ts p)
-  skip-none t e g = rw (refused (expr M 32 ts p) r t e g)
-
   pub type-got : (q : ℕ) (o : Operands) → r ≡ outcome (ty M 8 ts p) → r ≡ Read.Next q → o ≡ plainAt q 1 → o ≡ operandsAt M ts Shape.Cast p
   unfolding operandsAt
   type-got q o e g i = rw (next-got (ty M 8 ts p) r q e g .1) i
@@ -307,11 +342,11 @@ module _ (ts : List TagValue) (p : ℕ) (r : Counted) (e : r ≡ counts (counted
   pub count-none : (g : Gap) (t : Refusal) (o : Operands) → r ≡ Counted.Refused t → o ≡ plainAt p 0 → o ≡ behindCount g p (counted 3 0 64 ts p)
   count-none g t o i j = rw (count-refused (counted 3 0 64 ts p) r t e i) j
 
-module _ (M : ℕ) (ts : List TagValue) (p u : ℕ) (r : Counted) (d : u ≡ skipped p (tree M ts p)) (e : r ≡ counts (counted 3 0 64 ts u)) where
-  pub start-behind : (n q : ℕ) → r ≡ Counted.Count n q → record { first = p; count = n + 1; gap = Gap.Between } ≡ behindStart p (counted 3 0 64 ts (skipped p (tree M ts p)))
+module _ (ts : List TagValue) (p u s : ℕ) (r : Counted) (d : u ≡ s) (e : r ≡ counts (counted 3 0 64 ts u)) where
+  pub start-behind : (n q : ℕ) → r ≡ Counted.Count n q → record { first = p; count = n + 1; gap = Gap.Between } ≡ behindStart p (counted 3 0 64 ts s)
   start-behind n q i = rw (sym d) (rw (count-got (counted 3 0 64 ts u) r n q e i))
 
-  pub start-none : (t : Refusal) (o : Operands) → r ≡ Counted.Refused t → o ≡ plainAt p 0 → o ≡ behindStart p (counted 3 0 64 ts (skipped p (tree M ts p)))
+  pub start-none : (t : Refusal) (o : Operands) → r ≡ Counted.Refused t → o ≡ plainAt p 0 → o ≡ behindStart p (counted 3 0 64 ts s)
   start-none t o i j = rw (sym d) (rw (count-refused (counted 3 0 64 ts u) r t e i) j)
 
 module _ (M : ℕ) (ts : List TagValue) (p : ℕ) (r : Counted) (e : r ≡ counts (counted 3 0 1 ts p)) where
@@ -323,14 +358,14 @@ module _ (M : ℕ) (ts : List TagValue) (p : ℕ) (r : Counted) (e : r ≡ count
   unfolding operandsAt
   iterated-plain k q o i z j = rw (count-got (counted 3 0 1 ts p) r k q e i, z) j
 
-  pub iterated-started : (k q : ℕ) (o : Operands) → r ≡ Counted.Count k q → (k ≡ 0 → ⊥) → o ≡ behindStart q (counted 3 0 mostCounted ts (skipped q (tree M ts q))) → o ≡ operandsAt M ts Shape.Iteration p
+  pub iterated-started : (k q : ℕ) (o : Operands) → r ≡ Counted.Count k q → (k ≡ 0 → ⊥) → ((a : Expr) (u : ℕ) → tree M ts q ≡ got a u → o ≡ behindStart q (counted 3 0 mostCounted ts u)) →
+      (es : Exprs) (v : ℕ) → following M Shape.Iteration (tree M) ts p ≡ got es v → o ≡ operandsAt M ts Shape.Iteration p
   unfolding operandsAt
-  iterated-started k q o i z j = rw (count-got (counted 3 0 1 ts p) r k q e i, ne-eqb k 0 z) j
+  iterated-started k q o i z j es v g =
+      let c = count-got (counted 3 0 1 ts p) r k q e i in
+      let a = start-read M ts p k q es v c z g in
+      rw (c, ne-eqb k 0 z) (rw (a .2) (j (a .0) (a .1) (a .2)))
 
 -- one more than a count fits a word
 pub start-fits : (ts : List TagValue) (p : ℕ) (r : Counted) (n q : ℕ) → r ≡ counts (counted 3 0 mostCounted ts p) → r ≡ Counted.Count n q → Fits w32 (n + 1)
 start-fits ts p r n q e i = let l = counted-place 3 0 mostCounted ts p n q (count-got (counted 3 0 mostCounted ts p) r n q e i) in record { fits = omega arith }
-
--- what `skip` answers where an expression stands
-pub skips : (M : ℕ) (ts : List TagValue) (p r : ℕ) (e : Expr) (q : ℕ) → r ≡ skipped p (tree M ts p) → tree M ts p ≡ got e q → r ≡ q
-skips M ts p r e q a g = rw g at a

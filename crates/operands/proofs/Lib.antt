@@ -3,6 +3,5 @@ pub mod Deeper
 pub mod Forms
 pub mod Laws
 pub mod Roles
-pub mod Samples
 pub mod Apart
 pub mod Leaves

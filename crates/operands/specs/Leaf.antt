@@ -1,11 +1,8 @@
--- A leaf by its first token, and what a walk says of whens and merges.
+-- A leaf by its first token.
 use Prim.Native.Nat.{ℕ, _+_}
-use mathlib.Core.Path.{_≡_}
-use mathlib.Core.Bool.{Bool, false}
 use lib.Dec.{eqb}
 use Rattle.definitions.specs.Lists.{choose}
 use Rattle.operands.specs.declared.Leaf.{Leaf}
-use Rattle.operands.specs.declared.Use.{Use}
 use Rattle.operands.specs.Spread.{pastIn}
 
 -- by the tag and the value at p, of so many places: "50 bool, 51 int, 52 float, 53 char, 54 var"; "51 and 52 are followed by high"
@@ -16,8 +13,3 @@ leafAt most tag v p =
     choose (eqb tag 51) (Leaf.Constant (pastIn most (p + 1))) (
     choose (eqb tag 52) (Leaf.Constant (pastIn most (p + 1))) (
     choose (eqb tag 53) (Leaf.Constant (p + 1)) Leaf.Other))))
-
--- whether one was found, and the end of what has none
-pub record Used (r : Use) (found : Bool) (q : ℕ) : Type 0 where
-  pub says : r .found ≡ found
-  pub end : found ≡ false → r .end ≡ q

@@ -16,10 +16,10 @@ ghost use Rattle.definitions.specs.Tree.{Expr, Exprs};
 ghost use Rattle.definitions.specs.Reading.{got};
 ghost use Rattle.operands.specs.Role.{roleOf};
 ghost use Rattle.operands.specs.Spread.{tree, spread, later, pastIn, operandAt, restAt};
-ghost use Rattle.definitions.specs.InferClocks.{samples, sampled};
 ghost use Rattle.definitions.specs.Grammar.{counted};
-ghost use Rattle.operands.specs.Leaf.{leafAt, Used};
-ghost use Rattle.operands.specs.Laid.{skipped, plainAt, behindCount, behindStart, operandsAt};
+ghost use Rattle.grammar.specs.Shape.{following};
+ghost use Rattle.operands.specs.Leaf.{leafAt};
+ghost use Rattle.operands.specs.Laid.{plainAt, behindCount, behindStart, operandsAt};
 ghost use Rattle.operands.specs.Viewed.{Laid, Viewed, Stepped};
 
 // What an expression does.
@@ -77,12 +77,6 @@ pub enum Leaf {
     Other,
 }
 
-// Whether a when or a merge was found, and where what has none ends.
-pub struct Use {
-    pub found: bool,
-    pub end: usize,
-}
-
 // What an expression does, by its first token.
 pub fn role_of(t: ExprToken) -> Role
     ensures { λ r. ⌜ r ≡ roleOf t ⌝ }
@@ -121,18 +115,6 @@ fn past(tags: &[u8], at: usize) -> usize
     ensures { λ r. ⌜ r ≡ pastIn (length (now (tags .entry))) at ⌝ }
 {
     if at < tags.len() { at + 1 } else { at }
-}
-
-// The place after the expression that stands there.
-pub fn skip(tags: &[u8], values: &[u32], names: u32, at: usize) -> usize
-    requires { ⌜ length (now values) ≡ length (now tags) ⌝ }
-    ensures { λ r. ⌜ r ≡ skipped at (tree names (tokens (now (tags .entry)) (now (values .entry))) at) ⌝ }
-{
-    let read = grammar::read_expr(tags, values, names, 32, at);
-    match read {
-        Read::Next(next) => next,
-        Read::Refused(_) => at,
-    }
 }
 
 // The place of the first of the operands that begin there.
@@ -175,7 +157,7 @@ pub fn first_operand(tags: &[u8], values: &[u32], names: u32, gap: Gap, at: usiz
     ensures { λ r. ⌜ Stepped names (tokens (now (tags .entry)) (now (values .entry))) gap at r ⌝ }
 {
     let place = operand_at(tags, gap, at);
-    let end = skip(tags, values, names, place);
+    let end = extents::expr_end(tags, values, place);
     let rest = after_operand(tags, gap, end);
     let next = rest.next;
     let later = rest.gap;
@@ -216,9 +198,9 @@ fn behind_count(tags: &[u8], values: &[u32], gap: Gap, at: usize) -> Operands
 // A start value and the operands behind it.
 fn behind_start(tags: &[u8], values: &[u32], names: u32, at: usize) -> Operands
     requires { ⌜ length (now values) ≡ length (now tags) ⌝ }
-    ensures { λ r. ⌜ r ≡ behindStart at (counted 3 0 64 (tokens (now (tags .entry)) (now (values .entry))) (skipped at (tree names (tokens (now (tags .entry)) (now (values .entry))) at))) ⌝ }
+    ensures { λ r. ⌜ ((e : Expr) (q : ℕ) → tree names (tokens (now (tags .entry)) (now (values .entry))) at ≡ got e q → r ≡ behindStart at (counted 3 0 64 (tokens (now (tags .entry)) (now (values .entry))) q)) ⌝ }
 {
-    let end = skip(tags, values, names, at);
+    let end = extents::expr_end(tags, values, at);
     let count = grammar::read_count(tags, values, 3, 0, 64, end);
     match count {
         Counted::Count(n, _) => Operands {
@@ -233,7 +215,7 @@ fn behind_start(tags: &[u8], values: &[u32], names: u32, at: usize) -> Operands
 // The operands of a map or a fold.
 fn iterated(tags: &[u8], values: &[u32], names: u32, at: usize) -> Operands
     requires { ⌜ length (now values) ≡ length (now tags) ⌝ }
-    ensures { λ r. ⌜ r ≡ operandsAt names (tokens (now (tags .entry)) (now (values .entry))) Shape.Iteration at ⌝ }
+    ensures { λ r. ⌜ ((es : Exprs) (q : ℕ) → following names Shape.Iteration (tree names) (tokens (now (tags .entry)) (now (values .entry))) at ≡ got es q → r ≡ operandsAt names (tokens (now (tags .entry)) (now (values .entry))) Shape.Iteration at) ⌝ }
 {
     let count = grammar::read_count(tags, values, 3, 0, 1, at);
     match count {
@@ -261,7 +243,7 @@ fn behind_type(tags: &[u8], values: &[u32], names: u32, at: usize) -> Operands
 // The operands that follow a first token of this shape.
 pub fn laid(tags: &[u8], values: &[u32], names: u32, shape: Shape, at: usize) -> Operands
     requires { ⌜ length (now values) ≡ length (now tags) ⌝ }
-    ensures { λ r. ⌜ r ≡ operandsAt names (tokens (now (tags .entry)) (now (values .entry))) shape at ⌝ }
+    ensures { λ r. ⌜ ((es : Exprs) (q : ℕ) → following names shape (tree names) (tokens (now (tags .entry)) (now (values .entry))) at ≡ got es q → r ≡ operandsAt names (tokens (now (tags .entry)) (now (values .entry))) shape at) ⌝ }
 {
     match shape {
         Shape::Wide => plain(past(tags, at), 0),
@@ -328,69 +310,4 @@ pub fn leaf_at(tags: &[u8], values: &[u32], at: usize) -> Leaf
         53 => Leaf::Constant(at + 1),
         _ => Leaf::Other,
     }
-}
-
-// Does a when or a merge stand in the expression?
-pub fn uses_clocks(tags: &[u8], values: &[u32], names: u32, at: usize) -> bool
-    requires { ⌜ length (now values) ≡ length (now tags) ⌝ }
-    ensures { λ r. ⌜ ((e : Expr) (q : ℕ) → tree names (tokens (now (tags .entry)) (now (values .entry))) at ≡ got e q → r ≡ samples e) ⌝ }
-{
-    let u = use_at(tags, values, names, at);
-    u.found
-}
-
-// Whether one was found, and where what has none ends.
-fn answer(found: bool, end: usize) -> Use
-    ensures { λ r. ⌜ r ≡ record { found = found; end = end } ⌝ }
-{
-    Use {
-        found: found,
-        end: end,
-    }
-}
-
-// The same, and where the expression ends if none does.
-pub fn use_at(tags: &[u8], values: &[u32], names: u32, at: usize) -> Use
-    requires { ⌜ length (now values) ≡ length (now tags) ⌝ }
-    ensures { λ r. ⌜ ((e : Expr) (q : ℕ) → tree names (tokens (now (tags .entry)) (now (values .entry))) at ≡ got e q → Used r (samples e) q) ⌝ }
-{
-    let v = view_at(tags, values, names, at);
-    let first = v.first;
-    let count = v.count;
-    let gap = v.gap;
-    let role = v.role;
-    if first <= at {
-        return answer(false, at);
-    }
-    match role {
-        Role::Sample(_) => answer(true, at),
-        Role::Join(_) => answer(true, at),
-        _ => some_use(tags, values, names, gap, count, first),
-    }
-}
-
-// Does one stand in one of so many operands? Where they end if none does.
-pub fn some_use(tags: &[u8], values: &[u32], names: u32, gap: Gap, count: u32, at: usize) -> Use
-    requires { ⌜ length (now values) ≡ length (now tags) ⌝ }
-    ensures { λ r. ⌜ ((es : Exprs) (q : ℕ) → spread names gap count (tree names) (tokens (now (tags .entry)) (now (values .entry))) at ≡ got es q → Used r (sampled es) q) ⌝ }
-{
-    let mut left = count;
-    let mut from = at;
-    let mut between = gap;
-    while 0 < left {
-        let place = operand_at(tags, between, from);
-        let u = use_at(tags, values, names, place);
-        if u.found {
-            return u;
-        }
-        let rest = after_operand(tags, between, u.end);
-        let next = rest.next;
-        if next <= from {
-            return u;
-        }
-        from = next;
-        between = rest.gap;
-        left -= 1;
-    }
-    answer(false, from)
 }

@@ -1,27 +1,22 @@
 -- What is answered and written, refusal by refusal. Assumes nothing.
-use mathlib.Core.Path.{_≡_, refl, sym, _∙_, ap}
+use mathlib.Core.Path.{_≡_, refl, _∙_, ap}
 use mathlib.Core.List.{List}
-use Prim.Native.Nat.{ℕ, _≤_, _<_}
+use Prim.Native.Nat.{ℕ, _<_}
 use native.Mathlib.Omega.{arith}
 use lib.ListN.{length}
-use borrow.Author.Tests.{le-leb, lt-leb}
 use Rattle.definitions.specs.declared.Refusal.{Refusal}
-use Rattle.definitions.specs.Lists.{join, numbered, Letters}
+use Rattle.definitions.specs.Lists.{Letters}
 use Rattle.definitions.specs.Tokens.{TagValue}
-use Rattle.definitions.specs.Refusals.{Answer, accepted, refused, faulty, Told, fine, down, told, lending, _>>=_}
+use Rattle.definitions.specs.Refusals.{Answer, accepted, refused, faulty, Told, down, told, _>>=_}
 use Rattle.definitions.specs.Output.{lettersOf, ClockedNode}
-use Rattle.definitions.specs.Answer.{Input, input, NodeClocks, clockings, nodeAt, nodeClocks, nodeListing, clocksAnswer, listingAnswer, listingsAnswer}
-use Rattle.infer_clocks.specs.declared.Deepest.{Deepest}
-use Rattle.infer_clocks.specs.Clocked.{Deeply}
+use Rattle.definitions.specs.Answer.{Input, input, NodeClocks, nodeAt, nodeClocks, nodeListing, clocksAnswer, listingAnswer, listingsAnswer}
 use Rattle.listing.specs.declared.Told as listing
 use Rattle.texts.specs.declared.Lending.{Lending}
 use Rattle.texts.specs.Lending.{lentText, Gives}
-use Rattle.spelling.proofs.Writing.{over-front}
 use Rattle.query.specs.declared.NodeAnswer.{NodeAnswer}
 use Rattle.query.specs.declared.NodeCounts.{NodeCounts}
 use Rattle.query.specs.Standing.{Clocked, NodeTold}
-use Rattle.query.specs.Words.{faultsOver, Written, PutText}
-use Rattle.query.proofs.Listings.{told-own, few-findings}
+use Rattle.query.specs.Words.{Written}
 use Rattle.pass.specs.declared.ClocksAnswer.{ClocksAnswer}
 use Rattle.pass.specs.declared.ListingAnswer.{ListingAnswer}
 use Rattle.pass.specs.Answers.{clocksOf, listingOf, listingsOf, listingAnswered, ClocksGiven, ListingGiven}
@@ -95,11 +90,6 @@ module _ (M : ℕ) (ts : List TagValue) (env t : List ℕ) (i : Input) (k : ℕ)
     unfolding NodeTold
     node-there = let x : NodeTold M ts env t k (NodeAnswer.Node told) (nodeAt i k) = rw e at h in x
 
--- the node's own table of findings
-module _ (M : ℕ) (ts : List TagValue) (env t : List ℕ) (k : ℕ) (told : listing.Told) (n : ClockedNode) (z : Clocked M ts env t k told n) (m : ℕ) (e : length t ≡ m) (f : m ≡ 155648) where
-  pub few-there : told .findings ≤ 4096
-  few-there = few-findings (told .findings) (length t) (e ∙ f) (z .tells .room)
-
 -- the clocks of node k
 pub clocks-given : (letters : ℕ → Letters) (i : Input) (k number : ℕ) (n : ClockedNode) (es cs fs es′ cs′ fs′ : List ℕ) (r : NodeCounts) → letters ≡ lettersOf (i .names) → number ≡ k → nodeAt i k ≡ accepted n
     → Written number (nodeClocks letters n) es cs fs es′ cs′ fs′ r → ClocksGiven k (clocksOf i k) es cs fs es′ cs′ fs′ (ClocksAnswer.Clocks r)
@@ -124,31 +114,6 @@ pub listing-given : (letters : ℕ → Letters) (i : Input) (k number : ℕ) (n 
 listing-given letters i k number n lent after r e f h w =
     let x : ListingGiven (lentText (nodeListing (lettersOf (i .names)) k n) (length lent)) lent after r = rw (e, f) at w in
     rw h x
-
--- ---- all nodes
-module _ (i : Input) (d : Deepest) (h : Deeply d (clockings 0 (i .sheet .nodes))) where
-  pub listings-deep : (j w : ℕ) (lent : List ℕ) → d ≡ Deepest.At j → w ≡ j → ListingGiven (listingsOf i (length lent)) lent lent (ListingAnswer.Refused (Refusal.Deep w))
-  unfolding Deeply
-  listings-deep j w lent e f =
-      let x : Deeply (Deepest.At j) (clockings 0 (i .sheet .nodes)) = rw e at h in
-      rw x (record { answer = ap (λ (y : ℕ). ListingAnswer.Refused (Refusal.Deep y)) f; bytes = refl })
-
-  pub listings-there : d ≡ Deepest.Nowhere → (ns : List ClockedNode) × (clockings 0 (i .sheet .nodes) ≡ accepted ns)
-  unfolding Deeply
-  listings-there e = let x : Deeply Deepest.Nowhere (clockings 0 (i .sheet .nodes)) = rw e at h in x
-
-module _ (i : Input) (ns : List ClockedNode) (h : clockings 0 (i .sheet .nodes) ≡ accepted ns) (m : ℕ) where
-  pub listings-lent : (none none′ lent : List ℕ) → PutText (join (numbered (nodeListing (lettersOf (i .names))) 0 ns)) 0 none m none′ → length lent < m → ListingGiven (listingsOf i (length lent)) lent lent (ListingAnswer.Refused (Refusal.Lent m))
-  listings-lent none none′ lent p k =
-      let text = join (numbered (nodeListing (lettersOf (i .names))) 0 ns) in
-      let g = lt-leb (length (join (numbered (nodeListing (lettersOf (i .names))) 0 ns))) (length lent) (rw (p .long) at k) in
-      rw (h, g) (record { answer = ap (λ (y : ℕ). ListingAnswer.Refused (Refusal.Lent y)) (p .long); bytes = refl })
-
-  pub listings-written : (none none′ lent after : List ℕ) (size : ℕ) → PutText (join (numbered (nodeListing (lettersOf (i .names))) 0 ns)) 0 none m none′ → m ≤ length lent → PutText (join (numbered (nodeListing (lettersOf (i .names))) 0 ns)) 0 lent size after
-      → ListingGiven (listingsOf i (length lent)) lent after (ListingAnswer.Written m)
-  listings-written none none′ lent after size p k q =
-      let g = le-leb (length (join (numbered (nodeListing (lettersOf (i .names))) 0 ns))) (length lent) (rw (p .long) at k) in
-      rw (h, g) (record { answer = ap ListingAnswer.Written (p .long); bytes = q .bytes ∙ over-front (join (numbered (nodeListing (lettersOf (i .names))) 0 ns)) lent })
 
 pub same-below : (m k n : ℕ) → m ≡ k → k < n → m < n
 same-below m k n e h = omega arith

@@ -1,3 +1,4 @@
 -- What the proofs of several functions use.
 pub mod Front
 pub mod Given
+pub mod Last

@@ -5,6 +5,7 @@ use mathlib.Core.List.{List}
 use lib.ListN.{length}
 use Rattle.definitions.specs.declared.Refusal.{Refusal}
 use Rattle.definitions.specs.Lists.{join, numbered, Letters}
+use Rattle.definitions.specs.Tree.{Node}
 use Rattle.definitions.specs.Refusals.{Answer, accepted, refused, faulty, bytesAfter, _>>=_}
 use Rattle.definitions.specs.Output.{lettersOf}
 use Rattle.definitions.specs.Answer.{Input, NodeClocks, clockings, nodeAt, nodeClocks, nodeListing}
@@ -20,8 +21,12 @@ clocksOf r k = nodeAt r k >>= λ n. accepted (nodeClocks (lettersOf (r .names)) 
 abbrev pub listingOf : Input → ℕ → ℕ → Answer Letters
 listingOf r k lent = nodeAt r k >>= λ n. lentText (nodeListing (lettersOf (r .names)) k n) lent
 
+-- the listings of these nodes, one behind another
+abbrev pub nodesListed : (ℕ → Letters) → List Node → ℕ → Answer Letters
+nodesListed letters nodes lent = clockings 0 nodes >>= λ ns. lentText (join (numbered (nodeListing letters) 0 ns)) lent
+
 abbrev pub listingsOf : Input → ℕ → Answer Letters
-listingsOf r lent = clockings 0 (r .sheet .nodes) >>= λ ns. lentText (join (numbered (nodeListing (lettersOf (r .names))) 0 ns)) lent
+listingsOf r lent = nodesListed (lettersOf (r .names)) (r .sheet .nodes) lent
 
 -- the clock query's answer: a node's name, passes and counts, or the refusal
 abbrev pub clocksAnswered : Answer NodeClocks → ClocksAnswer

@@ -1,26 +1,31 @@
 // The clock pass: the entry points. Each takes a sheet's bytes, and what it answers and writes is said for all inputs.
 use definitions::Refusal;
-use infer_clocks::Deepest;
 use listing::Told;
 use parts::Sizes;
+use query::Measured;
 use query::NodeAnswer;
 use query::NodeCounts;
 use sheet::SheetAnswer;
 use texts::Lending;
 ghost use mathlib.Core.Path.{_≡_};
-ghost use mathlib.Core.List.{List};
-ghost use Prim.Native.Nat.{ℕ, _≤_, _<_, _^_};
+ghost use mathlib.Core.List.{List, [], _∷_, _++_};
+ghost use Prim.Native.Nat.{ℕ, _+_, _≤_, _<_, _^_};
 ghost use lib.ListN.{length};
 ghost use Rattle.definitions.specs.Bytes.{lengths, letters, cut, tokens};
+ghost use Rattle.definitions.specs.Lists.{join, numbered};
+ghost use Rattle.definitions.specs.Tree.{Node};
+ghost use Rattle.definitions.specs.Reading.{got, times};
+ghost use Rattle.definitions.specs.Grammar.{node};
 ghost use Rattle.definitions.specs.Refusals.{accepted};
 ghost use Rattle.definitions.specs.Output.{lettersOf, ClockedNode};
-ghost use Rattle.definitions.specs.Answer.{Input, input, nodeListing, clocksAnswer, listingAnswer, listingsAnswer};
+ghost use Rattle.definitions.specs.Answer.{Input, input, clockings, nodeListing, clocksAnswer, listingAnswer, listingsAnswer};
 ghost use Rattle.fresh.specs.Places.{lettersAt};
 ghost use Rattle.parts.specs.Answers.{Accepted, sizesOf};
 ghost use Rattle.sheet.specs.Answers.{Stands};
+ghost use Rattle.spelling.specs.Writing.{farthest};
 ghost use Rattle.texts.specs.Lending.{lentText};
-ghost use Rattle.query.specs.Standing.{Standing, Clocked};
-ghost use Rattle.pass.specs.Answers.{clocksOf, listingOf, listingsOf, ClocksGiven, ListingGiven};
+ghost use Rattle.query.specs.Standing.{Standing, Roomy, Ample, Clocked};
+ghost use Rattle.pass.specs.Answers.{clocksOf, listingOf, nodesListed, listingsOf, ClocksGiven, ListingGiven};
 
 // A node's name, passes and counts, or turned down.
 pub enum ClocksAnswer {
@@ -58,8 +63,84 @@ fn starts_of(sheet: &[u8], sizes: Sizes) -> [u32; 1025]
     starts
 }
 
-// The clocks of node k of a sheet that stands in these tables.
-fn clocks_standing(
+// The clocks of node k of a sheet that stands in these tables, with working tables: for the clocks of names, for what is found in
+// equations, and for chains and their order.
+fn clocks_in(
+    starts: &[u32],
+    letters: &[u8],
+    tags: &[u8],
+    values: &[u32],
+    names: u32,
+    k: usize,
+    env: &mut [u32],
+    table: &mut [u32],
+    rows: &mut [u32],
+    chain: &mut [u32],
+    equations: &mut [u32],
+    chains: &mut [u32],
+    faults: &mut [u32],
+) -> ClocksAnswer
+    requires { ⌜ length (now values) ≡ length (now tags) ⌝ }
+    ensures { λ r. ⌜ ((i : Input) → Standing (now (starts .entry)) (now (letters .entry)) (now (tags .entry)) (now (values .entry)) names i → Roomy names (length (now (tags .entry))) (now (env .entry)) (now (table .entry)) → Ample (now (table .entry)) (now (rows .entry)) (now (chain .entry)) → ClocksGiven k (clocksOf i k) (now (equations .entry)) (now (chains .entry)) (now (faults .entry)) (now (equations .exit)) (now (chains .exit)) (now (faults .exit)) r) ⌝ }
+{
+    let found = query::clock_at(tags, values, names, k, env, table);
+    match found {
+        NodeAnswer::Refused(r) => ClocksAnswer::Refused(r),
+        NodeAnswer::Node(told) => ClocksAnswer::Clocks(query::write_clocks(
+            starts,
+            letters,
+            tags,
+            values,
+            env,
+            table,
+            told,
+            rows,
+            chain,
+            equations,
+            chains,
+            faults,
+        )),
+    }
+}
+
+// The same of at most 256 tokens and names: small tables are made sooner.
+fn clocks_small(
+    starts: &[u32],
+    letters: &[u8],
+    tags: &[u8],
+    values: &[u32],
+    names: u32,
+    k: usize,
+    equations: &mut [u32],
+    chains: &mut [u32],
+    faults: &mut [u32],
+) -> ClocksAnswer
+    requires { ⌜ length (now values) ≡ length (now tags) ⌝ }
+    ensures { λ r. ⌜ ((i : Input) → Standing (now (starts .entry)) (now (letters .entry)) (now (tags .entry)) (now (values .entry)) names i → length (now (tags .entry)) ≤ 256 → names ≤ 256 → ClocksGiven k (clocksOf i k) (now (equations .entry)) (now (chains .entry)) (now (faults .entry)) (now (equations .exit)) (now (chains .exit)) (now (faults .exit)) r) ⌝ }
+{
+    let mut env = [0u32; 4352];
+    let mut table = [0u32; 9728];
+    let mut rows = [0u32; 4352];
+    let mut chain = [0u32; 256];
+    clocks_in(
+        starts,
+        letters,
+        tags,
+        values,
+        names,
+        k,
+        &mut env,
+        &mut table,
+        &mut rows,
+        &mut chain,
+        equations,
+        chains,
+        faults,
+    )
+}
+
+// The same of as many tokens as a sheet may have.
+fn clocks_large(
     starts: &[u32],
     letters: &[u8],
     tags: &[u8],
@@ -75,22 +156,64 @@ fn clocks_standing(
 {
     let mut env = [0u32; 17408];
     let mut table = [0u32; 155648];
-    let found = query::clock_at(tags, values, names, k, &mut env, &mut table);
-    match found {
-        NodeAnswer::Refused(r) => ClocksAnswer::Refused(r),
-        NodeAnswer::Node(told) => ClocksAnswer::Clocks(query::write_clocks(
+    let mut rows = [0u32; 69632];
+    let mut chain = [0u32; 4096];
+    clocks_in(
+        starts,
+        letters,
+        tags,
+        values,
+        names,
+        k,
+        &mut env,
+        &mut table,
+        &mut rows,
+        &mut chain,
+        equations,
+        chains,
+        faults,
+    )
+}
+
+// The same of any sheet.
+fn clocks_standing(
+    starts: &[u32],
+    letters: &[u8],
+    tags: &[u8],
+    values: &[u32],
+    names: u32,
+    k: usize,
+    equations: &mut [u32],
+    chains: &mut [u32],
+    faults: &mut [u32],
+) -> ClocksAnswer
+    requires { ⌜ length (now values) ≡ length (now tags) ⌝ }
+    ensures { λ r. ⌜ ((i : Input) → Standing (now (starts .entry)) (now (letters .entry)) (now (tags .entry)) (now (values .entry)) names i → ClocksGiven k (clocksOf i k) (now (equations .entry)) (now (chains .entry)) (now (faults .entry)) (now (equations .exit)) (now (chains .exit)) (now (faults .exit)) r) ⌝ }
+{
+    if tags.len() <= 256 && names <= 256 {
+        return clocks_small(
             starts,
             letters,
             tags,
             values,
-            &env,
-            &table,
-            told,
+            names,
+            k,
             equations,
             chains,
             faults,
-        )),
+        );
     }
+    clocks_large(
+        starts,
+        letters,
+        tags,
+        values,
+        names,
+        k,
+        equations,
+        chains,
+        faults,
+    )
 }
 
 // The same of an accepted sheet, whose tokens stand at the front of the working arrays.
@@ -167,12 +290,12 @@ fn listing_told(
     env: &[u32],
     table: &[u32],
     told: Told,
+    rows: &mut [u32],
+    chain: &mut [u32],
 ) -> ListingAnswer
     requires { ⌜ length (now values) ≡ length (now tags) ⌝ }
-    ensures { λ r. ⌜ ((n : ClockedNode) → Clocked (told .names) (tokens (now (tags .entry)) (now (values .entry))) (now (env .entry)) (now (table .entry)) (told .number) told n → length (now (letters .entry)) ≤ 16384 → length (now (tags .entry)) ≤ 4096 → told .findings ≤ 4096 → ListingGiven (lentText (nodeListing (lettersAt (now (starts .entry)) (now (letters .entry))) (told .number) n) (length (now (out .entry)))) (now (out .entry)) (now (out .exit)) r) ⌝ }
+    ensures { λ r. ⌜ ((n : ClockedNode) → Clocked (told .names) (tokens (now (tags .entry)) (now (values .entry))) (now (env .entry)) (now (table .entry)) (told .number) told n → Ample (now (table .entry)) (now (rows .entry)) (now (chain .entry)) → length (now (letters .entry)) ≤ 16384 → length (now (tags .entry)) ≤ 4096 → ListingGiven (lentText (nodeListing (lettersAt (now (starts .entry)) (now (letters .entry))) (told .number) n) (length (now (out .entry)))) (now (out .entry)) (now (out .exit)) r) ⌝ }
 {
-    let mut rows = [0u32; 69632];
-    let mut chain = [0u32; 4096];
     let lent = listing::node_into(
         out,
         starts,
@@ -182,8 +305,8 @@ fn listing_told(
         env,
         table,
         told,
-        &mut rows,
-        &mut chain,
+        rows,
+        chain,
     );
     match lent {
         Lending::Written(n) => ListingAnswer::Written(n),
@@ -191,8 +314,77 @@ fn listing_told(
     }
 }
 
-// The listing of node k of a sheet that stands in these tables.
-fn listing_standing(
+// The listing of node k of a sheet that stands in these tables, with working tables.
+fn listing_in(
+    out: &mut [u8],
+    starts: &[u32],
+    letters: &[u8],
+    tags: &[u8],
+    values: &[u32],
+    names: u32,
+    k: usize,
+    env: &mut [u32],
+    table: &mut [u32],
+    rows: &mut [u32],
+    chain: &mut [u32],
+) -> ListingAnswer
+    requires { ⌜ length (now values) ≡ length (now tags) ⌝ }
+    ensures { λ r. ⌜ ((i : Input) → Standing (now (starts .entry)) (now (letters .entry)) (now (tags .entry)) (now (values .entry)) names i → Roomy names (length (now (tags .entry))) (now (env .entry)) (now (table .entry)) → Ample (now (table .entry)) (now (rows .entry)) (now (chain .entry)) → ListingGiven (listingOf i k (length (now (out .entry)))) (now (out .entry)) (now (out .exit)) r) ⌝ }
+{
+    let found = query::clock_at(tags, values, names, k, env, table);
+    match found {
+        NodeAnswer::Refused(r) => ListingAnswer::Refused(r),
+        NodeAnswer::Node(told) => {
+            listing_told(
+                out,
+                starts,
+                letters,
+                tags,
+                values,
+                env,
+                table,
+                told,
+                rows,
+                chain,
+            )
+        }
+    }
+}
+
+// The same of at most 256 tokens and names: small tables are made sooner.
+fn listing_small(
+    out: &mut [u8],
+    starts: &[u32],
+    letters: &[u8],
+    tags: &[u8],
+    values: &[u32],
+    names: u32,
+    k: usize,
+) -> ListingAnswer
+    requires { ⌜ length (now values) ≡ length (now tags) ⌝ }
+    ensures { λ r. ⌜ ((i : Input) → Standing (now (starts .entry)) (now (letters .entry)) (now (tags .entry)) (now (values .entry)) names i → length (now (tags .entry)) ≤ 256 → names ≤ 256 → ListingGiven (listingOf i k (length (now (out .entry)))) (now (out .entry)) (now (out .exit)) r) ⌝ }
+{
+    let mut env = [0u32; 4352];
+    let mut table = [0u32; 9728];
+    let mut rows = [0u32; 4352];
+    let mut chain = [0u32; 256];
+    listing_in(
+        out,
+        starts,
+        letters,
+        tags,
+        values,
+        names,
+        k,
+        &mut env,
+        &mut table,
+        &mut rows,
+        &mut chain,
+    )
+}
+
+// The same of as many tokens as a sheet may have.
+fn listing_large(
     out: &mut [u8],
     starts: &[u32],
     letters: &[u8],
@@ -206,13 +398,40 @@ fn listing_standing(
 {
     let mut env = [0u32; 17408];
     let mut table = [0u32; 155648];
-    let found = query::clock_at(tags, values, names, k, &mut env, &mut table);
-    match found {
-        NodeAnswer::Refused(r) => ListingAnswer::Refused(r),
-        NodeAnswer::Node(told) => {
-            listing_told(out, starts, letters, tags, values, &env, &table, told)
-        }
+    let mut rows = [0u32; 69632];
+    let mut chain = [0u32; 4096];
+    listing_in(
+        out,
+        starts,
+        letters,
+        tags,
+        values,
+        names,
+        k,
+        &mut env,
+        &mut table,
+        &mut rows,
+        &mut chain,
+    )
+}
+
+// The same of any sheet.
+fn listing_standing(
+    out: &mut [u8],
+    starts: &[u32],
+    letters: &[u8],
+    tags: &[u8],
+    values: &[u32],
+    names: u32,
+    k: usize,
+) -> ListingAnswer
+    requires { ⌜ length (now values) ≡ length (now tags) ⌝ }
+    ensures { λ r. ⌜ ((i : Input) → Standing (now (starts .entry)) (now (letters .entry)) (now (tags .entry)) (now (values .entry)) names i → ListingGiven (listingOf i k (length (now (out .entry)))) (now (out .entry)) (now (out .exit)) r) ⌝ }
+{
+    if tags.len() <= 256 && names <= 256 {
+        return listing_small(out, starts, letters, tags, values, names, k);
     }
+    listing_large(out, starts, letters, tags, values, names, k)
 }
 
 // The same of an accepted sheet, whose tokens stand at the front of the working arrays.
@@ -257,7 +476,228 @@ pub fn listing(sheet: &[u8], node: usize, out: &mut [u8]) -> ListingAnswer
     }
 }
 
-// The listings of all nodes of a sheet that stands in these tables: measured first, then written.
+// The listings of n nodes, of which the first stands at `from` and which take so many bytes, and behind them that of a clocked node,
+// which is written first, while its clocks stand in the working tables.
+fn listings_told(
+    out: &mut [u8],
+    starts: &[u32],
+    letters: &[u8],
+    tags: &[u8],
+    values: &[u32],
+    names: u32,
+    n: u32,
+    from: usize,
+    before: usize,
+    told: Told,
+    env: &mut [u32],
+    table: &mut [u32],
+    rows: &mut [u32],
+    chain: &mut [u32],
+) -> ListingAnswer
+    requires { ⌜ length (now values) ≡ length (now tags) ⌝ }
+    requires { ⌜ before + farthest < 2 ^ 64 ⌝ }
+    ensures { λ r. ⌜ ((ns : List Node) (q : ℕ) (l : List ClockedNode) (last : ClockedNode) → times n (node names) (tokens (now (tags .entry)) (now (values .entry))) from ≡ got ns q → clockings 0 ns ≡ accepted l → before ≡ length (join (numbered (nodeListing (lettersAt (now (starts .entry)) (now (letters .entry)))) 0 l)) → Clocked (told .names) (tokens (now (tags .entry)) (now (values .entry))) (now (env .entry)) (now (table .entry)) (told .number) told last → Roomy names (length (now (tags .entry))) (now (env .entry)) (now (table .entry)) → Ample (now (table .entry)) (now (rows .entry)) (now (chain .entry)) → length (now (letters .entry)) ≤ 16384 → length (now (tags .entry)) ≤ 4096 → ListingGiven (lentText (join (numbered (nodeListing (lettersAt (now (starts .entry)) (now (letters .entry)))) 0 l) ++ nodeListing (lettersAt (now (starts .entry)) (now (letters .entry))) (told .number) last) (length (now (out .entry)))) (now (out .entry)) (now (out .exit)) r) ⌝ }
+{
+    let s = query::measure_told(starts, letters, tags, values, env, table, told, rows, chain);
+    let m = before + s.listing;
+    if out.len() < m {
+        return ListingAnswer::Refused(Refusal::Lent(m));
+    }
+    query::put_told(
+        out,
+        before,
+        starts,
+        letters,
+        tags,
+        values,
+        env,
+        table,
+        told,
+        rows,
+        chain,
+        s.chains,
+    );
+    query::put_listings(
+        out,
+        starts,
+        letters,
+        tags,
+        values,
+        names,
+        n,
+        from,
+        env,
+        table,
+        rows,
+        chain,
+    );
+    ListingAnswer::Written(m)
+}
+
+// The listings of n nodes, of which the first stands at `from` and which take so many bytes, and of one more, which stands at `place`.
+fn listings_last(
+    out: &mut [u8],
+    starts: &[u32],
+    letters: &[u8],
+    tags: &[u8],
+    values: &[u32],
+    names: u32,
+    n: u32,
+    from: usize,
+    before: usize,
+    place: usize,
+    env: &mut [u32],
+    table: &mut [u32],
+    rows: &mut [u32],
+    chain: &mut [u32],
+) -> ListingAnswer
+    requires { ⌜ length (now values) ≡ length (now tags) ⌝ }
+    requires { ⌜ before + farthest < 2 ^ 64 ⌝ }
+    ensures { λ r. ⌜ ((ns : List Node) (l : List ClockedNode) (last : Node) (q : ℕ) → times n (node names) (tokens (now (tags .entry)) (now (values .entry))) from ≡ got ns place → node names (tokens (now (tags .entry)) (now (values .entry))) place ≡ got last q → clockings 0 ns ≡ accepted l → before ≡ length (join (numbered (nodeListing (lettersAt (now (starts .entry)) (now (letters .entry)))) 0 l)) → Roomy names (length (now (tags .entry))) (now (env .entry)) (now (table .entry)) → Ample (now (table .entry)) (now (rows .entry)) (now (chain .entry)) → length (now (letters .entry)) ≤ 16384 → length (now (tags .entry)) ≤ 4096 → ListingGiven (nodesListed (lettersAt (now (starts .entry)) (now (letters .entry))) (ns ++ (last ∷ [])) (length (now (out .entry)))) (now (out .entry)) (now (out .exit)) r) ⌝ }
+{
+    let last = layout::node_at(tags, values, names, place);
+    let answer = query::clock_laid(tags, values, names, last, wide(n), env, table);
+    match answer {
+        NodeAnswer::Refused(r) => ListingAnswer::Refused(r),
+        NodeAnswer::Node(told) => {
+            listings_told(
+                out,
+                starts,
+                letters,
+                tags,
+                values,
+                names,
+                n,
+                from,
+                before,
+                told,
+                env,
+                table,
+                rows,
+                chain,
+            )
+        }
+    }
+}
+
+// The listings of all nodes of a sheet that stands in these tables, with working tables: those before the last are measured first.
+fn listings_in(
+    out: &mut [u8],
+    starts: &[u32],
+    letters: &[u8],
+    tags: &[u8],
+    values: &[u32],
+    names: u32,
+    env: &mut [u32],
+    table: &mut [u32],
+    rows: &mut [u32],
+    chain: &mut [u32],
+) -> ListingAnswer
+    requires { ⌜ length (now values) ≡ length (now tags) ⌝ }
+    ensures { λ r. ⌜ ((i : Input) → Standing (now (starts .entry)) (now (letters .entry)) (now (tags .entry)) (now (values .entry)) names i → Roomy names (length (now (tags .entry))) (now (env .entry)) (now (table .entry)) → Ample (now (table .entry)) (now (rows .entry)) (now (chain .entry)) → ListingGiven (listingsOf i (length (now (out .entry)))) (now (out .entry)) (now (out .exit)) r) ⌝ }
+{
+    let whole = layout::sheet_at(tags, values, names);
+    let nodes = whole.nodes;
+    let from = nodes.at;
+    if nodes.count == 0 {
+        return ListingAnswer::Written(0);
+    }
+    let n = nodes.count - 1;
+    let measured = query::measure_listings(
+        starts,
+        letters,
+        tags,
+        values,
+        names,
+        n,
+        from,
+        env,
+        table,
+        rows,
+        chain,
+    );
+    match measured {
+        Measured::Deep(i) => ListingAnswer::Refused(Refusal::Deep(i)),
+        Measured::Size(before, place) => listings_last(
+            out,
+            starts,
+            letters,
+            tags,
+            values,
+            names,
+            n,
+            from,
+            before,
+            place,
+            env,
+            table,
+            rows,
+            chain,
+        ),
+    }
+}
+
+// The same of at most 256 tokens and names: small tables are made sooner.
+fn listings_small(
+    out: &mut [u8],
+    starts: &[u32],
+    letters: &[u8],
+    tags: &[u8],
+    values: &[u32],
+    names: u32,
+) -> ListingAnswer
+    requires { ⌜ length (now values) ≡ length (now tags) ⌝ }
+    ensures { λ r. ⌜ ((i : Input) → Standing (now (starts .entry)) (now (letters .entry)) (now (tags .entry)) (now (values .entry)) names i → length (now (tags .entry)) ≤ 256 → names ≤ 256 → ListingGiven (listingsOf i (length (now (out .entry)))) (now (out .entry)) (now (out .exit)) r) ⌝ }
+{
+    let mut env = [0u32; 4352];
+    let mut table = [0u32; 9728];
+    let mut rows = [0u32; 4352];
+    let mut chain = [0u32; 256];
+    listings_in(
+        out,
+        starts,
+        letters,
+        tags,
+        values,
+        names,
+        &mut env,
+        &mut table,
+        &mut rows,
+        &mut chain,
+    )
+}
+
+// The same of as many tokens as a sheet may have.
+fn listings_large(
+    out: &mut [u8],
+    starts: &[u32],
+    letters: &[u8],
+    tags: &[u8],
+    values: &[u32],
+    names: u32,
+) -> ListingAnswer
+    requires { ⌜ length (now values) ≡ length (now tags) ⌝ }
+    ensures { λ r. ⌜ ((i : Input) → Standing (now (starts .entry)) (now (letters .entry)) (now (tags .entry)) (now (values .entry)) names i → ListingGiven (listingsOf i (length (now (out .entry)))) (now (out .entry)) (now (out .exit)) r) ⌝ }
+{
+    let mut env = [0u32; 17408];
+    let mut table = [0u32; 155648];
+    let mut rows = [0u32; 69632];
+    let mut chain = [0u32; 4096];
+    listings_in(
+        out,
+        starts,
+        letters,
+        tags,
+        values,
+        names,
+        &mut env,
+        &mut table,
+        &mut rows,
+        &mut chain,
+    )
+}
+
+// The same of any sheet.
 fn listings_standing(
     out: &mut [u8],
     starts: &[u32],
@@ -269,17 +709,10 @@ fn listings_standing(
     requires { ⌜ length (now values) ≡ length (now tags) ⌝ }
     ensures { λ r. ⌜ ((i : Input) → Standing (now (starts .entry)) (now (letters .entry)) (now (tags .entry)) (now (values .entry)) names i → ListingGiven (listingsOf i (length (now (out .entry)))) (now (out .entry)) (now (out .exit)) r) ⌝ }
 {
-    let deep = query::deep_node(tags, values, names);
-    if let Deepest::At(i) = deep {
-        return ListingAnswer::Refused(Refusal::Deep(wide(i)));
+    if tags.len() <= 256 && names <= 256 {
+        return listings_small(out, starts, letters, tags, values, names);
     }
-    let mut none = [0u8; 1];
-    let m = query::put_listings(&mut none, starts, letters, tags, values, names);
-    if out.len() < m {
-        return ListingAnswer::Refused(Refusal::Lent(m));
-    }
-    query::put_listings(out, starts, letters, tags, values, names);
-    ListingAnswer::Written(m)
+    listings_large(out, starts, letters, tags, values, names)
 }
 
 // The same of an accepted sheet, whose tokens stand at the front of the working arrays.

@@ -8,14 +8,14 @@ use mathlib.Core.Option.{Option, none, some}
 use mathlib.Core.Logic.{_⊎_, inl, inr}
 use native.Mathlib.Omega.{arith}
 use native.Mathlib.Numerals.{add-one}
-use lib.Dec.{eqb, ltb, leb}
+use lib.Dec.{eqb, leb}
 use lib.ListN.{length, getD, set, List·getD-eq-default}
 use lib.Seq.{getD-set-same, getD-set-other}
-use borrow.Author.Tests.{eq-eqb, ne-eqb, eqb-true, eqb-false, lt-ltb, le-ltb, ltb-true, ltb-false}
+use borrow.Author.Tests.{eq-eqb, ne-eqb, eqb-true, eqb-false, lt-ltb, le-ltb}
 use Rattle.definitions.specs.Bytes.{tokens}
 use Rattle.definitions.specs.Lists.{choose, among}
 use Rattle.definitions.specs.Tokens.{TagValue}
-use Rattle.definitions.specs.Tree.{Declared, Equation, Node}
+use Rattle.definitions.specs.Tree.{Declared, Expr, Equation, Node}
 use Rattle.definitions.specs.Reading.{Got, got, times}
 use Rattle.definitions.specs.Grammar.{name, declaration, expr, equation}
 use Rattle.definitions.specs.Clock.{Clock, base}
@@ -28,8 +28,9 @@ use Rattle.grammar.specs.declared.Read.{Read}
 use Rattle.grammar.specs.Outcome.{outcome}
 use Rattle.grammar.proofs.Laws.{tokens-length}
 use Rattle.grammar.proofs.Got.{same, tagged-value, times-nil, times-cons, declaration-got}
+use Rattle.typedefs.proofs.Laws.{filled-more}
 use Rattle.operands.proofs.Laws.{name-place}
-use Rattle.layout.specs.Spans.{pastIn, endOf, spanBy}
+use Rattle.layout.specs.Spans.{pastIn, endOf, Spanned}
 use Rattle.layout.specs.Laid.{LaidEquation}
 use Rattle.layout.specs.declared.Span.{Span}
 use Rattle.layout.proofs.Laws.{laid-equation}
@@ -52,13 +53,6 @@ clear-more t i l h k u = go (eqb k i) refl
         let n : k ≡ i → ⊥ = eqb-false k i q in
         let m : k < i = omega arith in
         getD-set-other t i k 0 0 n ∙ h k m
-
-pub clear-all : (t : List ℕ) (i : ℕ) → length t ≤ i → ((k : ℕ) → k < i → getD t k 0 ≡ 0) → (k : ℕ) → getD t k 0 ≡ 0
-clear-all t i l h k = go (ltb k i) refl
-  where
-    go : (b : Bool) → ltb k i ≡ b → getD t k 0 ≡ 0
-    go true q = h k (ltb-true k i q)
-    go false q = let m : length t ≤ k = omega (arith, ltb-false k i q) in List·getD-eq-default t 0 m
 
 -- ---- a name in the code's tables
 pub port-out : (t : List ℕ) (x : ℕ) → length t ≤ x → false ≡ eqb (getD t x 0) 1
@@ -259,11 +253,40 @@ quiet-more gs vs since made from k h g i a b c d = go (eqb i k) refl
     go true e = let j : i ≡ k = eqb-true i k e in rw j (g (rw j at d))
     go false e = h i a (omega (arith, eqb-false i k e)) c d
 
+-- ---- where equations stand
+-- an equation that was read ends where the table says
+pub end-is : (M : ℕ) (ts : List TagValue) (p : ℕ) (e : Equation) (u : ℕ) → equation M ts p ≡ got e u → endFrom M ts p ≡ u
+end-is M ts p e u g = ap (λ (x : Got Equation). endOf (outcome x) p) g
+
+place-shift : (M : ℕ) (ts : List TagValue) (k p : ℕ) → placeOf M ts p (suc k) ≡ placeOf M ts (endFrom M ts p) k
+unfolding placeOf
+place-shift M ts zero p = refl
+place-shift M ts (suc k) p = ap (endFrom M ts) (place-shift M ts k p)
+
+-- each of so many was read at its place
+pub stands-at : (M : ℕ) (ts : List TagValue) (n k p : ℕ) (l : List Equation) (q : ℕ) → times n (equation M) ts p ≡ got l q → k < n → (e : Equation) × (u : ℕ) × (equation M ts (placeOf M ts p k) ≡ got e u)
+unfolding placeOf
+stands-at M ts n zero p l q g h = let t = times-cons (equation M) ts n p l q (λ z. omega arith) g in (t .0, t .1, t .3)
+stands-at M ts n (suc k) p l q g h =
+    let t = times-cons (equation M) ts n p l q (λ z. omega arith) g in
+    let r = stands-at M ts (n - 1) k (t .1) (t .2) q (t .4) (omega arith) in
+    (r .0, r .1, ap (equation M ts) (place-shift M ts k p ∙ ap (λ (x : ℕ). placeOf M ts x k) (end-is M ts p (t .0) (t .1) (t .3))) ∙ r .2)
+
+-- one more end is in the table
+pub ends-more : (M : ℕ) (ts : List TagValue) (n p i place end : ℕ) (ends : List ℕ) (l : List Equation) (q : ℕ) → times n (equation M) ts p ≡ got l q → i < n → i < length ends → ((e : Equation) (u : ℕ) → equation M ts place ≡ got e u → end ≡ u) →
+    (place ≡ placeOf M ts p i) × ((k : ℕ) → k < i → getD ends k 0 ≡ placeOf M ts p (suc k)) → (end ≡ placeOf M ts p (i + 1)) × ((k : ℕ) → k < i + 1 → getD (set ends i end) k 0 ≡ placeOf M ts p (suc k))
+unfolding placeOf
+ends-more M ts n p i place end ends l q g h b e f =
+    let a = stands-at M ts n i p l q g h in
+    let r : equation M ts place ≡ got (a .0) (a .1) = ap (equation M ts) (f .0) ∙ a .2 in
+    let m : end ≡ endFrom M ts (placeOf M ts p i) = e (a .0) (a .1) r ∙ sym (end-is M ts (placeOf M ts p i) (a .0) (a .1) (a .2)) in
+    (m ∙ ap (placeOf M ts p) (sym (add-one i)), filled-more (λ k. placeOf M ts p (suc k)) ends i end b (f .1) m)
+
 -- ---- an equation that is read
-module _ (M : ℕ) (gs vs : List ℕ) (same-length : length vs ≡ length gs) (at : ℕ) (l : Span) (i : l ≡ spanBy (name M) gs vs at) (e : Equation) (q : ℕ) (g : equation M (tokens gs vs) at ≡ got e q) where
+module _ (M : ℕ) (gs vs : List ℕ) (same-length : length vs ≡ length gs) (at : ℕ) (l : Span) (i : Spanned (name M) gs vs at l) (e : Equation) (q : ℕ) (g : equation M (tokens gs vs) at ≡ got e q) where
   -- where its parts stand
   pub lies : LaidEquation M (tokens gs vs) e q (record { left = l; right = l .end; end = endOf (outcome (expr M 32 (tokens gs vs) (l .end))) at })
-  lies = laid-equation gs vs same-length M at l i _ refl _ refl e q g
+  lies = laid-equation gs vs same-length M at l i _ (λ a u h. ap (λ (x : Got Expr). endOf (outcome x) at) h) e q g
 
 module _ (n : Node) (e : Equation) (p : Pass) (present : ℕ) (since : List ℕ) (f : Found) (q : ℕ) (h : Finds f (natural (p .clocks) (e .right)) q) where
   step : (v : Natural) → naturalOf (f .natural) ≡ v → stepped n e p ≡ (v >>= λ o. formed (giveNatural n o (e .left) p))
@@ -341,13 +364,15 @@ going-end M ts n es made at t since changed count i place q f z h =
     last a e (inr c) = c
 
 module _ (M : ℕ) (ts : List TagValue) (n : Node) (es : List Equation) (made at : ℕ) (t t′ since since′ marks ends : List ℕ) (changed : Bool) (count i place end q : ℕ) (f : Formed Pass) (r : Passing) (z : i < count) (m : Marked marks M (ports n)) (E : Ended M ts at count ends)
-    (D : (i < 64 → getD ends i 0 ≡ endFrom M ts place) → end ≡ endFrom M ts place)
+    (D : (e : Equation) (u : ℕ) → equation M ts place ≡ got e u → (i < 64 → getD ends i 0 ≡ endFrom M ts place) → end ≡ endFrom M ts place)
     (T : (n : Node) (p : Pass) (e : Equation) → Marked marks M (ports n) → equation M ts place ≡ got e end → Stands t M changed p → Calm n since made (p .clocks) e → Turned n e (made + 1) since since′ t′ M p r)
     (h : Going M ts n es made at t since changed count i place q f) where
   -- the table says where the equation ends
   ends-there : end ≡ endFrom M ts place
   unfolding placeOf
-  ends-there = D (λ l. E .ends-at i z l ∙ ap (endFrom M ts) (sym (h .here)))
+  ends-there =
+      let k = times-cons (equation M) ts (count - i) place (h .rest) q (λ y. omega (arith, y, z)) (h .items) in
+      D (k .0) (k .1) (k .3) (λ l. E .ends-at i z l ∙ ap (endFrom M ts) (sym (h .here)))
 
   -- the next equation, and its turn
   record Next : Type 0 where
@@ -516,18 +541,18 @@ unfolding clockOf
 on-base [] x = refl
 on-base (y ∷ l) x = rw (on-base l x, eqb-sym y x) (chosen-twice (eqb x y) (among x l) (some base) none)
 
-module _ (M : ℕ) (n : Node) (t t₀ p₀ t₁ p₁ t₂ p₂ : List ℕ) (c : Cleared t t₀) (d : (x : ℕ) → getD p₀ x 0 ≡ 0) (a : Places M t₁ p₁ [] t₀ p₀ (map nameOf (n .inputs))) (b : Places M t₂ p₂ [] t₁ p₁ (map nameOf (n .outputs))) where
+module _ (M : ℕ) (n : Node) (t t₀ p₀ t₁ p₁ t₂ p₂ : List ℕ) (room : 17 * M ≤ length t) (c : Cleared t t₀ M) (d : (x : ℕ) → x < M → getD p₀ x 0 ≡ 0) (a : Places M t₁ p₁ [] t₀ p₀ (map nameOf (n .inputs))) (b : Places M t₂ p₂ [] t₁ p₁ (map nameOf (n .outputs))) where
   pub ports-marked : Marked p₂ M (ports n)
   ports-marked = record { same = λ x u. ap (λ (k : ℕ). eqb k 1) (number x u) ∙ (marked-one (among x (map nameOf (n .inputs)) || among x (map nameOf (n .outputs))) ∙ sym (among-append x (n .inputs) (n .outputs))) }
     where
       number : (x : ℕ) → x < M → getD p₂ x 0 ≡ choose (among x (map nameOf (n .inputs)) || among x (map nameOf (n .outputs))) 1 0
-      number x u = chosen-both (among x (map nameOf (n .inputs))) (among x (map nameOf (n .outputs))) 1 (getD p₂ x 0) (getD p₁ x 0) 0 (b .marks x u) (a .marks x u ∙ ap (λ (k : ℕ). choose (among x (map nameOf (n .inputs))) 1 k) (d x))
+      number x u = chosen-both (among x (map nameOf (n .inputs))) (among x (map nameOf (n .outputs))) 1 (getD p₂ x 0) (getD p₁ x 0) 0 (b .marks x u) (a .marks x u ∙ ap (λ (k : ℕ). choose (among x (map nameOf (n .inputs))) 1 k) (d x u))
 
   pub ports-on-base : 17 * M ≤ length t₂ → Agrees t₂ M (map (λ x. record { name = x; clock = base }) (ports n))
   ports-on-base l = record { room = l; same = λ x u. one x u ∙ (ap (λ (k : Bool). choose k (some base) none) (sym (among-append x (n .inputs) (n .outputs))) ∙ sym (on-base (ports n) x)) }
     where
       one : (x : ℕ) → x < M → envAt t₂ x ≡ choose (among x (map nameOf (n .inputs)) || among x (map nameOf (n .outputs))) (some base) none
-      one x u = chosen-both (among x (map nameOf (n .inputs))) (among x (map nameOf (n .outputs))) (some base) (envAt t₂ x) (envAt t₁ x) none (b .clocks x u) (a .clocks x u ∙ ap (λ (k : Option Clock). choose (among x (map nameOf (n .inputs))) (some base) k) (c .nowhere x))
+      one x u = chosen-both (among x (map nameOf (n .inputs))) (among x (map nameOf (n .outputs))) (some base) (envAt t₂ x) (envAt t₁ x) none (b .clocks x u) (a .clocks x u ∙ ap (λ (k : Option Clock). choose (among x (map nameOf (n .inputs))) (some base) k) (c .nowhere room x u))
 
 pub infers-node : (M : ℕ) (n : Node) (t : List ℕ) (k : ℕ) (r : Inference) → k ≡ length (n .equations) → Infers t M r (passesFrom n (suc k) 0 (map (λ x. record { name = x; clock = base }) (ports n))) → Infers t M r (inferred n)
 unfolding inferred

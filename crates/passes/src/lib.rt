@@ -37,12 +37,16 @@ pub enum Inference {
     Passes(usize),
 }
 
-// No name is marked.
-fn clear(marks: &mut [u8])
-    ensures { λ r. ⌜ ((x : ℕ) → getD (now (marks .exit)) x 0 ≡ 0) ⌝ }
+// No name below m is marked, if there are marks for them.
+fn clear(marks: &mut [u8], m: u32)
+    ensures { λ r. ⌜ (m ≤ length (now (marks .entry)) → (x : ℕ) → x < m → getD (now (marks .exit)) x 0 ≡ 0) ⌝ }
 {
+    let n = m as usize;
+    if marks.len() < n {
+        return;
+    }
     let mut i: usize = 0;
-    while i < marks.len() {
+    while i < n {
         marks[i] = 0;
         i += 1;
     }
@@ -113,7 +117,8 @@ pub fn has_clock(env: &[u32], x: u32, c: Clock) -> bool
     if w == 0 {
         return false;
     }
-    flat::same_at(env, b, c)
+    let own = flat::load(env, b);
+    clock::same_clock(c, own)
 }
 
 // A name's clock changed in this pass.
@@ -217,7 +222,7 @@ fn is_changed(since: &[usize], tag: u8, x: u32, made: usize) -> bool
 
 // The lesser of two numbers.
 fn least(a: usize, b: usize) -> usize
-    ensures { λ r. ⌜ (r ≤ b) × ((i : ℕ) → i < a → i < b → i < r) ⌝ }
+    ensures { λ r. ⌜ (r ≤ b) × ((i : ℕ) → i < a → i < b → i < r) × (r ≤ a) ⌝ }
 {
     if a < b { a } else { b }
 }
@@ -316,29 +321,17 @@ fn one_equation(
     Passing::Made(changed)
 }
 
-// Where the equation that stands there ends.
-fn end_from(tags: &[u8], values: &[u32], names: u32, at: usize) -> usize
-    requires { ⌜ length (now values) ≡ length (now tags) ⌝ }
-    ensures { λ r. ⌜ r ≡ endFrom names (tokens (now (tags .entry)) (now (values .entry))) at ⌝ }
-{
-    let read = grammar::read_equation(tags, values, names, at);
-    match read {
-        Read::Next(next) => next,
-        Read::Refused(_) => at,
-    }
-}
-
 // Where a node's equations end, as far as the table goes.
 fn equation_ends(tags: &[u8], values: &[u32], names: u32, count: u32, at: usize) -> [usize; 64]
     requires { ⌜ length (now values) ≡ length (now tags) ⌝ }
-    ensures { λ r. ⌜ Ended names (tokens (now (tags .entry)) (now (values .entry))) at count r ⌝ }
+    ensures { λ r. ⌜ ((l : List Equation) (q : ℕ) → times count (equation names) (tokens (now (tags .entry)) (now (values .entry))) at ≡ got l q → Ended names (tokens (now (tags .entry)) (now (values .entry))) at count r) ⌝ }
 {
     let most = least(count as usize, 64);
     let mut ends = [0usize; 64];
     let mut place = at;
     let mut i: usize = 0;
     while i < most {
-        place = end_from(tags, values, names, place);
+        place = extents::equation_end(tags, values, place);
         ends[i] = place;
         i += 1;
     }
@@ -348,13 +341,13 @@ fn equation_ends(tags: &[u8], values: &[u32], names: u32, count: u32, at: usize)
 // Where the i-th equation ends, which stands there.
 fn end_at(tags: &[u8], values: &[u32], names: u32, ends: &[usize; 64], i: u32, at: usize) -> usize
     requires { ⌜ length (now values) ≡ length (now tags) ⌝ }
-    ensures { λ r. ⌜ ((i < 64 → getD (now (ends .entry)) i 0 ≡ endFrom names (tokens (now (tags .entry)) (now (values .entry))) at) → r ≡ endFrom names (tokens (now (tags .entry)) (now (values .entry))) at) ⌝ }
+    ensures { λ r. ⌜ ((e : Equation) (q : ℕ) → equation names (tokens (now (tags .entry)) (now (values .entry))) at ≡ got e q → (i < 64 → getD (now (ends .entry)) i 0 ≡ endFrom names (tokens (now (tags .entry)) (now (values .entry))) at) → r ≡ endFrom names (tokens (now (tags .entry)) (now (values .entry))) at) ⌝ }
 {
     let k = i as usize;
     if k < 64 {
         return ends[k];
     }
-    end_from(tags, values, names, at)
+    extents::equation_end(tags, values, at)
 }
 
 // One pass over a node's equations, after so many.
@@ -493,8 +486,8 @@ pub fn infer(
     requires { ⌜ length (now values) ≡ length (now tags) ⌝ }
     ensures { λ r. ⌜ ((n : Node) (q : ℕ) → Laid names (tokens (now (tags .entry)) (now (values .entry))) n q l → 17 * names ≤ length (now (env .entry)) → names ≤ length (now (marks .entry)) → Marked (now (marks .exit)) names (ports n) × Infers (now (env .exit)) names r (inferred n)) ⌝ }
 {
-    environment::clear(env);
-    clear(marks);
+    environment::clear(env, names);
+    clear(marks, names);
     let i = l.inputs;
     let icount = i.count;
     let iat = i.at;

@@ -5,43 +5,47 @@ use mathlib.Core.Bool.{Bool, true, false}
 use Prim.Native.Nat.{ℕ, zero, suc, _+_, _-_, _*_, _/_, _≤_, _<_, min}
 use native.Mathlib.Omega.{arith}
 use native.Mathlib.Numerals.{add-one}
-use lib.Dec.{leb}
-use borrow.Author.Tests.{leb-true, leb-false}
+use lib.Dec.{leb, ltb}
+use borrow.Author.Tests.{leb-true, leb-false, ltb-true, ltb-false}
 use mathlib.Core.Option.{Option}
-use lib.ListN.{length, getD, take, drop, length-append, length-map, List·getD-map}
-use lib.Seq.{take-suc, take-all}
-use Rattle.definitions.specs.Lists.{join, over, Letters}
+use lib.ListN.{length, getD, take, drop, length-append, length-map}
+use lib.Seq.{take-suc, take-all, take-append-le}
+use Rattle.definitions.specs.Lists.{choose, join, over, Letters}
 use Rattle.definitions.specs.Tokens.{TagValue}
 use Rattle.definitions.specs.Tree.{Expr, Equation}
 use Rattle.definitions.specs.Reading.{got, times}
 use Rattle.definitions.specs.Grammar.{equation}
 use Rattle.definitions.specs.Clock.{Clock, base}
-use Rattle.definitions.specs.InferClocks.{Formed, deep, formed, _>>=_, Natural, Clocks, Clocked, Finding, found, site, tooDeep, NodeFault, faultNumber, natural, orBase, clockedBy, chains, clockFaults}
+use Rattle.definitions.specs.InferClocks.{formed, Clocks, Clocked, Finding, NodeFault, faultNumber, natural, orBase, clockedBy, chains, clockFaults}
 use Rattle.grammar.proofs.Got.{times-cons}
 use Rattle.grammar.proofs.Laws.{times-length}
 use Rattle.definitions.specs.Output.{ClockedNode}
 use Rattle.definitions.specs.Answer.{nodeClocks}
 use Rattle.listing.specs.declared.Told.{Told}
 use Rattle.listing.proofs.Laws.{clocked-cons, clocked-many, picked-length, node-clocked}
-use Rattle.listing.proofs.Lengths.{few-faults}
 use Rattle.query.specs.declared.NodeCounts.{NodeCounts}
 use Rattle.query.specs.Standing.{Clocked as Told′}
 use Rattle.environment.specs.Environment.{Agrees}
 use Rattle.operands.specs.Spread.{tree}
 use Rattle.layout.specs.declared.EquationLayout.{EquationLayout}
 use Rattle.layout.specs.Laid.{LaidEquation}
-use Rattle.findings.specs.Findings.{findingsIn, noFault}
-use Rattle.findings.proofs.Laws.{length-from}
+use Rattle.findings.specs.Findings.{faultIn, findingIn, findingsIn}
+use Rattle.findings.proofs.Laws.{none-yet, count-more, faults-one, faults-no}
 use Rattle.order.specs.Order.{rowOf, picked}
 use Rattle.spelling.specs.Writing.{overAt}
-use Rattle.spelling.proofs.Writing.{over-front, over-then}
-use Rattle.query.specs.Words.{clockWords, faultWords, entriesOver, clocksOver, faultsOver, countsOf, Written}
-use Rattle.query.proofs.Words.{join-last, words-long, over-in}
+use Rattle.spelling.proofs.Writing.{over-front, over-then, length-over}
+use Rattle.query.specs.Words.{clockWords, faultWords, entriesOver, clocksOver, faultsOver, Written}
+use Rattle.query.proofs.Words.{join-last, words-long}
 
 -- the first i entries are written, b words in all
 pub record Entered {A : Type 0} (f : A → List ℕ) (l : List A) (lent : List ℕ) (i b : ℕ) (now : List ℕ) : Type 0 where
   pub written : now ≡ over (join (map f (take i l))) lent
   pub long : length (join (map f (take i l))) ≡ b
+
+-- one item more
+map-last : {A B : Type 0} (f : A → B) (l : List A) (a : A) → map f (l ++ (a ∷ [])) ≡ map f l ++ (f a ∷ [])
+map-last f [] a = refl
+map-last f (b ∷ l) a = ap (λ r. f b ∷ r) (map-last f l a)
 
 take-map : {A B : Type 0} (f : A → B) (n : ℕ) (l : List A) → map f (take n l) ≡ take n (map f l)
 take-map f zero l = refl
@@ -167,34 +171,85 @@ module _ (M : ℕ) (ts : List TagValue) (es : List Equation) (cs : List Clocked)
       clocks-entered (map (λ (c : Clocked). c .clock) cs) lent n i most room now (sym (clocked-many clocks es cs h ∙ times-length (equation M) ts n at es q g)) r e a b (u .entered)
 
 -- ---- faults
-default-any : {A : Type 0} (l : List A) (i : ℕ) (d e : A) → i < length l → getD l i d ≡ getD l i e
-default-any [] i d e h = absurd (omega arith)
-default-any (a ∷ l) zero d e h = refl
-default-any (a ∷ l) (suc i) d e h = default-any l i d e (omega arith)
+-- a list of entries keeps its length
+entries-length : (size : ℕ) (es : List (List ℕ)) (lent : List ℕ) → length (entriesOver size es lent) ≡ length lent
+unfolding entriesOver
+entries-length size es lent = ap length (sym (over-front (join (take (length lent / size) es)) lent)) ∙ length-over 0 (join (take (length lent / size) es)) lent
 
--- a number of each fault, read where it was written
-fault-number : (g : NodeFault → ℕ) (fs : List NodeFault) (s now : List ℕ) (i w : ℕ) → now ≡ over (map g fs) s → length fs ≤ length s → i < length fs → w ≡ getD now i 0 → w ≡ g (getD fs i noFault)
-fault-number g fs s now i w e h k r =
-    let m = length-map fs g in
-    r ∙ (ap (λ (l : List ℕ). getD l i 0) e ∙ (over-in (map g fs) s i (omega arith) (omega arith) ∙ (default-any (map g fs) i 0 (g noFault) (omega arith) ∙ List·getD-map g fs i noFault)))
+-- three words a fault
+faults-long : (node : ℕ) (fs : List NodeFault) → length (join (map (faultWords node) fs)) ≡ 3 * length fs
+faults-long node [] = refl
+faults-long node (f ∷ fs) = omega (arith, faults-long node fs)
 
-module _ (node : ℕ) (t : List ℕ) (n : ℕ) (lent : List ℕ) where
-  pub fault-entered : (i x y : ℕ) (ns es ns₀ es₀ now after : List ℕ) → n ≤ 4096 → length ns₀ ≡ 4096 → length es₀ ≡ 4096 → i < length (clockFaults (findingsIn t n))
-      → ns ≡ over (map (λ (f : NodeFault). faultNumber (f .fault)) (clockFaults (findingsIn t n))) ns₀ → es ≡ over (map (λ (f : NodeFault). f .equation) (clockFaults (findingsIn t n))) es₀
-      → x ≡ getD ns i 0 → y ≡ getD es i 0 → after ≡ overAt (3 * i) (node ∷ x ∷ y ∷ []) now
-      → Entered (faultWords node) (clockFaults (findingsIn t n)) lent i (3 * i) now → Entered (faultWords node) (clockFaults (findingsIn t n)) lent (i + 1) (3 * (i + 1)) after
-  fault-entered i x y ns es ns₀ es₀ now after few u v h a b p q g z =
-      let fs = clockFaults (findingsIn t n) in
-      let m : length (clockFaults (findingsIn t n)) ≤ 4096 = omega (arith, few-faults (findingsIn t n), length-from t 0 n) in
-      let e : x ≡ faultNumber (getD (clockFaults (findingsIn t n)) i noFault .fault) = fault-number (λ (f : NodeFault). faultNumber (f .fault)) (clockFaults (findingsIn t n)) ns₀ ns i x a (omega arith) h p in
-      let f : y ≡ getD (clockFaults (findingsIn t n)) i noFault .equation = fault-number (λ (f : NodeFault). f .equation) (clockFaults (findingsIn t n)) es₀ es i y b (omega arith) h q in
-      let k : after ≡ overAt (3 * i) (faultWords node (getD (clockFaults (findingsIn t n)) i noFault)) now = g ∙ (ap (λ (j : ℕ). overAt (3 * i) (node ∷ j ∷ y ∷ []) now) e ∙ ap (λ (j : ℕ). overAt (3 * i) (node ∷ faultNumber (getD (clockFaults (findingsIn t n)) i noFault .fault) ∷ j ∷ []) now) f) in
-      entered-more (faultWords node) (clockFaults (findingsIn t n)) lent noFault (getD (clockFaults (findingsIn t n)) i noFault) i (3 * i) (3 * (i + 1)) now after h refl k (omega arith) z
+module _ (node : ℕ) (fs : List NodeFault) (f : NodeFault) (lent : List ℕ) where
+  -- one fault more where there is a place for it
+  fault-in : length fs < length lent / 3 → overAt (3 * length fs) (faultWords node f) (faultsOver node fs lent) ≡ faultsOver node (fs ++ (f ∷ [])) lent
+  unfolding entriesOver
+  fault-in h =
+      let p = join (map (faultWords node) fs) in
+      let l : length (map (faultWords node) fs) ≤ length lent / 3 = omega (arith, length-map fs (faultWords node)) in
+      let m : length (map (faultWords node) (fs ++ (f ∷ []))) ≤ length lent / 3 = omega (arith, length-map (fs ++ (f ∷ [])) (faultWords node), length-append fs (f ∷ [])) in
+      let e : 3 * length fs ≡ 0 + length (join (map (faultWords node) fs)) = omega (arith, faults-long node fs) in
+      ap (λ (x : List (List ℕ)). overAt (3 * length fs) (faultWords node f) (over (join x) lent)) (take-all (length lent / 3) (map (faultWords node) fs) l)
+      ∙ (ap (λ (x : List ℕ). overAt (3 * length fs) (faultWords node f) x) (sym (over-front p lent))
+      ∙ (ap (λ (n : ℕ). overAt n (faultWords node f) (overAt 0 (join (map (faultWords node) fs)) lent)) e
+      ∙ (over-then 0 p (faultWords node f) lent
+      ∙ (over-front (p ++ faultWords node f) lent
+      ∙ (ap (λ (x : List ℕ). over x lent) (sym (join-last (faultWords node) fs f))
+      ∙ ap (λ (x : List (List ℕ)). over (join x) lent) (sym (take-all (length lent / 3) (map (faultWords node) (fs ++ (f ∷ []))) m)))))))
 
-  pub faults-entered : (m i most room : ℕ) (now : List ℕ) → m ≡ length (clockFaults (findingsIn t n)) → room ≡ length lent / 3 → most ≡ min m room → i ≤ most → most ≤ i
-      → Entered (faultWords node) (clockFaults (findingsIn t n)) lent i (3 * i) now → now ≡ faultsOver node (clockFaults (findingsIn t n)) lent
-  faults-entered m i most room now k r e a b z =
-      entered-all (faultWords node) (clockFaults (findingsIn t n)) lent 3 i (3 * i) now (let u : i ≡ most = omega arith in u ∙ (e ∙ (ap (λ (x : ℕ). min x room) k ∙ ap (λ (x : ℕ). min (length (clockFaults (findingsIn t n))) x) r))) z
+  -- and where there is none
+  fault-out : length lent / 3 ≤ length fs → faultsOver node fs lent ≡ faultsOver node (fs ++ (f ∷ [])) lent
+  unfolding entriesOver
+  fault-out h =
+      let l : length lent / 3 ≤ length (map (faultWords node) fs) = omega (arith, length-map fs (faultWords node)) in
+      ap (λ (x : List (List ℕ)). over (join x) lent) (sym (take-append-le (length lent / 3) (map (faultWords node) fs) (faultWords node f ∷ []) l) ∙ ap (take (length lent / 3)) (sym (map-last (faultWords node) fs f)))
+
+  fault-next : (m : ℕ) (now after : List ℕ) → m ≡ length fs → now ≡ faultsOver node fs lent → after ≡ choose (ltb m (length now / 3)) (overAt (3 * m) (faultWords node f) now) now → after ≡ faultsOver node (fs ++ (f ∷ [])) lent
+  fault-next m now after e g h = h ∙ go (ltb m (length now / 3)) refl
+    where
+      same : length now ≡ length lent
+      same = ap length g ∙ entries-length 3 (map (faultWords node) fs) lent
+
+      go : (b : Bool) → ltb m (length now / 3) ≡ b → choose b (overAt (3 * m) (faultWords node f) now) now ≡ faultsOver node (fs ++ (f ∷ [])) lent
+      go true q =
+          let k : length fs < length lent / 3 = omega (arith, ltb-true m (length now / 3) q, same, e) in
+          ap (λ (n : ℕ). overAt (3 * n) (faultWords node f) now) e ∙ (ap (λ (l : List ℕ). overAt (3 * length fs) (faultWords node f) l) g ∙ fault-in k)
+      go false q = g ∙ fault-out (omega (arith, ltb-false m (length now / 3) q, same, e))
+
+-- the faults of the first i rows are written, m in all
+pub record Faults (node : ℕ) (t : List ℕ) (lent : List ℕ) (i m : ℕ) (now : List ℕ) : Type 0 where
+  pub count : m ≡ length (clockFaults (findingsIn t i))
+  pub written : now ≡ faultsOver node (clockFaults (findingsIn t i)) lent
+
+module _ (node : ℕ) (t lent : List ℕ) where
+  pub faults-none : Faults node t lent 0 0 lent
+  unfolding entriesOver
+  faults-none = let e = none-yet t .0 in record { count = rw e; written = rw e (none (length lent / 3)) }
+    where
+      none : (k : ℕ) → lent ≡ over (join (take {A = List ℕ} k [])) lent
+      none zero = refl
+      none (suc k) = refl
+
+  module _ (i m : ℕ) (now : List ℕ) (z : Faults node t lent i m now) where
+    pub faults-length : length now ≡ length lent
+    faults-length = ap length (z .written) ∙ entries-length 3 (map (faultWords node) (clockFaults (findingsIn t i))) lent
+
+    pub faults-all : (n : ℕ) → i ≤ n → n ≤ i → Faults node t lent n m now
+    faults-all n a b = let e : i ≡ n = omega arith in rw (sym e) z
+
+    module _ (x : Bool) (h : clockFaults (findingIn t (38 * i) ∷ []) ≡ choose x (faultIn t (38 * i) ∷ []) []) where
+      pub fault-written : (g : NodeFault) (number : ℕ) (after : List ℕ) → x ≡ true → g ≡ faultIn t (38 * i) → number ≡ faultNumber (g .fault) → after ≡ choose (ltb m (length now / 3)) (overAt (3 * m) (node ∷ number ∷ g .equation ∷ []) now) now → Faults node t lent (i + 1) (m + 1) after
+      fault-written g number after e f k a =
+          let w : after ≡ choose (ltb m (length now / 3)) (overAt (3 * m) (faultWords node g) now) now = a ∙ ap (λ (j : ℕ). choose (ltb m (length now / 3)) (overAt (3 * m) (node ∷ j ∷ g .equation ∷ []) now) now) k in
+          let s : clockFaults (findingsIn t (i + 1)) ≡ clockFaults (findingsIn t i) ++ (g ∷ []) = faults-one t i x h e ∙ ap (λ (y : NodeFault). clockFaults (findingsIn t i) ++ (y ∷ [])) (sym f) in
+          record {
+            count = rw s (count-more (clockFaults (findingsIn t i)) g m (z .count));
+            written = rw s (fault-next node (clockFaults (findingsIn t i)) g lent m now after (z .count) (z .written) w);
+          }
+
+      pub fault-passed : x ≡ false → Faults node t lent (i + 1) m now
+      fault-passed e = let s = faults-no t i x h e in record { count = rw s (z .count); written = rw s (z .written) }
 
 -- ---- a node
 counts-same : (a a′ b b′ c c′ d d′ e e′ : ℕ) → a ≡ a′ → b ≡ b′ → c ≡ c′ → d ≡ d′ → e ≡ e′
@@ -202,21 +257,21 @@ counts-same : (a a′ b b′ c c′ d d′ e e′ : ℕ) → a ≡ a′ → b �
 counts-same a a′ b b′ c c′ d d′ e e′ p q r s t = rw (p, q, r, s, t)
 
 module _ (letters : ℕ → Letters) (ts : List TagValue) (env t : List ℕ) (told : Told) (n : ClockedNode) (z : Told′ (told .names) ts env t (told .number) told n) where
-  pub node-written : (es cs fs es′ cs′ fs′ : List ℕ) (node equations m f : ℕ) → told .findings ≤ 4096 → told .number < 16 → (told .number < 4294967296 → node ≡ told .number) → equations ≡ told .layout .equations .count
+  pub node-written : (es cs fs es′ cs′ fs′ : List ℕ) (node equations m f : ℕ) → told .number < 16 → (told .number < 4294967296 → node ≡ told .number) → equations ≡ told .layout .equations .count
       → ((clocks : Clocks) (l : List Equation) (q : ℕ) (ks : List Clocked) → Agrees env (told .names) clocks → times (told .layout .equations .count) (equation (told .names)) ts (told .layout .equations .at) ≡ got l q → clockedBy clocks l ≡ formed ks → es′ ≡ clocksOver (map (λ (c : Clocked). c .clock) ks) es)
-      → (told .findings ≤ 4096 → m ≡ length (chains letters (findingsIn t (told .findings)))) → (told .findings ≤ 4096 → cs′ ≡ clocksOver (chains letters (findingsIn t (told .findings))) cs)
-      → f ≡ length (clockFaults (findingsIn t (told .findings))) → (told .findings ≤ 4096 → fs′ ≡ faultsOver node (clockFaults (findingsIn t (told .findings))) fs)
+      → m ≡ length (chains letters (findingsIn t (told .findings))) → cs′ ≡ clocksOver (chains letters (findingsIn t (told .findings))) cs
+      → f ≡ length (clockFaults (findingsIn t (told .findings))) → fs′ ≡ faultsOver node (clockFaults (findingsIn t (told .findings))) fs
       → Written (told .number) (nodeClocks letters n) es cs fs es′ cs′ fs′ (record { name = told .layout .name; passes = told .passes; equations = equations; chains = m; faults = f })
   unfolding nodeClocks
-  node-written es cs fs es′ cs′ fs′ node equations m f few small w e E C C′ F F′ =
+  node-written es cs fs es′ cs′ fs′ node equations m f small w e E C C′ F F′ =
       let k = n .clocking in
       let a = node-clocked (n .node) (n .clocking) (z .formed) in
       let all = z .tells .all in
       let x : node ≡ told .number = w (omega arith) in
       record {
         counts =
-            counts-same _ _ _ _ _ _ _ _ _ _ (z .laid .named) (sym (z .tells .made)) (e ∙ (z .laid .equations .many ∙ sym (clocked-many (k .names) (n .node .equations) (k .equations) a))) (C few ∙ ap (λ (l : List Finding). length (chains letters l)) all) (F ∙ ap (λ (l : List Finding). length (clockFaults l)) all);
+            counts-same _ _ _ _ _ _ _ _ _ _ (z .laid .named) (sym (z .tells .made)) (e ∙ (z .laid .equations .many ∙ sym (clocked-many (k .names) (n .node .equations) (k .equations) a))) (C ∙ ap (λ (l : List Finding). length (chains letters l)) all) (F ∙ ap (λ (l : List Finding). length (clockFaults l)) all);
         equations = E (k .names) (n .node .equations) (told .layout .equations .end) (k .equations) (z .tells .named) (z .laid .equations .items) a;
-        chains = C′ few ∙ ap (λ (l : List Finding). clocksOver (chains letters l) cs) all;
-        faults = F′ few ∙ (ap (λ (j : ℕ). faultsOver j (clockFaults (findingsIn t (told .findings))) fs) x ∙ ap (λ (l : List Finding). faultsOver (told .number) (clockFaults l) fs) all);
+        chains = C′ ∙ ap (λ (l : List Finding). clocksOver (chains letters l) cs) all;
+        faults = F′ ∙ (ap (λ (j : ℕ). faultsOver j (clockFaults (findingsIn t (told .findings))) fs) x ∙ ap (λ (l : List Finding). faultsOver (told .number) (clockFaults l) fs) all);
       }

@@ -4,13 +4,13 @@ use mathlib.Core.List.{List, [], _∷_, _++_, append-assoc, append-nil}
 use Prim.Native.Nat.{ℕ, zero, suc, _+_, _-_, _*_, _≤_, _<_, min}
 use native.Mathlib.Omega.{arith}
 use native.Mathlib.Numerals.{add-one}
-use lib.ListN.{length, take, drop, length-append}
+use lib.ListN.{length, take, drop, length-append, take-append-drop}
 use Rattle.definitions.specs.Lists.{join, numbered, over, Letters}
 use Rattle.definitions.specs.Tokens.{TagValue}
 use Rattle.definitions.specs.Tree.{Node}
 use Rattle.definitions.specs.Reading.{got, times}
 use Rattle.definitions.specs.Grammar.{node}
-use Rattle.definitions.specs.Refusals.{accepted}
+use Rattle.definitions.specs.Refusals.{Answer, accepted, refused, faulty, _>>=_}
 use Rattle.definitions.specs.InferClocks.{deep, formed, Clocking, clocking}
 use Rattle.definitions.specs.Output.{ClockedNode}
 use Rattle.definitions.specs.Answer.{clockings, nodeListing}
@@ -19,53 +19,63 @@ use Rattle.layout.specs.declared.NodeLayout.{NodeLayout}
 use Rattle.layout.specs.Laid.{Laid}
 use Rattle.definitions.specs.declared.Refusal.{Refusal}
 use Rattle.query.specs.declared.NodeAnswer.{NodeAnswer}
+use Rattle.query.specs.declared.Measured.{Measured}
 use Rattle.listing.specs.declared.Told.{Told}
 use Rattle.spelling.specs.Writing.{overAt, Put, farthest}
-use Rattle.spelling.proofs.Writing.{put-over, over-past, over-then, over-nothing}
-use Rattle.query.specs.Standing.{Roomy, Clocked as Told′, ClockedAs}
+use Rattle.spelling.proofs.Writing.{put-over, put-measure, over-past, over-then, over-nothing}
+use Rattle.texts.proofs.Pieces.{numbered-last}
+use Rattle.query.specs.Standing.{Roomy, Ample, Clocked as Told′, ClockedAs}
+use Rattle.query.specs.Sizes.{Measures}
 use Rattle.query.specs.Words.{PutText}
-use Rattle.query.proofs.Nodes.{cons-clocked, none-clocked}
+use Rattle.query.proofs.Nodes.{cons-clocked, none-clocked, all-left, node-formed, node-deep}
 
 -- ---- a text in a part of the lent bytes
-over-cut : (l s : List ℕ) (k : ℕ) → k ≡ min (length l) (length s) → over l (take k s) ++ drop k s ≡ over l s
-over-cut [] s k e = let z : k ≡ 0 = omega arith in rw z
-over-cut (a ∷ l) [] k e = let z : k ≡ 0 = omega arith in rw z
+over-cut : (l s : List ℕ) (k : ℕ) → min (length l) (length s) ≤ k → over l (take k s) ++ drop k s ≡ over l s
+over-cut [] s k e = take-append-drop k s
+over-cut (a ∷ l) [] zero e = refl
+over-cut (a ∷ l) [] (suc k) e = refl
 over-cut (a ∷ l) (b ∷ s) zero e = absurd (omega arith)
 over-cut (a ∷ l) (b ∷ s) (suc k) e = ap (λ (r : List ℕ). a ∷ r) (over-cut l s k (omega arith))
 
-over-part : (l s : List ℕ) (a k : ℕ) → a < length s → k ≡ min (length l) (length s - a) → take a s ++ (over l (take k (drop a s)) ++ drop k (drop a s)) ≡ overAt a l s
+over-part : (l s : List ℕ) (a k : ℕ) → a < length s → min (length l) (length s - a) ≤ k → take a s ++ (over l (take k (drop a s)) ++ drop k (drop a s)) ≡ overAt a l s
 unfolding overAt
 over-part l s zero k h e = over-cut l s k (omega arith)
 over-part l [] (suc a) k h e = absurd (omega arith)
 over-part l (b ∷ s) (suc a) k h e = ap (λ (r : List ℕ). b ∷ r) (over-part l s a k (omega arith) (omega arith))
 
-module _ (text : Letters) (lent : List ℕ) (at m : ℕ) (s : m ≡ length text) where
+module _ (text : Letters) (lent : List ℕ) (at m : ℕ) where
   -- no byte is lent there
-  pub put-past : length lent ≤ at → PutText text at lent m lent
-  put-past k = record { long = s; bytes = sym (over-past at text lent k) }
+  pub put-past : m ≡ length text → length lent ≤ at → PutText text at lent m lent
+  put-past s k = record { long = s; bytes = sym (over-past at text lent k) }
 
-  -- as many as are lent there
-  pub put-part : (w : ℕ) {q : ℕ} {part : List ℕ} → at < length lent → w ≡ min m (length lent - at) → Put text 0 (take (at + w - at) (drop at lent)) q part
+  -- as many as are lent there, or as places are counted
+  pub put-part : (w : ℕ) {part : List ℕ} → length text ≤ farthest → at < length lent → w ≡ min (length lent - at) farthest → Put text 0 (take (at + w - at) (drop at lent)) m part
       → PutText text at lent m (take at lent ++ (part ++ drop (at + w - at) (drop at lent)))
-  put-part w {q} {part} l e v =
-      let f : at + w - at ≡ min (length text) (length lent - at) = omega arith in
-      record { long = s; bytes = ap (λ (r : List ℕ). take at lent ++ (r ++ drop (at + w - at) (drop at lent))) (put-over v) ∙ over-part text lent at (at + w - at) l f }
+  put-part w {part} few l e v =
+      let f : min (length text) (length lent - at) ≤ at + w - at = omega arith in
+      record { long = put-measure few v; bytes = ap (λ (r : List ℕ). take at lent ++ (r ++ drop (at + w - at) (drop at lent))) (put-over v) ∙ over-part text lent at (at + w - at) l f }
 
 -- ---- a node clocked
-module _ (M : ℕ) (ts : List TagValue) (env t : List ℕ) (k : ℕ) (n : Node) (c : Clocking) (f : clocking n ≡ formed c) (a : NodeAnswer) (h : ClockedAs M ts env t k n a) where
-  pub clocked-never : (r : Refusal) → a ≡ NodeAnswer.Refused r → ⊥
+module _ (M : ℕ) (ts : List TagValue) (env t : List ℕ) (k : ℕ) (n : Node) (a : NodeAnswer) (h : ClockedAs M ts env t k n a) where
+  pub clocked-turned : (r : Refusal) → a ≡ NodeAnswer.Refused r → (clocking n ≡ deep) × (r ≡ Refusal.Deep k)
   unfolding ClockedAs
-  clocked-never r e =
-      let x : ClockedAs M ts env t k n (NodeAnswer.Refused r) = rw e at h in
-      let y : deep ≡ formed c = sym (x .0) ∙ f in
-      let z : _≡_ {A = ℕ} 0 1 = cc in omega arith
+  clocked-turned r e = let x : ClockedAs M ts env t k n (NodeAnswer.Refused r) = rw e at h in x
 
-  pub clocked-told : (told : Told) → a ≡ NodeAnswer.Node told → Told′ M ts env t k told (record { node = n; clocking = c })
+  pub clocked-as : (told : Told) → a ≡ NodeAnswer.Node told → (c : Clocking) × (clocking n ≡ formed c) × Told′ M ts env t k told (record { node = n; clocking = c })
   unfolding ClockedAs
-  clocked-told told e =
-      let x : ClockedAs M ts env t k n (NodeAnswer.Node told) = rw e at h in
-      let s : x .0 ≡ c = let y : formed (x .0) ≡ formed c = sym (x .1) ∙ f in cc in
-      rw s at (x .2)
+  clocked-as told e = let x : ClockedAs M ts env t k n (NodeAnswer.Node told) = rw e at h in x
+
+  module _ (c : Clocking) (f : clocking n ≡ formed c) where
+    pub clocked-never : (r : Refusal) → a ≡ NodeAnswer.Refused r → ⊥
+    clocked-never r e =
+        let y : deep ≡ formed c = sym (clocked-turned r e .0) ∙ f in
+        let z : _≡_ {A = ℕ} 0 1 = cc in omega arith
+
+    pub clocked-told : (told : Told) → a ≡ NodeAnswer.Node told → Told′ M ts env t k told (record { node = n; clocking = c })
+    clocked-told told e =
+        let x = clocked-as told e in
+        let s : x .0 ≡ c = let y : formed (x .0) ≡ formed c = sym (x .1) ∙ f in cc in
+        rw s at (x .2)
 
 -- by the number that the node was told under
 pub told-own : (M : ℕ) (ts : List TagValue) (env t : List ℕ) (k : ℕ) (told : Told) (n : ClockedNode) → Told′ M ts env t k told n → Told′ (told .names) ts env t (told .number) told n
@@ -134,14 +144,102 @@ module _ (M : ℕ) (ts : List TagValue) (letters : ℕ → Letters) (lent : List
       let w : h .so-far ≡ all = sym (append-nil (h .so-far)) ∙ (ap (λ (x : List ClockedNode). h .so-far ++ join (numbered (nodeListing letters) i x)) (sym n) ∙ h .whole) in
       rw w at (h .put)
 
--- the listings by the names' letters
-pub same-letters : (f g : ℕ → Letters) (l : List ClockedNode) (lent : List ℕ) (at : ℕ) (now : List ℕ) → f ≡ g → PutText (join (numbered (nodeListing f) 0 l)) 0 lent at now → PutText (join (numbered (nodeListing g) 0 l)) 0 lent at now
-same-letters f g l lent at now e h = rw e at h
+-- ---- all nodes measured
+-- how long the listings so far are, and the nodes left; `v` is what is answered of all
+pub record Sizing (M : ℕ) (ts : List TagValue) (letters : ℕ → Letters) (left i place q at : ℕ) (v : Answer (List ClockedNode)) : Type 0 where
+  pub rest : List Node
+  pub so-far : List ClockedNode
+  pub items : times left (node M) ts place ≡ got rest q
+  pub many : i ≡ length so-far
+  pub whole : v ≡ (clockings i rest >>= λ l. accepted (so-far ++ l))
+  pub long : at ≡ length (join (numbered (nodeListing letters) 0 so-far))
 
--- as many findings as the table has room for
-pub few-findings : (m n : ℕ) → n ≡ 155648 → 38 * m ≤ n → m ≤ 4096
-few-findings m n e h = omega arith
+-- one behind those so far
+one-behind : {A : Type 0} (so-far : List A) (a : A) (v : Answer (List A)) → ((v >>= λ l. accepted (a ∷ l)) >>= λ l. accepted (so-far ++ l)) ≡ (v >>= λ l. accepted ((so-far ++ (a ∷ [])) ++ l))
+one-behind so-far a (accepted l) = ap accepted (sym (append-assoc so-far (a ∷ []) l))
+one-behind so-far a (refused r) = refl
+one-behind so-far a (faulty l) = refl
 
--- tables of these sizes are large enough
+module _ (M : ℕ) (ts : List TagValue) (letters : ℕ → Letters) where
+  pub sizing-none : (n at q : ℕ) (ns : List Node) → times n (node M) ts at ≡ got ns q → Sizing M ts letters (n - 0) 0 at q 0 (clockings 0 ns)
+  sizing-none n at q ns g =
+      let k : n - 0 ≡ n = omega arith in
+      record { rest = ns; so-far = []; items = rw k g; many = refl; whole = all-left (clockings 0 ns); long = refl }
+
+  module _ (n i place q at : ℕ) (v : Answer (List ClockedNode)) (l : NodeLayout) (z : i < n) (L : (x : Node) (q : ℕ) → node M ts place ≡ got x q → Laid M ts x q l) (h : Sizing M ts letters (n - i) i place q at v) where
+    -- the node that stands there
+    pub sizing-here : (x : Node) × (s : ℕ) × (xs : List Node) × Laid M ts x s l × (times (n - (i + 1)) (node M) ts (l .end) ≡ got xs q) × (h .rest ≡ x ∷ xs)
+    sizing-here =
+        let c = times-cons (node M) ts (n - i) place (h .rest) q (λ y. omega (arith, y)) (h .items) in
+        let d = L (c .0) (c .1) (c .3) in
+        let w : n - (i + 1) ≡ n - i - 1 = omega arith in
+        (c .0, c .1, c .2, d, rw (d .ends, w) (c .4), c .5)
+
+    module _ (k : ℕ) (e : k ≡ i) (env t : List ℕ) (a : NodeAnswer) (C : (x : Node) (s : ℕ) → Laid M ts x s l → ClockedAs M ts env t k x a) where
+      here-clocked : ClockedAs M ts env t k (sizing-here .0) a
+      here-clocked = C (sizing-here .0) (sizing-here .1) (sizing-here .3)
+
+      pub sizing-deep : (r : Refusal) → a ≡ NodeAnswer.Refused r → v ≡ refused (Refusal.Deep k)
+      sizing-deep r u =
+          let d = clocked-turned M ts env t k (sizing-here .0) a here-clocked r u in
+          let w : clockings i (h .rest) ≡ refused (Refusal.Deep i) = ap (clockings i) (sizing-here .5) ∙ node-deep i (sizing-here .0) (sizing-here .2) (d .0) in
+          h .whole ∙ (ap (λ (y : Answer (List ClockedNode)). y >>= λ l. accepted (h .so-far ++ l)) w ∙ ap (λ (j : ℕ). refused (Refusal.Deep j)) (sym e))
+
+      pub sizing-more : (told : Told) (size next : ℕ) → a ≡ NodeAnswer.Node told → ((y : ClockedNode) → Told′ (told .names) ts env t (told .number) told y → size ≡ length (nodeListing letters (told .number) y)) → next ≡ at + size
+          → Sizing M ts letters (n - (i + 1)) (i + 1) (l .end) q next v
+      sizing-more told size next u S j =
+          let d = clocked-as M ts env t k (sizing-here .0) a here-clocked told u in
+          let y : ClockedNode = record { node = sizing-here .0; clocking = d .0 } in
+          let w : clockings i (h .rest) ≡ (clockings (suc i) (sizing-here .2) >>= λ l. accepted (y ∷ l)) = ap (clockings i) (sizing-here .5) ∙ node-formed i (sizing-here .0) (sizing-here .2) (d .0) (d .1) in
+          let b : v ≡ (clockings (suc i) (sizing-here .2) >>= λ l. accepted ((h .so-far ++ (y ∷ [])) ++ l)) =
+          h .whole ∙ (ap (λ (x : Answer (List ClockedNode)). x >>= λ l. accepted (h .so-far ++ l)) w ∙ one-behind (h .so-far) y (clockings (suc i) (sizing-here .2))) in
+          let g : size ≡ length (nodeListing letters (told .number) y) = S y (told-own M ts env t k told y (d .2)) in
+          record {
+            rest = sizing-here .2;
+            so-far = h .so-far ++ (y ∷ []);
+            items = sizing-here .4;
+            many = simp length-append (omega (arith, h .many));
+            whole = rw (add-one i) b;
+            long = longer (h .so-far) y (told .number) size next at (d .2 .number ∙ (e ∙ h .many)) g j (h .long);
+          }
+        where
+          longer : (s : List ClockedNode) (y : ClockedNode) (k size next at : ℕ) → k ≡ length s → size ≡ length (nodeListing letters k y) → next ≡ at + size → at ≡ length (join (numbered (nodeListing letters) 0 s)) → next ≡ length (join (numbered (nodeListing letters) 0 (s ++ (y ∷ []))))
+          longer s y k size next at e g j u =
+              let o : k ≡ 0 + length s = omega arith in
+              let w : size ≡ length (nodeListing letters (0 + length s) y) = g ∙ ap (λ (x : ℕ). length (nodeListing letters x y)) o in
+              omega (arith, ap length (numbered-last (nodeListing letters) 0 s y), length-append (join (numbered (nodeListing letters) 0 s)) (nodeListing letters (0 + length s) y))
+
+  pub sizing-all : (ns : List Node) (left i place q at : ℕ) → left ≡ 0 → Sizing M ts letters left i place q at (clockings 0 ns) → Measures letters ns q (Measured.Size at place)
+  unfolding Measures clockings
+  sizing-all ns left i place q at z h =
+      let e = times-nil (node M) ts left place (h .rest) q z (h .items) in
+      let w : clockings 0 ns ≡ accepted (h .so-far) = h .whole ∙ (ap (λ (l : List Node). clockings i l >>= λ r. accepted (h .so-far ++ r)) (e .0) ∙ ap accepted (append-nil (h .so-far))) in
+      (h .so-far, w, h .long, sym (e .1))
+
+-- refusal 9
+pub measures-deep : (letters : ℕ → Letters) (ns : List Node) (q k : ℕ) → clockings 0 ns ≡ refused (Refusal.Deep k) → Measures letters ns q (Measured.Deep k)
+unfolding Measures
+measures-deep letters ns q k h = h
+
+-- ---- working tables
+module _ (table rows chain : List ℕ) (r : Ample table rows chain) where
+  -- a place for each chain of m findings in a table as long as this one
+  pub ample-room : (m t : ℕ) → t ≡ length table → 38 * m ≤ t → (17 * m ≤ length rows) × (m ≤ length chain) × (m ≤ 4096)
+  ample-room m t e h = (omega (arith, r .few, r .chained, r .ordered), omega (arith, r .few, r .chained, r .ordered), omega (arith, r .few, r .chained, r .ordered))
+
+  -- tables as long as these
+  pub ample-kept : (table′ rows′ chain′ : List ℕ) → length table′ ≡ length table → length rows′ ≡ length rows → length chain′ ≡ length chain → Ample table′ rows′ chain′
+  ample-kept table′ rows′ chain′ a b c = record { few = omega (arith, r .few); chained = omega (arith, r .chained); ordered = omega (arith, r .ordered) }
+
+pub roomy-kept : (M many : ℕ) (env table env′ table′ : List ℕ) → Roomy M many env table → length env′ ≡ length env → length table′ ≡ length table → Roomy M many env′ table′
+roomy-kept M many env table env′ table′ r a b = record { few = r .few; clocks = omega (arith, r .clocks); found = omega (arith, r .found) }
+
+-- tables for so many names and k tokens are large enough
+pub roomy-of : (names k M many : ℕ) (env table : List ℕ) → names ≤ 1024 → M ≤ names → many ≤ k → length env ≡ 17 * names → length table ≡ 38 * k → Roomy M many env table
+roomy-of names k M many env table a b c d e = record { few = omega arith; clocks = omega arith; found = omega arith }
+
+pub ample-of : (k : ℕ) (table rows chain : List ℕ) → k ≤ 4096 → length table ≡ 38 * k → length rows ≡ 17 * k → length chain ≡ k → Ample table rows chain
+ample-of k table rows chain a b c d = record { few = omega arith; chained = omega arith; ordered = omega arith }
+
 pub roomy : (M many : ℕ) (env table : List ℕ) → M ≤ 1024 → many ≤ 4096 → length env ≡ 17408 → length table ≡ 155648 → Roomy M many env table
-roomy M many env table a b c d = record { few = a; clocks = omega arith; found = omega arith }
+roomy M many env table a b c d = roomy-of 1024 4096 M many env table (omega arith) a b c d

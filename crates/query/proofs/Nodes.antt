@@ -1,17 +1,17 @@
 -- A node found, laid out and clocked. Assumes nothing.
 use mathlib.Core.Path.{_≡_, refl, sym, _∙_, ap}
-use mathlib.Core.List.{List, [], _∷_}
+use mathlib.Core.List.{List, [], _∷_, _++_}
 use mathlib.Core.Option.{some}
-use Prim.Native.Nat.{ℕ, zero, suc, _≤_, _<_}
+use Prim.Native.Nat.{ℕ, zero, suc, _+_, _≤_, _<_, min}
 use native.Mathlib.Omega.{arith}
-use lib.ListN.{length, getD, getElem?}
+use lib.ListN.{length, getD, getElem?, take}
+use lib.Seq.{length-take-le}
 use Rattle.definitions.specs.declared.Refusal.{Refusal}
 use Rattle.definitions.specs.Tokens.{TagValue}
 use Rattle.definitions.specs.Tree.{Node}
 use Rattle.definitions.specs.Reading.{got, times}
 use Rattle.definitions.specs.Grammar.{node}
 use Rattle.definitions.specs.Refusals.{Answer, accepted, refused, faulty, _>>=_}
-use Rattle.definitions.specs.InferClocks as rules
 use Rattle.definitions.specs.InferClocks.{Formed, deep, formed, Clocking, clocking}
 use Rattle.definitions.specs.Output.{ClockedNode}
 use Rattle.definitions.specs.Answer.{Input, clockings, itemAt, nodeAt}
@@ -71,6 +71,47 @@ cons-clocked i n ns l h = go (clocking n) (clockings (suc i) ns) refl refl h
     go (formed k) (refused r) a b e = let z : _≡_ {A = ℕ} 0 1 = cc in absurd (omega arith)
     go (formed k) (faulty r) a b e = let z : _≡_ {A = ℕ} 0 1 = cc in absurd (omega arith)
 
+-- nothing before
+pub all-left : {A : Type 0} (v : Answer (List A)) → v ≡ (v >>= λ l. accepted ([] ++ l))
+all-left (accepted l) = refl
+all-left (refused r) = refl
+all-left (faulty l) = refl
+
+module _ (i : ℕ) (n : Node) (ns : List Node) where
+  pub node-formed : (c : Clocking) → clocking n ≡ formed c → clockings i (n ∷ ns) ≡ (clockings (suc i) ns >>= λ l. accepted (record { node = n; clocking = c } ∷ l))
+  unfolding clockings
+  node-formed c e = rw (e, clockings)
+
+  pub node-deep : clocking n ≡ deep → clockings i (n ∷ ns) ≡ refused (Refusal.Deep i)
+  unfolding clockings
+  node-deep e = rw (e, clockings)
+
+-- some nodes, then others
+pub clockings-append : (i : ℕ) (ns ms : List Node) → clockings i (ns ++ ms) ≡ (clockings i ns >>= λ l. clockings (i + length ns) ms >>= λ m. accepted (l ++ m))
+unfolding clockings
+clockings-append i [] ms = let e : i + 0 ≡ i = omega arith in rw e (all-left (clockings i ms))
+clockings-append i (n ∷ ns) ms = go (clocking n) refl (clockings-append (suc i) ns ms)
+  where
+    rest : ℕ → Answer (List ClockedNode) → Answer (List ClockedNode)
+    rest j v = v >>= λ l. clockings j ms >>= λ m. accepted (l ++ m)
+
+    swap : (a : ClockedNode) (v w : Answer (List ClockedNode)) → ((v >>= λ l. w >>= λ m. accepted (l ++ m)) >>= λ l. accepted (a ∷ l)) ≡ ((v >>= λ l. accepted (a ∷ l)) >>= λ l. w >>= λ m. accepted (l ++ m))
+    swap a (accepted l) (accepted m) = refl
+    swap a (accepted l) (refused r) = refl
+    swap a (accepted l) (faulty f) = refl
+    swap a (refused r) w = refl
+    swap a (faulty f) w = refl
+
+    go : (v : Formed Clocking) → clocking n ≡ v → clockings (suc i) (ns ++ ms) ≡ rest (suc i + length ns) (clockings (suc i) ns) → clockings i (n ∷ (ns ++ ms)) ≡ rest (i + suc (length ns)) (clockings i (n ∷ ns))
+    go deep e h = node-deep i n (ns ++ ms) e ∙ sym (ap (rest (i + suc (length ns))) (node-deep i n ns e))
+    go (formed c) e h =
+        let j : suc i + length ns ≡ i + suc (length ns) = omega arith in
+        let y : ClockedNode = record { node = n; clocking = c } in
+        node-formed i n (ns ++ ms) c e
+        ∙ (ap (λ (v : Answer (List ClockedNode)). v >>= λ l. accepted (y ∷ l)) h
+        ∙ (swap y (clockings (suc i) ns) (clockings (suc i + length ns) ms)
+        ∙ (ap (λ (k : ℕ). rest k (clockings (suc i) ns >>= λ l. accepted (y ∷ l))) j ∙ ap (rest (i + suc (length ns))) (sym (node-formed i n ns c e)))))
+
 item-clocked : (i : ℕ) (ns : List Node) (l : List ClockedNode) (k : ℕ) (n : Node) → clockings i ns ≡ accepted l → itemAt ns k ≡ accepted n
     → (c : Clocking) × (clocking n ≡ formed c) × (itemAt l k ≡ accepted (record { node = n; clocking = c }))
 item-clocked i [] l k n h e = let z : _≡_ {A = ℕ} 0 1 = cc in absurd (omega arith)
@@ -121,6 +162,14 @@ module _ (M : ℕ) (ts : List TagValue) (env t : List ℕ) (r : Input) (k : ℕ)
             where
               same : (n : Node) (c d : Clocking) → formed c ≡ formed d → _≡_ {A = Answer ClockedNode} (accepted (record { node = n; clocking = d })) (accepted (record { node = n; clocking = c }))
               same n c d s = let e : c ≡ d = cc in ap (λ (x : Clocking). accepted (record { node = n; clocking = x })) (sym e)
+
+-- ---- the part of a working table that names take
+module _ (n w : ℕ) (l : List ℕ) (e : n ≡ min w 1024) (f : length l ≡ 1024) where
+  pub part-long : n ≡ length (take n l)
+  part-long = sym (length-take-le n l (omega arith))
+
+  pub part-enough : (M : ℕ) → w ≡ M → M ≤ 1024 → M ≤ length (take n l)
+  part-enough M g h = omega (arith, part-long)
 
 -- ---- a node clocked
 module _ (M : ℕ) (ts : List TagValue) (env t : List ℕ) (k : ℕ) (n : Node) (r : NodeClocked) (h : Clocks′ env t M r (clocking n)) where

@@ -34,6 +34,12 @@ pub record Roomy (M many : ℕ) (env table : List ℕ) : Type 0 where
   pub clocks : 17 * M ≤ length env
   pub found : 38 * many ≤ length table
 
+-- the tables for chains have room for as many as the table of findings has rows, which are at most as many as a sheet has tokens
+pub record Ample (table rows chain : List ℕ) : Type 0 where
+  pub few : length table ≤ 155648
+  pub chained : 17 * length table ≤ 38 * length rows
+  pub ordered : length table ≤ 38 * length chain
+
 -- where node k stands, or 8
 unfoldable pub Located : ℕ → List TagValue → List Node → ℕ → NodePlace → Type 0
 Located M ts ns k NodePlace.Missing = itemAt ns k ≡ refused Refusal.Missing

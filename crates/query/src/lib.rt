@@ -9,16 +9,17 @@ use layout::Span;
 use listing::Told;
 ghost use mathlib.Core.Path.{_≡_};
 ghost use mathlib.Core.List.{List, [], _∷_, map};
-ghost use Prim.Native.Nat.{ℕ, _+_, _*_, _≤_, _<_, min};
+ghost use Prim.Native.Nat.{ℕ, _+_, _*_, _/_, _≤_, _<_, min};
 ghost use lib.ListN.{length, getD};
+ghost use lib.Dec.{ltb};
 ghost use Rattle.definitions.specs.Bytes.{tokens};
-ghost use Rattle.definitions.specs.Lists.{join, numbered};
+ghost use Rattle.definitions.specs.Lists.{choose, join, numbered};
 ghost use Rattle.definitions.specs.Tree.{Equation, Node, Sheet};
 ghost use Rattle.definitions.specs.Reading.{got, times};
-ghost use Rattle.definitions.specs.Grammar.{equation, sheet};
+ghost use Rattle.definitions.specs.Grammar.{equation, node, sheet};
 ghost use Rattle.definitions.specs.InferClocks.{Clocks, Clocked, Clocking, formed, clockedBy, clocking, chains, clockFaults};
 ghost use Rattle.definitions.specs.Refusals.{accepted};
-ghost use Rattle.definitions.specs.Output.{lettersOf, ClockedNode};
+ghost use Rattle.definitions.specs.Output.{ClockedNode};
 ghost use Rattle.definitions.specs.Answer.{Input, clockings, nodeAt, nodeClocks, nodeListing};
 ghost use Rattle.clock.specs.Value.{valueOf};
 ghost use Rattle.environment.specs.Environment.{Agrees};
@@ -28,7 +29,8 @@ ghost use Rattle.order.specs.Order.{rowOf, picked};
 ghost use Rattle.spelling.specs.Writing.{overAt, farthest};
 ghost use Rattle.layout.specs.Laid.{Laid};
 ghost use Rattle.infer_clocks.specs.Clocked.{Deeply};
-ghost use Rattle.query.specs.Standing.{Standing, Roomy, Located, Clocked as Told′, ClockedAs, NodeTold};
+ghost use Rattle.query.specs.Standing.{Roomy, Ample, Located, Clocked as Told′, ClockedAs, NodeTold};
+ghost use Rattle.query.specs.Sizes.{Sized, sizeOf, Measures};
 ghost use Rattle.query.specs.Words.{clockWords, clocksOver, faultsOver, Written, PutText};
 
 // Where a node stands.
@@ -50,6 +52,18 @@ pub struct NodeCounts {
     pub equations: usize,
     pub chains: usize,
     pub faults: usize,
+}
+
+// How many chains a node has, and how long its listing is.
+pub struct NodeSize {
+    pub chains: usize,
+    pub listing: usize,
+}
+
+// Listings measured: how long they are, and where the next node stands; or the first node in which too deep a clock is formed.
+pub enum Measured {
+    Deep(usize),
+    Size(usize, usize),
 }
 
 fn wide(x: u32) -> usize
@@ -114,8 +128,8 @@ pub fn deep_node(tags: &[u8], values: &[u32], names: u32) -> Deepest
     first_deep(tags, values, names, &mut env, &mut table)
 }
 
-// Node k, which has this layout, clocked; or refusal 9 at it.
-fn clock_laid(
+// Node k, which has this layout, clocked; or refusal 9 at it. Marks and ports, which are cleared for each node, are lent as far as names go.
+pub fn clock_laid(
     tags: &[u8],
     values: &[u32],
     names: u32,
@@ -127,6 +141,7 @@ fn clock_laid(
     requires { ⌜ length (now values) ≡ length (now tags) ⌝ }
     ensures { λ r. ⌜ ((n : Node) (q : ℕ) → Laid names (tokens (now (tags .entry)) (now (values .entry))) n q layout → Roomy names (length (now (tags .entry))) (now (env .entry)) (now (table .entry)) → ClockedAs names (tokens (now (tags .entry)) (now (values .entry))) (now (env .exit)) (now (table .exit)) k n r) ⌝ }
 {
+    let n = least(wide(names), 1024);
     let mut marks = [0u8; 1024];
     let mut ports = [0u32; 1024];
     let clocked = infer_clocks::clock_laid(
@@ -135,8 +150,8 @@ fn clock_laid(
         names,
         layout,
         env,
-        &mut marks,
-        &mut ports,
+        &mut marks[..n],
+        &mut ports[..n],
         table,
     );
     match clocked {
@@ -257,29 +272,32 @@ fn write_rows(rows: &[u32], chain: &[u32], m: usize, list: &mut [u32])
     }
 }
 
-// The chains of a node by its n findings: how many there are.
+// The chains of a node by its n findings, put in their rows and then written: how many there are.
 pub fn write_chains(
     starts: &[u32],
     letters: &[u8],
     table: &[u32],
     n: usize,
+    rows: &mut [u32],
+    chain: &mut [u32],
     list: &mut [u32],
 ) -> usize
-    ensures { λ r. ⌜ (n ≤ 4096 → r ≡ length (chains (lettersAt (now (starts .entry)) (now (letters .entry))) (findingsIn (now (table .entry)) n))) ⌝ }
-    ensures { λ r. ⌜ (n ≤ 4096 → now (list .exit) ≡ clocksOver (chains (lettersAt (now (starts .entry)) (now (letters .entry))) (findingsIn (now (table .entry)) n)) (now (list .entry))) ⌝ }
+    ensures { λ r. ⌜ (17 * n ≤ length (now (rows .entry)) → n ≤ length (now (chain .entry)) → n < 4294967296 → r ≡ length (chains (lettersAt (now (starts .entry)) (now (letters .entry))) (findingsIn (now (table .entry)) n))) ⌝ }
+    ensures { λ r. ⌜ (17 * n ≤ length (now (rows .entry)) → n ≤ length (now (chain .entry)) → n < 4294967296 → now (list .exit) ≡ clocksOver (chains (lettersAt (now (starts .entry)) (now (letters .entry))) (findingsIn (now (table .entry)) n)) (now (list .entry))) ⌝ }
 {
-    let mut rows = [0u32; 69632];
-    let mut chain = [0u32; 4096];
-    let m = infer_clocks::chain_rows(starts, letters, table, n, &mut rows, &mut chain);
-    write_rows(&rows, &chain, m, list);
+    let m = infer_clocks::chain_rows(starts, letters, table, n, rows, chain);
+    write_rows(rows, chain, m, list);
     m
 }
 
-// A fault in the three words from b on.
-fn put_fault(list: &mut [u32], b: usize, node: u32, number: u32, equation: u32)
-    requires { ⌜ b + 3 ≤ length (now list) ⌝ }
-    ensures { λ r. ⌜ now (list .exit) ≡ overAt b (node ∷ number ∷ equation ∷ []) (now (list .entry)) ⌝ }
+// Fault m of a node in three words, if the list has a place for it.
+fn put_fault(list: &mut [u32], m: usize, node: u32, number: u32, equation: u32)
+    ensures { λ r. ⌜ now (list .exit) ≡ choose (ltb m (length (now (list .entry)) / 3)) (overAt (3 * m) (node ∷ number ∷ equation ∷ []) (now (list .entry))) (now (list .entry)) ⌝ }
 {
+    if list.len() / 3 <= m {
+        return;
+    }
+    let b = 3 * m;
     list[b] = node;
     list[b + 1] = number;
     list[b + 2] = equation;
@@ -288,18 +306,21 @@ fn put_fault(list: &mut [u32], b: usize, node: u32, number: u32, equation: u32)
 // The clock faults of a node by its n findings: how many there are.
 pub fn write_faults(table: &[u32], n: usize, node: u32, list: &mut [u32]) -> usize
     ensures { λ r. ⌜ r ≡ length (clockFaults (findingsIn (now (table .entry)) n)) ⌝ }
-    ensures { λ r. ⌜ (n ≤ 4096 → now (list .exit) ≡ faultsOver node (clockFaults (findingsIn (now (table .entry)) n)) (now (list .entry))) ⌝ }
+    ensures { λ r. ⌜ now (list .exit) ≡ faultsOver node (clockFaults (findingsIn (now (table .entry)) n)) (now (list .entry)) ⌝ }
 {
-    let mut numbers = [0u32; 4096];
-    let mut equations = [0u32; 4096];
-    let m = findings::write_faults(table, n, &mut numbers, &mut equations);
-    let room = list.len() / 3;
-    let most = least(m, room);
     let mut i: usize = 0;
-    while i < most {
-        let number = flat::word_at(&numbers, i);
-        let equation = flat::word_at(&equations, i);
-        put_fault(list, 3 * i, node, number, equation);
+    let mut m: usize = 0;
+    while i < n {
+        let faulty = findings::is_fault(table, i);
+        if faulty {
+            let f = findings::found_in(table, i);
+            let fault = f.fault;
+            let number = fault::fault_number(fault);
+            put_fault(list, m, node, number, f.equation);
+            m += 1;
+            i += 1;
+            continue;
+        }
         i += 1;
     }
     m
@@ -324,19 +345,21 @@ pub fn write_clocks(
     env: &[u32],
     table: &[u32],
     told: Told,
+    rows: &mut [u32],
+    chain: &mut [u32],
     equations: &mut [u32],
     chains: &mut [u32],
     faults: &mut [u32],
 ) -> NodeCounts
     requires { ⌜ length (now values) ≡ length (now tags) ⌝ }
-    ensures { λ r. ⌜ ((n : ClockedNode) → Told′ (told .names) (tokens (now (tags .entry)) (now (values .entry))) (now (env .entry)) (now (table .entry)) (told .number) told n → told .findings ≤ 4096 → told .number < 16 → Written (told .number) (nodeClocks (lettersAt (now (starts .entry)) (now (letters .entry))) n) (now (equations .entry)) (now (chains .entry)) (now (faults .entry)) (now (equations .exit)) (now (chains .exit)) (now (faults .exit)) r) ⌝ }
+    ensures { λ r. ⌜ ((n : ClockedNode) → Told′ (told .names) (tokens (now (tags .entry)) (now (values .entry))) (now (env .entry)) (now (table .entry)) (told .number) told n → Ample (now (table .entry)) (now (rows .entry)) (now (chain .entry)) → told .number < 16 → Written (told .number) (nodeClocks (lettersAt (now (starts .entry)) (now (letters .entry))) n) (now (equations .entry)) (now (chains .entry)) (now (faults .entry)) (now (equations .exit)) (now (chains .exit)) (now (faults .exit)) r) ⌝ }
 {
     let l = told.layout;
     let e = l.equations;
     let n = told.findings;
     let node = narrow(told.number);
     write_equations(tags, values, told.names, env, e, equations);
-    let m = write_chains(starts, letters, table, n, chains);
+    let m = write_chains(starts, letters, table, n, rows, chain, chains);
     let f = write_faults(table, n, node, faults);
     NodeCounts {
         name: l.name,
@@ -347,10 +370,8 @@ pub fn write_clocks(
     }
 }
 
-// The listing of a node put at a place of the lent bytes, as far as they reach: how long it is.
-fn put_at(
-    out: &mut [u8],
-    at: usize,
+// The chains of a clocked node put in their rows, and its listing measured.
+pub fn measure_told(
     starts: &[u32],
     letters: &[u8],
     tags: &[u8],
@@ -360,17 +381,62 @@ fn put_at(
     told: Told,
     rows: &mut [u32],
     chain: &mut [u32],
+) -> NodeSize
+    requires { ⌜ length (now values) ≡ length (now tags) ⌝ }
+    ensures { λ r. ⌜ r .listing ≤ farthest ⌝ }
+    ensures { λ r. ⌜ ((n : ClockedNode) → Told′ (told .names) (tokens (now (tags .entry)) (now (values .entry))) (now (env .entry)) (now (table .entry)) (told .number) told n → Ample (now (table .entry)) (now (rows .entry)) (now (chain .entry)) → length (now (letters .entry)) ≤ 16384 → length (now (tags .entry)) ≤ 4096 → Sized (lettersAt (now (starts .entry)) (now (letters .entry))) (now (table .entry)) (now (rows .exit)) (now (chain .exit)) told n r) ⌝ }
+{
+    let chains = infer_clocks::chain_rows(starts, letters, table, told.findings, rows, chain);
+    let listing = listing::measure_node(
+        starts,
+        letters,
+        tags,
+        values,
+        env,
+        table,
+        told,
+        rows,
+        chain,
+        chains,
+    );
+    NodeSize { chains, listing }
+}
+
+// The listing of a clocked node, whose m chains stand in their rows, at a place of the lent bytes, as far as they reach: how long it is.
+pub fn put_told(
+    out: &mut [u8],
+    at: usize,
+    starts: &[u32],
+    letters: &[u8],
+    tags: &[u8],
+    values: &[u32],
+    env: &[u32],
+    table: &[u32],
+    told: Told,
+    rows: &[u32],
+    chain: &[u32],
+    m: usize,
 ) -> usize
     requires { ⌜ length (now values) ≡ length (now tags) ⌝ }
     ensures { λ r. ⌜ r ≤ farthest ⌝ }
-    ensures { λ r. ⌜ ((n : ClockedNode) → Told′ (told .names) (tokens (now (tags .entry)) (now (values .entry))) (now (env .entry)) (now (table .entry)) (told .number) told n → 17 * told .findings ≤ length (now (rows .entry)) → told .findings ≤ length (now (chain .entry)) → length (now (letters .entry)) ≤ 16384 → length (now (tags .entry)) ≤ 4096 → told .findings ≤ 4096 → PutText (nodeListing (lettersAt (now (starts .entry)) (now (letters .entry))) (told .number) n) at (now (out .entry)) r (now (out .exit))) ⌝ }
+    ensures { λ r. ⌜ ((n : ClockedNode) → Told′ (told .names) (tokens (now (tags .entry)) (now (values .entry))) (now (env .entry)) (now (table .entry)) (told .number) told n → picked (rowOf (now (rows .entry))) (now (chain .entry)) 0 m ≡ chains (lettersAt (now (starts .entry)) (now (letters .entry))) (findingsIn (now (table .entry)) (told .findings)) → length (now (letters .entry)) ≤ 16384 → length (now (tags .entry)) ≤ 4096 → told .findings ≤ 4096 → PutText (nodeListing (lettersAt (now (starts .entry)) (now (letters .entry))) (told .number) n) at (now (out .entry)) r (now (out .exit))) ⌝ }
 {
-    let m = listing::measure_node(starts, letters, tags, values, env, table, told, rows, chain);
     if out.len() <= at {
-        return m;
+        return listing::measure_node(
+            starts,
+            letters,
+            tags,
+            values,
+            env,
+            table,
+            told,
+            rows,
+            chain,
+            m,
+        );
     }
     let left = out.len() - at;
-    let to = at + least(m, left);
+    let to = at + least(left, 4294967296);
     let part = &mut out[at..to];
     listing::put_node(
         part,
@@ -384,40 +450,7 @@ fn put_at(
         told,
         rows,
         chain,
-    );
-    m
-}
-
-// The same, with working tables of its own.
-fn put_told(
-    out: &mut [u8],
-    at: usize,
-    starts: &[u32],
-    letters: &[u8],
-    tags: &[u8],
-    values: &[u32],
-    env: &[u32],
-    table: &[u32],
-    told: Told,
-) -> usize
-    requires { ⌜ length (now values) ≡ length (now tags) ⌝ }
-    ensures { λ r. ⌜ r ≤ farthest ⌝ }
-    ensures { λ r. ⌜ ((n : ClockedNode) → Told′ (told .names) (tokens (now (tags .entry)) (now (values .entry))) (now (env .entry)) (now (table .entry)) (told .number) told n → length (now (letters .entry)) ≤ 16384 → length (now (tags .entry)) ≤ 4096 → told .findings ≤ 4096 → PutText (nodeListing (lettersAt (now (starts .entry)) (now (letters .entry))) (told .number) n) at (now (out .entry)) r (now (out .exit))) ⌝ }
-{
-    let mut rows = [0u32; 69632];
-    let mut chain = [0u32; 4096];
-    put_at(
-        out,
-        at,
-        starts,
-        letters,
-        tags,
-        values,
-        env,
-        table,
-        told,
-        &mut rows,
-        &mut chain,
+        m,
     )
 }
 
@@ -432,21 +465,37 @@ fn put_laid(
     names: u32,
     layout: NodeLayout,
     k: usize,
+    env: &mut [u32],
+    table: &mut [u32],
+    rows: &mut [u32],
+    chain: &mut [u32],
 ) -> usize
     requires { ⌜ length (now values) ≡ length (now tags) ⌝ }
     ensures { λ r. ⌜ r ≤ farthest ⌝ }
-    ensures { λ r. ⌜ ((n : Node) (q : ℕ) (c : Clocking) → Laid names (tokens (now (tags .entry)) (now (values .entry))) n q layout → clocking n ≡ formed c → names ≤ 1024 → length (now (letters .entry)) ≤ 16384 → length (now (tags .entry)) ≤ 4096 → PutText (nodeListing (lettersAt (now (starts .entry)) (now (letters .entry))) k (record { node = n; clocking = c })) at (now (out .entry)) r (now (out .exit))) ⌝ }
+    ensures { λ r. ⌜ ((n : Node) (q : ℕ) (c : Clocking) → Laid names (tokens (now (tags .entry)) (now (values .entry))) n q layout → clocking n ≡ formed c → Roomy names (length (now (tags .entry))) (now (env .entry)) (now (table .entry)) → Ample (now (table .entry)) (now (rows .entry)) (now (chain .entry)) → length (now (letters .entry)) ≤ 16384 → length (now (tags .entry)) ≤ 4096 → PutText (nodeListing (lettersAt (now (starts .entry)) (now (letters .entry))) k (record { node = n; clocking = c })) at (now (out .entry)) r (now (out .exit))) ⌝ }
 {
-    let mut env = [0u32; 17408];
-    let mut table = [0u32; 155648];
-    let answer = clock_laid(tags, values, names, layout, k, &mut env, &mut table);
+    let answer = clock_laid(tags, values, names, layout, k, env, table);
     let NodeAnswer::Node(told) = answer else {
         return 0;
     };
-    put_told(out, at, starts, letters, tags, values, &env, &table, told)
+    let m = infer_clocks::chain_rows(starts, letters, table, told.findings, rows, chain);
+    put_told(
+        out,
+        at,
+        starts,
+        letters,
+        tags,
+        values,
+        env,
+        table,
+        told,
+        rows,
+        chain,
+        m,
+    )
 }
 
-// The listings of all nodes one behind another over the front of the lent bytes, as far as they reach: how long they are.
+// The listings of n nodes, of which the first stands at `from`, over the front of the lent bytes, as far as they reach: how long they are.
 pub fn put_listings(
     out: &mut [u8],
     starts: &[u32],
@@ -454,23 +503,76 @@ pub fn put_listings(
     tags: &[u8],
     values: &[u32],
     names: u32,
+    n: u32,
+    from: usize,
+    env: &mut [u32],
+    table: &mut [u32],
+    rows: &mut [u32],
+    chain: &mut [u32],
 ) -> usize
     requires { ⌜ length (now values) ≡ length (now tags) ⌝ }
-    ensures { λ r. ⌜ ((i : Input) (ns : List ClockedNode) → Standing (now (starts .entry)) (now (letters .entry)) (now (tags .entry)) (now (values .entry)) names i → clockings 0 (i .sheet .nodes) ≡ accepted ns → PutText (join (numbered (nodeListing (lettersOf (i .names))) 0 ns)) 0 (now (out .entry)) r (now (out .exit))) ⌝ }
+    ensures { λ r. ⌜ ((ns : List Node) (q : ℕ) (l : List ClockedNode) → times n (node names) (tokens (now (tags .entry)) (now (values .entry))) from ≡ got ns q → clockings 0 ns ≡ accepted l → Roomy names (length (now (tags .entry))) (now (env .entry)) (now (table .entry)) → Ample (now (table .entry)) (now (rows .entry)) (now (chain .entry)) → length (now (letters .entry)) ≤ 16384 → length (now (tags .entry)) ≤ 4096 → PutText (join (numbered (nodeListing (lettersAt (now (starts .entry)) (now (letters .entry)))) 0 l)) 0 (now (out .entry)) r (now (out .exit))) ⌝ }
 {
-    let whole = layout::sheet_at(tags, values, names);
-    let nodes = whole.nodes;
-    let n = nodes.count;
-    let mut place = nodes.at;
+    let mut place = from;
     let mut at: usize = 0;
     let mut i: u32 = 0;
     while i < n {
         let one = layout::node_at(tags, values, names, place);
         let k = wide(i);
-        let size = put_laid(out, at, starts, letters, tags, values, names, one, k);
+        let size = put_laid(
+            out,
+            at,
+            starts,
+            letters,
+            tags,
+            values,
+            names,
+            one,
+            k,
+            env,
+            table,
+            rows,
+            chain,
+        );
         at += size;
         place = one.end;
         i += 1;
     }
     at
+}
+
+// The listings of n nodes, of which the first stands at `from`, measured.
+pub fn measure_listings(
+    starts: &[u32],
+    letters: &[u8],
+    tags: &[u8],
+    values: &[u32],
+    names: u32,
+    n: u32,
+    from: usize,
+    env: &mut [u32],
+    table: &mut [u32],
+    rows: &mut [u32],
+    chain: &mut [u32],
+) -> Measured
+    requires { ⌜ length (now values) ≡ length (now tags) ⌝ }
+    ensures { λ r. ⌜ sizeOf r ≤ 4294967296 * n ⌝ }
+    ensures { λ r. ⌜ ((ns : List Node) (q : ℕ) → times n (node names) (tokens (now (tags .entry)) (now (values .entry))) from ≡ got ns q → Roomy names (length (now (tags .entry))) (now (env .entry)) (now (table .entry)) → Ample (now (table .entry)) (now (rows .entry)) (now (chain .entry)) → length (now (letters .entry)) ≤ 16384 → length (now (tags .entry)) ≤ 4096 → Measures (lettersAt (now (starts .entry)) (now (letters .entry))) ns q r) ⌝ }
+{
+    let mut place = from;
+    let mut at: usize = 0;
+    let mut i: u32 = 0;
+    while i < n {
+        let one = layout::node_at(tags, values, names, place);
+        let k = wide(i);
+        let answer = clock_laid(tags, values, names, one, k, env, table);
+        let NodeAnswer::Node(told) = answer else {
+            return Measured::Deep(k);
+        };
+        let size = measure_told(starts, letters, tags, values, env, table, told, rows, chain);
+        at += size.listing;
+        place = one.end;
+        i += 1;
+    }
+    Measured::Size(at, place)
 }

@@ -26,8 +26,9 @@ use Rattle.operands.specs.declared.Gap.{Gap}
 use Rattle.operands.specs.declared.Role.{Role}
 use Rattle.operands.specs.Role.{roleOfHead, roleOfExpr, operandsOf}
 use Rattle.operands.specs.Spread.{tree, spread, later, operandAt, restAt}
+use Rattle.operands.proofs.Laws.{spread-nil}
 use Rattle.operands.proofs.Roles.{Among}
-use Rattle.natural.proofs.Laws.{apart}
+use Rattle.natural.proofs.Laws.{Apart, apart}
 use Rattle.layout.specs.declared.NodeLayout.{NodeLayout}
 use Rattle.layout.specs.Spans.{pastIn}
 use Rattle.layout.specs.Laid.{Laid}
@@ -39,7 +40,7 @@ use Rattle.defaults.specs.Has.{isSome}
 use Rattle.callees.specs.declared.Callee.{Callee}
 use Rattle.callees.specs.Callees.{Called}
 use Rattle.needs.specs.declared.Turn.{Turn}
-use Rattle.needs.specs.Need.{isBare, hereOn, restOn, roomFor, within, withins}
+use Rattle.needs.specs.Need.{isBare, isLeaf, hereOn, restOn, roomFor, within, withins}
 use Rattle.stateless.specs.Yield.{shapeAfter}
 use Rattle.stateless.specs.Faults.{unless, preFault, outputsFault, gateFault, faultIn, faultAmong, leftTypeFault, leftFault, leftsFault, severalFault, flaggedFault, rightFault}
 use Rattle.rewritten_shape.specs.declared.After.{After}
@@ -317,37 +318,72 @@ module _ (types : List TypeDef) (l : List Node) (node : Node) where
     pub parts-fault : (v : Role) (e : Expr) → v ≡ roleOfExpr e → within c e ≡ true → Here v → Rest v → (a b r : Option Fault) → a ≡ faultAmong types l node here rest (operandsOf e) → b ≡ ownFault types l node c e → r ≡ orElse a b → r ≡ faultIn types l node c e
     parts-fault v e i w h k a b r j m n = rw (j, m) at n ∙ sym (fault-parts e w (rw i at h) (rw i at k))
 
-  -- ---- operands by their places
-  pub among-none : (c d : Clock) (es : Exprs) → es ≡ Exprs.end → none ≡ faultAmong types l node c d es
-  unfolding faultAmong
-  among-none c d es i = rw i
+  -- ---- a leaf
+  pub leaf-fault : (c : Clock) (e : Expr) → isLeaf e ≡ true → none ≡ faultIn types l node c e
+  unfolding faultIn
+  leaf-fault c (Expr.const x w) h = refl
+  leaf-fault c (Expr.var x) h = refl
+  leaf-fault c (Expr.op o es) h = let z : _≡_ {A = ℕ} 0 1 = cc in absurd (omega arith)
+  leaf-fault c (Expr.pre a) h = let z : _≡_ {A = ℕ} 0 1 = cc in absurd (omega arith)
+  leaf-fault c (Expr.arrow a b) h = let z : _≡_ {A = ℕ} 0 1 = cc in absurd (omega arith)
+  leaf-fault c (Expr.call f es) h = let z : _≡_ {A = ℕ} 0 1 = cc in absurd (omega arith)
+  leaf-fault c (Expr.when k a) h = let z : _≡_ {A = ℕ} 0 1 = cc in absurd (omega arith)
+  leaf-fault c (Expr.merge x a b) h = let z : _≡_ {A = ℕ} 0 1 = cc in absurd (omega arith)
 
-  -- M is the number of names; m is what the first operand meets, and it ends at `end`
-  module _ (M : ℕ) (gs vs : List ℕ) (same : length vs ≡ length gs) (g : Gap) (n p place : ℕ) (i : place ≡ operandAt (length gs) g p) (z : n ≡ 0 → ⊥) (here rest : Clock) (m : Option Fault) (end : ℕ)
-      (F : (e : Expr) (q : ℕ) → tree M (tokens gs vs) place ≡ got e q → within here e ≡ true → (m ≡ faultIn types l node here e) × (end ≡ q))
-      (es : Exprs) (q : ℕ) (h : spread M g n (tree M) (tokens gs vs) p ≡ got es q) (w : withins here rest es ≡ true) (next : ℕ) (k : next ≡ restAt (length gs) g end) where
-    both-within : (e : Expr) (r : Exprs) → es ≡ Exprs.and e r → (within here e ≡ true) × (withins rest rest r ≡ true)
-    unfolding within
-    both-within e r j = let v : within here e && withins rest rest r ≡ true = rw j at w in (left-of (within here e) (withins rest rest r) v, right-of (within here e) (withins rest rest r) v)
+  -- ---- the walk over operands
+  or-both : (a b d : Option Fault) → orElse (orElse a b) d ≡ orElse a (orElse b d)
+  or-both none b d = refl
+  or-both (some f) b d = refl
 
-    pub among-past : p < next
-    among-past =
-        let x = apart M gs vs same g n p es q place z i h in
-        let b = F (x .first) (x .end) (x .here) (both-within (x .first) (x .rest) (x .whole) .0) in
-        let e : next ≡ restAt (length gs) g (x .end) = k ∙ ap (restAt (length gs) g) (b .1) in
-        rw e (x .past)
+  -- n of them from p on are left, the first on one clock and the others on another; m is met so far, and with these what all meet
+  pub record Remains (M : ℕ) (ts : List TagValue) (on rest : Clock) (g : Gap) (n p : ℕ) (m : Option Fault) (q : ℕ) (all : Option Fault) : Type 0 where
+    pub others : Exprs
+    pub stand : spread M g n (tree M) ts p ≡ got others q
+    pub clocks : withins on rest others ≡ true
+    pub same : orElse m (faultAmong types l node on rest others) ≡ all
 
-    pub among-then : (v : Gap) → v ≡ later g → (o r : Option Fault) (last : ℕ) →
-        ((es : Exprs) (q : ℕ) → spread M v (n - 1) (tree M) (tokens gs vs) next ≡ got es q → withins rest rest es ≡ true → (o ≡ faultAmong types l node rest rest es) × (last ≡ q)) →
-        r ≡ orElse m o → (r ≡ faultAmong types l node here rest es) × (last ≡ q)
+  module _ (M : ℕ) (ts : List TagValue) (on rest : Clock) (g : Gap) (n p : ℕ) (q : ℕ) where
+    pub remains-all : (es : Exprs) → spread M g n (tree M) ts p ≡ got es q → withins on rest es ≡ true → Remains M ts on rest g n p none q (faultAmong types l node on rest es)
+    remains-all es h w = record { others = es; stand = h; clocks = w; same = refl }
+
+    pub remains-none : (m all : Option Fault) → Remains M ts on rest g n p m q all → n ≡ 0 → (m ≡ all) × (p ≡ q)
     unfolding faultAmong
-    among-then v j o r last R t =
-        let x = apart M gs vs same g n p es q place z i h in
-        let y = both-within (x .first) (x .rest) (x .whole) in
-        let b = F (x .first) (x .end) (x .here) (y .0) in
-        let e : next ≡ restAt (length gs) g (x .end) = k ∙ ap (restAt (length gs) g) (b .1) in
-        let d = R (x .rest) q (rw (j, e) (x .others)) (y .1) in
-        (rw (x .whole) (rw (b .0, d .0) at t), d .1)
+    remains-none m all h z =
+        let e = spread-nil M (tree M) ts g n p (h .others) q z (h .stand) in
+        let k : orElse m none ≡ all = rw (e .0) at (h .same) in
+        (or-none m ∙ k, sym (e .1))
+
+  -- M is the number of names; o is what the first of them meets, and it ends at `end`
+  module _ (M : ℕ) (gs vs : List ℕ) (same : length vs ≡ length gs) (g : Gap) (n p place : ℕ) (i : place ≡ operandAt (length gs) g p) (z : n ≡ 0 → ⊥) (on rest : Clock) (m o : Option Fault) (end : ℕ)
+      (F : (e : Expr) (q : ℕ) → tree M (tokens gs vs) place ≡ got e q → within on e ≡ true → (o ≡ faultIn types l node on e) × (end ≡ q))
+      (q : ℕ) (all : Option Fault) (h : Remains M (tokens gs vs) on rest g n p m q all) (next : ℕ) (k : next ≡ restAt (length gs) g end) where
+    abbrev split : Apart M gs vs g n p (h .others) q place
+    split = apart M gs vs same g n p (h .others) q place z i (h .stand)
+
+    clocked : (within on (split .first) ≡ true) × (withins rest rest (split .rest) ≡ true)
+    unfolding within
+    clocked = let v : within on (split .first) && withins rest rest (split .rest) ≡ true = rw (split .whole) at (h .clocks) in (left-of (within on (split .first)) (withins rest rest (split .rest)) v, right-of (within on (split .first)) (withins rest rest (split .rest)) v)
+
+    walked : (o ≡ faultIn types l node on (split .first)) × (end ≡ split .end)
+    walked = F (split .first) (split .end) (split .here) (clocked .0)
+
+    ends : next ≡ restAt (length gs) g (split .end)
+    ends = k ∙ ap (restAt (length gs) g) (walked .1)
+
+    pub remains-past : p < next
+    remains-past = rw ends (split .past)
+
+    pub remains-rest : (v : Gap) → v ≡ later g → (r : Option Fault) → r ≡ orElse m o → Remains M (tokens gs vs) rest rest v (n - 1) next r q all
+    unfolding faultAmong
+    remains-rest v j r t =
+        let u = faultAmong types l node rest rest (split .rest) in
+        let a : orElse r u ≡ orElse m (orElse (faultIn types l node on (split .first)) u) = ap (λ (x : Option Fault). orElse x u) t ∙ (or-both m o u ∙ ap (λ (x : Option Fault). orElse m (orElse x u)) (walked .0)) in
+        record {
+          others = split .rest;
+          stand = rw (j, ends) (split .others);
+          clocks = clocked .1;
+          same = a ∙ (ap (λ (es : Exprs). orElse m (faultAmong types l node on rest es)) (sym (split .whole)) ∙ h .same);
+        }
 
 pub not-past : (p q : ℕ) → p < q → q ≤ p → ⊥
 not-past p q h k = omega arith

@@ -225,6 +225,31 @@ pub fn expr_fault(
     Walked { met: met, end: end }
 }
 
+// What the operand that stands there meets; a leaf meets nothing.
+fn operand_fault(
+    tags: &[u8],
+    values: &[u32],
+    places: &[usize; 16],
+    defs: &[usize; 32],
+    has: &[u8; 32],
+    s: Scope,
+    c: Clock,
+    at: usize,
+) -> Walked
+    requires { ⌜ length (now values) ≡ length (now tags) ⌝ }
+    requires { ⌜ (s .nodes ≤ 16) × (s .types ≤ 32) ⌝ }
+    ensures { λ r. ⌜ ((e : Expr) (q : ℕ) (types : List TypeDef) (l : List Node) (node : Node) → tree (s .names) (tokens (now (tags .entry)) (now (values .entry))) at ≡ got e q → within (valueOf c) e ≡ true → InScope (now (tags .entry)) (now (values .entry)) (now (places .entry)) (now (defs .entry)) (now (has .entry)) s types l node → (metOf (r .met) ≡ faultIn types l node (valueOf c) e) × (r .end ≡ q)) ⌝ }
+{
+    let end = needs::leaf_end(tags, values, at);
+    if 0 < end {
+        return Walked {
+            met: Met::Nothing,
+            end: end,
+        };
+    }
+    expr_fault(tags, values, places, defs, has, s, c, at)
+}
+
 // What so many operands meet, the first on the clock `here`, the others on `rest`.
 pub fn exprs_fault(
     tags: &[u8],
@@ -243,41 +268,29 @@ pub fn exprs_fault(
     requires { ⌜ (s .nodes ≤ 16) × (s .types ≤ 32) ⌝ }
     ensures { λ r. ⌜ ((es : Exprs) (q : ℕ) (types : List TypeDef) (l : List Node) (node : Node) → spread (s .names) gap count (tree (s .names)) (tokens (now (tags .entry)) (now (values .entry))) at ≡ got es q → withins (valueOf here) (valueOf rest) es ≡ true → InScope (now (tags .entry)) (now (values .entry)) (now (places .entry)) (now (defs .entry)) (now (has .entry)) s types l node → (metOf (r .met) ≡ faultAmong types l node (valueOf here) (valueOf rest) es) × (r .end ≡ q)) ⌝ }
 {
-    if count == 0 {
-        return Walked {
-            met: Met::Nothing,
-            end: at,
-        };
+    let mut left = count;
+    let mut from = at;
+    let mut between = gap;
+    let mut on = here;
+    let mut met = Met::Nothing;
+    while 0 < left {
+        let place = operands::operand_at(tags, between, from);
+        let w = operand_fault(tags, values, places, defs, has, s, on, place);
+        let o = operands::after_operand(tags, between, w.end);
+        let next = o.next;
+        if next <= from {
+            return w;
+        }
+        let one = w.met;
+        met = or_met(met, one);
+        from = next;
+        between = o.gap;
+        on = rest;
+        left -= 1;
     }
-    let place = operands::operand_at(tags, gap, at);
-    let w = expr_fault(tags, values, places, defs, has, s, here, place);
-    let one = w.met;
-    let end = w.end;
-    let o = operands::after_operand(tags, gap, end);
-    let next = o.next;
-    let later = o.gap;
-    if next <= at {
-        return Walked { met: one, end: at };
-    }
-    let x = exprs_fault(
-        tags,
-        values,
-        places,
-        defs,
-        has,
-        s,
-        rest,
-        rest,
-        later,
-        count - 1,
-        next,
-    );
-    let others = x.met;
-    let last = x.end;
-    let met = or_met(one, others);
     Walked {
         met: met,
-        end: last,
+        end: from,
     }
 }
 

@@ -26,16 +26,16 @@ abbrev pub Maybe : {A : Type 0} → (A → Type 0) → Option A → Type 0
 Maybe P none = Unit {0}
 Maybe P (some a) = P a
 
-maybe-given : {A : Type 0} (P : A → Type 0) (b : Bool) (a : A) → (b ≡ true → P a) → Maybe P (given b a)
+pub maybe-given : {A : Type 0} (P : A → Type 0) (b : Bool) (a : A) → (b ≡ true → P a) → Maybe P (given b a)
 maybe-given P true a h = h refl
 maybe-given P false a h = tt
 
-maybe-mapped : {A B : Type 0} (P : A → Type 0) (Q : B → Type 0) (f : A → B) (o : Option A) → ((a : A) → P a → Q (f a)) → Maybe P o → Maybe Q (mapped f o)
+pub maybe-mapped : {A B : Type 0} (P : A → Type 0) (Q : B → Type 0) (f : A → B) (o : Option A) → ((a : A) → P a → Q (f a)) → Maybe P o → Maybe Q (mapped f o)
 maybe-mapped P Q f none h m = tt
 maybe-mapped P Q f (some a) h m = h a m
 
 -- a number that is k, or another
-pick : {A : Type 0} (P : A → Type 0) (n k : ℕ) (a b : Option A) → (n ≡ k → Maybe P a) → Maybe P b → Maybe P (choose (eqb n k) a b)
+pub pick : {A : Type 0} (P : A → Type 0) (n k : ℕ) (a b : Option A) → (n ≡ k → Maybe P a) → Maybe P b → Maybe P (choose (eqb n k) a b)
 pick P n k a b f g = go (eqb n k) refl
   where
     go : (u : Bool) → eqb n k ≡ u → Maybe P (choose u a b)

@@ -1,5 +1,4 @@
 -- What the proofs of several functions use, and what follows from `read`'s contract.
 pub mod Laws
-pub mod Equations
 pub mod Summaries
 pub mod Consequences

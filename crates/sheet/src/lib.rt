@@ -14,7 +14,7 @@ ghost use Rattle.definitions.specs.Tree.{TypeDef, Equation, Node, Sheet};
 ghost use Rattle.definitions.specs.Reading.{got, times};
 ghost use Rattle.definitions.specs.Grammar.{typeDef, equation, node, sheet};
 ghost use Rattle.definitions.specs.Refusals.{told, number, place};
-ghost use Rattle.definitions.specs.InferClocks.{samples, usesClocks};
+ghost use Rattle.definitions.specs.InferClocks.{usesClocks};
 ghost use Rattle.sheet.specs.Answers.{tokensAnswer, checkedTold, SheetRead};
 ghost use Rattle.sheet.specs.Summary.{typeSummary};
 
@@ -144,24 +144,6 @@ pub fn type_summary(tags: &[u8], values: &[u32], names: u32, at: usize) -> TypeS
     }
 }
 
-// Does one of so many equations use clocks?
-pub fn equations_use_clocks(tags: &[u8], values: &[u32], names: u32, n: u32, at: usize) -> bool
-    requires { ⌜ length (now values) ≡ length (now tags) ⌝ }
-    ensures { λ r. ⌜ ((l : List Equation) (q : ℕ) → times n (equation names) (tokens (now (tags .entry)) (now (values .entry))) at ≡ got l q → r ≡ any (λ e. samples (e .right)) l) ⌝ }
-{
-    let mut left = n;
-    let mut place = at;
-    while 0 < left {
-        let e = layout::equation_at(tags, values, names, place);
-        if operands::uses_clocks(tags, values, names, e.right) {
-            return true;
-        }
-        place = e.end;
-        left -= 1;
-    }
-    false
-}
-
 // Does the node that stands at a place use clocks?
 pub fn node_uses_clocks(tags: &[u8], values: &[u32], names: u32, at: usize) -> bool
     requires { ⌜ length (now values) ≡ length (now tags) ⌝ }
@@ -169,7 +151,7 @@ pub fn node_uses_clocks(tags: &[u8], values: &[u32], names: u32, at: usize) -> b
 {
     let whole = layout::node_at(tags, values, names, at);
     let equations = whole.equations;
-    equations_use_clocks(tags, values, names, equations.count, equations.at)
+    extents::equations_use_clocks(tags, values, equations.count, equations.at)
 }
 
 // A refusal's number.

@@ -76,6 +76,16 @@ module _ {A : Type 0} (R : Reader A) (ts : List TagValue) where
       let f : placeAt p (suc k) ≡ placeAt (a .1) k = shift k p ∙ ap (λ (x : ℕ). placeAt x k) e in
       (r .0, ap (R ts) f ∙ r .1 ∙ ap (λ (y : List A). got (getD y (suc k) d) (r .0)) (sym (b .2)))
 
+  -- the place after an item that was read is the next one's, and one more place is in the table
+  pub placed-next : (n p i place next : ℕ) (d : A) (places : List ℕ) (l : List A) (q : ℕ) → times n R ts p ≡ got l q → i < n → i < length places → ((a : A) (s : ℕ) → R ts place ≡ got a s → next ≡ s) →
+      (place ≡ placeAt p i) × ((k : ℕ) → k < i → getD places k 0 ≡ placeAt p k) → (next ≡ placeAt p (i + 1)) × ((k : ℕ) → k < i + 1 → getD (set places i place) k 0 ≡ placeAt p k)
+  unfolding placeAt
+  placed-next n p i place next d places l q g h b e f =
+      let a = item n i p l q d g h in
+      let r : R ts place ≡ got (getD l i d) (a .0) = ap (R ts) (f .0) ∙ a .1 in
+      let m : following (R ts place) place ≡ next = ap (λ (x : Got A). following x place) r ∙ sym (e (getD l i d) (a .0) r) in
+      (rw (add-one i) (sym m ∙ ap (λ (x : ℕ). following (R ts x) x) (f .0)), filled-more (placeAt p) places i place b (f .1) (f .0))
+
   module _ (p i place : ℕ) (here : place ≡ placeAt p i) (r : Read) (read : r ≡ outcome (R ts place)) where
     -- one more place is in the table
     pub placed-more : (places : List ℕ) (next : ℕ) → i < length places → ((k : ℕ) → k < i → getD places k 0 ≡ placeAt p k) → r ≡ Read.Next next →

@@ -5,7 +5,7 @@ use mathlib.Core.List.{List}
 use Prim.Native.Nat.{ℕ}
 use lib.ListN.{getD}
 use denote.Ref.{now}
-use Rattle.callees.proofs.Laws.{none-called, operator-called, other-called, outputs-found}
+use Rattle.callees.proofs.Laws.{none-called, operator-called, other-called}
 use borrow.Author.Needs.{needs}
 use Rattle.callees.proofs.operator_of.Statement.{statement}
 use Rattle.callees.proofs.operator_of.Tie as tie
@@ -48,7 +48,7 @@ declared-at-requires-2 : tie.Need-declared-at-requires-2
 declared-at-requires-2 c κs = search needs
 
 returns-2 : tie.Need-returns-2
-returns-2 c = λ l s. operator-called _ (now (c .before .before .before .before .before .before .before .before .before .before .before .before .args .tags)) (now (c .before .before .before .before .before .before .before .before .before .before .before .before .args .values)) (c .before .before .before .before .before .before .before .before .before .before .before .before .pre .0) (now (c .before .before .before .before .before .before .before .before .before .before .before .before .args .places)) (c .before .before .before .before .before .before .before .before .before .before .before .before .args .nodes) l s _ (c .before .before .before .before .before .before .before .before .if1 .left) _ (c .before .before .before .before .before .before .before .before .before .node-named .ensures l s) _ (c .before .before .before .before .before .value-at .ensures ∙ ap (λ (z : ℕ). getD (now (c .before .before .before .before .before .before .before .before .before .before .before .before .args .values)) z 0) (c .before .before .before .before .before .before .past .ensures)) (sym (c .before .before .before .before .says-operator .ensures) ∙ c .before .before .before .if2 .taken) _ (outputs-found (c .before .before .before .before .before .before .before .before .before .before .before .before .args .names) (now (c .before .before .before .before .before .before .before .before .before .before .before .before .args .tags)) (now (c .before .before .before .before .before .before .before .before .before .before .before .before .args .values)) _ _ _ _ _ (c .before .before .before .before .before .before .past .ensures) (c .before .before .past2 .ensures) (c .before .declared-at .ensures) (c .declared-at2 .ensures))
+returns-2 c = λ l s. operator-called _ (now (c .before .before .before .before .before .before .before .before .before .before .before .before .args .tags)) (now (c .before .before .before .before .before .before .before .before .before .before .before .before .args .values)) (c .before .before .before .before .before .before .before .before .before .before .before .before .pre .0) (now (c .before .before .before .before .before .before .before .before .before .before .before .before .args .places)) (c .before .before .before .before .before .before .before .before .before .before .before .before .args .nodes) l s _ (c .before .before .before .before .before .before .before .before .if1 .left) _ (c .before .before .before .before .before .before .before .before .before .node-named .ensures l s) _ (c .before .before .before .before .before .value-at .ensures ∙ ap (λ (z : ℕ). getD (now (c .before .before .before .before .before .before .before .before .before .before .before .before .args .values)) z 0) (c .before .before .before .before .before .before .past .ensures)) (sym (c .before .before .before .before .says-operator .ensures) ∙ c .before .before .before .if2 .taken) _ _ _ _ (c .before .before .before .before .before .before .past .ensures) (c .before .before .past2 .ensures) (c .before .declared-at .ensures) (c .declared-at2 .ensures)
 
 returns-3 : tie.Need-returns-3
 returns-3 c = λ l s. other-called _ (now (c .before .before .before .before .before .before .before .before .before .args .tags)) (now (c .before .before .before .before .before .before .before .before .before .args .values)) (c .before .before .before .before .before .before .before .before .before .pre .0) (now (c .before .before .before .before .before .before .before .before .before .args .places)) (c .before .before .before .before .before .before .before .before .before .args .nodes) l s _ (c .before .before .before .before .before .if1 .left) _ (c .before .before .before .before .before .before .node-named .ensures l s) _ (c .before .before .value-at .ensures ∙ ap (λ (z : ℕ). getD (now (c .before .before .before .before .before .before .before .before .before .args .values)) z 0) (c .before .before .before .past .ensures)) (sym (c .before .says-operator .ensures) ∙ c .if2 .left)

@@ -16,7 +16,6 @@ use Rattle.findings.specs.Findings.{Holds}
 use Rattle.operands.specs.Role.{operandsOf, one}
 use Rattle.operands.specs.Spread.{tree, spread, restAt}
 use Rattle.operands.proofs.Apart.{at-or-past}
-use Rattle.operands.proofs.Laws.{skips}
 use Rattle.operands.proofs.Roles.{arm}
 use Rattle.checking.proofs.Laws.{checked-by, plain-role, whole, when-operands, merge-operands, known-role, known-as, leaf-name, leaf-constant, leaf-known, name-checked, constant-checked, over-free, over-on, over-deep, one-down, when-match, when-other, merge-whole, checked-behind, sole, both, second, Left, left-all, left-none, left-past, left-rest}
 use borrow.Author.Needs.{needs}
@@ -60,7 +59,7 @@ use Rattle.natural.proofs.first_found.Reads as first-found-reads
 use Rattle.operands.proofs.after_operand.Reads as after-operand-reads
 use Rattle.operands.proofs.leaf_at.Reads as leaf-at-reads
 use Rattle.operands.proofs.operand_at.Reads as operand-at-reads
-use Rattle.operands.proofs.skip.Reads as skip-reads
+use Rattle.extents.proofs.expr_end.Reads as expr-end-reads
 use Rattle.operands.proofs.view_at.Reads as view-at-reads
 use Rattle.checking.proofs.+check_branch+check_expr+check_merge+check_operand+check_operands+check_over+check_sample.{
   statement,
@@ -182,7 +181,7 @@ abbrev check-operands-uses : ℕ → check-operands-lts.Claims
 check-operands-uses t = (operand-at-reads.Asked, operand-at-reads.Learnt, check-operand-below t, check-operand.Post, after-operand-reads.Asked, after-operand-reads.Learnt)
 
 abbrev check-over-uses : ℕ → check-over-lts.Claims
-check-over-uses t = (base-reads.Asked, base-reads.Learnt, words-of-reads.Asked, words-of-reads.Learnt, check-expr-below t, check-expr.Post, skip-reads.Asked, skip-reads.Learnt, push-deep-reads.Asked, push-deep-reads.Learnt)
+check-over-uses t = (base-reads.Asked, base-reads.Learnt, words-of-reads.Asked, words-of-reads.Learnt, check-expr-below t, check-expr.Post, expr-end-reads.Asked, expr-end-reads.Learnt, push-deep-reads.Asked, push-deep-reads.Learnt)
 
 abbrev check-sample-uses : ℕ → check-sample-lts.Claims
 check-sample-uses t = (load-reads.Asked, load-reads.Learnt, ends-in-reads.Asked, ends-in-reads.Learnt, operand-at-reads.Asked, operand-at-reads.Learnt, parent-reads.Asked, parent-reads.Learnt, words-of-reads.Asked, words-of-reads.Learnt, samples-on-reads.Asked, samples-on-reads.Learnt, check-expr-below t, check-expr.Post, behind-reads.Asked, behind-reads.Learnt, push-when-reads.Asked, push-when-reads.Learnt, first-found-reads.Asked, first-found-reads.Learnt, check-over-below t, check-over.Post)
@@ -434,8 +433,8 @@ check-over-check-expr-requires-2 t c κs = search needs
 check-over-enum-told-3 : (t : ℕ) → check-over-lts.Need-enum-told-3 (check-over-uses t) (check-over-at t) check-over.Post
 check-over-enum-told-3 t c = search needs
 
-check-over-skip-requires : (t : ℕ) → check-over-lts.Need-skip-requires (check-over-uses t) (check-over-at t) check-over.Post
-check-over-skip-requires t c κs = search needs
+check-over-expr-end-requires : (t : ℕ) → check-over-lts.Need-expr-end-requires (check-over-uses t) (check-over-at t) check-over.Post
+check-over-expr-end-requires t c κs = search needs
 
 check-over-push-deep-requires : (t : ℕ) → check-over-lts.Need-push-deep-requires (check-over-uses t) (check-over-at t) check-over.Post
 check-over-push-deep-requires t c κs = search needs
@@ -464,7 +463,7 @@ check-over-same-length-3 t c = search needs
 check-over-returns-3 : (t : ℕ) → check-over-lts.Need-returns-3 (check-over-uses t) (check-over-at t) check-over.Post
 check-over-returns-3 t c = let s = c .before .before .before .before .before .before .before .before .before .before .before .args in (
   c .before .before .push-deep .ensures .0,
-  λ clocks e q fs a g h. checked-by _ _ q _ _ (ap (λ (l : List Finding). fs ++ l) (over-deep (s .over) (λ (d : Clock). check clocks (s .equation) d e) (c .before .before .before .before .before .enum-told3 .given .1))) (record { end = skips _ _ _ _ e q (c .before .before .before .before .skip .ensures) g; holds = c .before .before .push-deep .ensures .1 fs h }),
+  λ clocks e q fs a g h. checked-by _ _ q _ _ (ap (λ (l : List Finding). fs ++ l) (over-deep (s .over) (λ (d : Clock). check clocks (s .equation) d e) (c .before .before .before .before .before .enum-told3 .given .1))) (record { end = c .before .before .before .before .expr-end .ensures _ _ e q g; holds = c .before .before .push-deep .ensures .1 fs h }),
 )
 
 check-sample-load-requires : (t : ℕ) → check-sample-lts.Need-load-requires (check-sample-uses t) (check-sample-at t) check-sample.Post
@@ -619,7 +618,7 @@ pub +check-branch+check-expr+check-merge+check-operand+check-operands+check-over
     (check-over-words-of-requires-2 t)
     (check-over-check-expr-requires-2 t)
     (check-over-enum-told-3 t)
-    (check-over-skip-requires t)
+    (check-over-expr-end-requires t)
     (check-over-push-deep-requires t)
     (check-over-same-length t)
     (check-over-returns t)

@@ -23,11 +23,14 @@ Right tags values names places n m x =
     (types : List TypeDef) → Table names (tokens tags values) places n types → m / 32 < n → m % 32 < n → x ≡ bit (among (nameAt types (m % 32)) (goesOn types (nameAt types (m / 32))))
 
 abbrev Inv-loop : tie.InvT-loop
-Inv-loop tags values names places n go₀ k₀ go k =
-    (k ≤ 1024) × (length go ≡ 1024) × ((m : ℕ) → m < k → Right tags values names places n m (getD go m 0))
+Inv-loop tags values names places n most go₀ k₀ go k =
+    (k ≤ 32 * n) × (length go ≡ 1024) × ((m : ℕ) → m < k → Right tags values names places n m (getD go m 0))
 
 abbrev μ-loop : tie.MeasureT-loop
-μ-loop tags values names places n go₀ k₀ go k = 1024 - k
+μ-loop tags values names places n most go₀ k₀ go k = 32 * n - k
+
+mul-most : tie.Need-mul-most Inv-loop μ-loop
+mul-most c = search needs
 
 loop-holds : tie.Need-loop-holds Inv-loop μ-loop
 loop-holds c = (omega arith, refl, λ m h. absurd (omega arith))
@@ -63,6 +66,7 @@ edges-spec =
     (tie.spec
     Inv-loop
     μ-loop
+    mul-most
     loop-holds
     edge-requires
     array-write-go

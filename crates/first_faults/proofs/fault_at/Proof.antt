@@ -1,5 +1,7 @@
--- `first_faults::fault_at` meets its contract. Assumes nothing.
-use Rattle.first_faults.proofs.Laws.{past-nodes, none-deep, at-node}
+-- `first_faults::fault_at` meets its contract: a node that uses no clocks has no fault. Assumes nothing.
+use mathlib.Core.Path.{sym, _∙_}
+use Rattle.infer_clocks.proofs.Laws.{uses-by}
+use Rattle.first_faults.proofs.Laws.{past-nodes, none-unclocked, at-node}
 use borrow.Author.Needs.{needs}
 use Rattle.first_faults.proofs.fault_at.Statement.{statement}
 use Rattle.first_faults.proofs.fault_at.Tie as tie
@@ -19,26 +21,11 @@ array-read-at c = search needs
 node-at-requires : tie.Need-node-at-requires
 node-at-requires c κs = search needs
 
-slice-aggregate-clock-laid : tie.Need-slice-aggregate-clock-laid
-slice-aggregate-clock-laid c = search needs
+equations-use-clocks-requires : tie.Need-equations-use-clocks-requires
+equations-use-clocks-requires c κs = search needs
 
-slice-aggregate-clock-laid-2 : tie.Need-slice-aggregate-clock-laid-2
-slice-aggregate-clock-laid-2 c = search needs
-
-clock-laid-requires : tie.Need-clock-laid-requires
-clock-laid-requires c κs = search needs
-
-enum-told : tie.Need-enum-told
-enum-told c = search needs
-
-no-fault-requires-2 : tie.Need-no-fault-requires-2
-no-fault-requires-2 c κs = search needs
-
-enum-known-clocked : tie.Need-enum-known-clocked
-enum-known-clocked c = search needs
-
-clocked-fault-requires : tie.Need-clocked-fault-requires
-clocked-fault-requires c κs = (c .before .before .before .before .before .before .before .before .before .before .before .before .before .before .before .before .before .before .before .before .before .before .before .before .pre .0, c .before .before .before .before .before .before .before .before .before .before .before .before .before .before .before .before .before .before .before .before .before .before .before .before .pre .1)
+laid-fault-requires : tie.Need-laid-fault-requires
+laid-fault-requires c κs = search needs
 
 same-length : tie.Need-same-length
 same-length c = search needs
@@ -47,16 +34,13 @@ same-length-2 : tie.Need-same-length-2
 same-length-2 c = search needs
 
 returns-2 : tie.Need-returns-2
-returns-2 c = λ i ns h f r. absurd (none-deep _ _ _ i ns h f _ (c .before .before .before .before .before .before .before .before .before .before .before .before .before .before .before .before .before .before .before .before .before .before .args .j) (c .before .before .before .before .before .before .before .before .before .before .before .before .before .before .before .before .if1 .left) _ (c .before .before .before .before .before .before .before .before .before .before .before .before .before .before .node-at .ensures) _ _ _ (λ n q d. c .before .before .before .before .before .before .before .before .before .clock-laid .ensures n q d (r .clocks) (r .few) (r .few) (r .found)) (c .before .enum-told .given .1))
+returns-2 c = λ i ns h f r. at-node _ _ _ i ns h f _ _ _ _ (c .before .before .before .before .before .before .before .before .before .before .before .before .if1 .left) (c .before .before .before .before .before .before .before .before .before .before .node-at .ensures) (λ n q k d e. c .before .before .before .before .laid-fault .ensures i n q k h d (sym (uses-by n _ (c .before .before .before .before .before .before .before .before .equations-use-clocks .ensures _ (n .equations) _ (d .equations .items))) ∙ c .before .before .before .before .before .before .before .if2 .taken) e r)
 
-same-length-3 : tie.Need-same-length-3
-same-length-3 c = search needs
-
-same-length-4 : tie.Need-same-length-4
-same-length-4 c = search needs
+no-fault-requires-2 : tie.Need-no-fault-requires-2
+no-fault-requires-2 c κs = search needs
 
 returns-3 : tie.Need-returns-3
-returns-3 c = λ i ns h f r. at-node _ _ _ i ns h f _ _ (c .before .before .before .before .before .before .before .before .before .before .before .before .before .before .before .before .before .before .before .if1 .left) _ (c .before .before .before .before .before .before .before .before .before .before .before .before .before .before .before .before .before .node-at .ensures) _ _ _ (λ n q d. c .before .before .before .before .before .before .before .before .before .before .before .before .clock-laid .ensures n q d (r .clocks) (r .few) (r .few) (r .found)) _ _ _ (c .before .before .before .before .clocked .given .1) (c .clocked-fault .ensures)
+returns-3 c = λ i ns h f r. at-node _ _ _ i ns h f _ _ _ _ (c .before .before .before .before .before .before .if1 .left) (c .before .before .before .before .node-at .ensures) (λ n q k d e. none-unclocked i n k _ _ (sym (uses-by n _ (c .before .before .equations-use-clocks .ensures _ (n .equations) _ (d .equations .items))) ∙ c .before .if2 .left) e (c .no-fault2 .ensures))
 
 pub fault-at-spec : {M : Type 1} → statement M
 fault-at-spec =
@@ -67,16 +51,10 @@ fault-at-spec =
     mul-at
     array-read-at
     node-at-requires
-    slice-aggregate-clock-laid
-    slice-aggregate-clock-laid-2
-    clock-laid-requires
-    enum-told
-    no-fault-requires-2
-    enum-known-clocked
-    clocked-fault-requires
+    equations-use-clocks-requires
+    laid-fault-requires
     same-length
     same-length-2
     returns-2
-    same-length-3
-    same-length-4
+    no-fault-requires-2
     returns-3)

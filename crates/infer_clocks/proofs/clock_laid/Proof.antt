@@ -1,6 +1,6 @@
 -- `infer_clocks::clock_laid` meets its contract: its parts, one after another. Assumes nothing.
 use denote.Ref.{now}
-use Rattle.infer_clocks.proofs.Laws.{laid-deep, laid-sunk, laid-found, laid-told, within, room-stays}
+use Rattle.infer_clocks.proofs.Laws.{laid-deep, laid-sunk, laid-found, laid-told, still, room-stays}
 use borrow.Author.Needs.{needs}
 use Rattle.infer_clocks.proofs.clock_laid.Statement.{statement}
 use Rattle.infer_clocks.proofs.clock_laid.Tie as tie
@@ -44,7 +44,12 @@ same-length-4 c = search needs
 returns : tie.Need-returns
 returns c =
     let s = c .before .before .before .before .before .before .before .before .before .before .before .before .before .before .before .before .before .before .before .before .before .before .before .before .before .before .before .before .before .before .before .before .before .before in
-    λ n q l u v x y. let f = c .before .before .before .before .before .before .before .before .before .before .before .before .before .before .before .before .before .before .before .before .before .before .before .before .before .infer .ensures n q l u v in laid-found _ _ n _ (c .before .before .before .before .before .before .before .before .before .before .before .before .before .before .before .before .before .before .before .before .before .before .before .before .before .infer .last .1 .1 .1 .1 .1 .0) (c .before .before .before .before .before .before .before .before .before .before .before .before .before .before .before .widen .last .1 .0) _ _ _ _ _ _ _ (c .before .before .before .before .before .before .before .before .before .before .before .before .before .before .before .before .before .before .before .inferred .given .1) (f .1) (f .0) (λ z k. c .before .before .before .before .before .before .before .before .before .before .before .before .before .before .before .widen .ensures z (within z _ _ k x)) (l .equations .items) (c .before .before .before .before .before .before .before .before .check-all .ensures) _ (c .before .before .before .before .found .given .1) (room-stays (now (s .args .tags)) (now (s .args .values)) (now (s .args .table)) (c .before .before .before .before .before .before .before .before .check-all .last .1 .1 .1 .1 .1 .0) (s .pre) y (c .before .before .before .before .before .before .before .before .check-all .kept .1 .1 .1 .1 .1 .0)) _ (c .before .any-deep .ensures) (c .if1 .taken)
+    let i = c .before .before .before .before .before .before .before .before .before .before .before .before .before .before .before .before .before .before .before .before .before .before .before .before .before .infer in
+    let w = c .before .before .before .before .before .before .before .before .before .before .before .before .before .before .before .widen in
+    let a = c .before .before .before .before .before .before .before .before .check-all in
+    λ n q l u v x y.
+    let f = i .ensures n q l u v in
+    laid-found _ _ n _ (i .last .1 .1 .1 .1 .1 .0) (w .last .1 .0) _ _ _ _ _ _ _ (c .before .before .before .before .before .before .before .before .before .before .before .before .before .before .before .before .before .before .before .inferred .given .1) (f .1) (f .0) (w .ensures (still _ _ _ v (i .kept .1 .1 .1 .1 .1 .0)) x) (l .equations .items) (a .ensures) _ (c .before .before .before .before .found .given .1) (room-stays (now (s .args .tags)) (now (s .args .values)) (now (s .args .table)) (a .last .1 .1 .1 .1 .1 .0) (s .pre) y (a .kept .1 .1 .1 .1 .1 .0)) _ (c .before .any-deep .ensures) (c .if1 .taken)
 
 same-length-5 : tie.Need-same-length-5
 same-length-5 c = search needs
@@ -68,7 +73,12 @@ same-length-10 : tie.Need-same-length-10
 same-length-10 c = search needs
 
 returns-3 : tie.Need-returns-3
-returns-3 c = λ n q l u v x y. let f = c .before .before .before .before .before .before .before .before .before .before .before .before .before .before .before .before .before .before .before .before .before .infer .ensures n q l u v in laid-sunk _ _ n _ (c .before .before .before .before .before .before .before .before .before .before .before .before .before .before .before .before .before .before .before .before .before .infer .last .1 .1 .1 .1 .1 .0) (c .before .before .before .before .before .before .before .before .before .before .before .widen .last .1 .0) _ _ _ _ _ _ _ (c .before .before .before .before .before .before .before .before .before .before .before .before .before .before .before .inferred .given .1) (f .1) (f .0) (λ z k. c .before .before .before .before .before .before .before .before .before .before .before .widen .ensures z (within z _ _ k x)) (l .equations .items) (c .before .before .before .before .check-all .ensures) (c .enum-told2 .given .1)
+returns-3 c =
+    let i = c .before .before .before .before .before .before .before .before .before .before .before .before .before .before .before .before .before .before .before .before .before .infer in
+    let w = c .before .before .before .before .before .before .before .before .before .before .before .widen in
+    λ n q l u v x y.
+    let f = i .ensures n q l u v in
+    laid-sunk _ _ n _ (i .last .1 .1 .1 .1 .1 .0) (w .last .1 .0) _ _ _ _ _ _ _ (c .before .before .before .before .before .before .before .before .before .before .before .before .before .before .before .inferred .given .1) (f .1) (f .0) (w .ensures (still _ _ _ v (i .kept .1 .1 .1 .1 .1 .0)) x) (l .equations .items) (c .before .before .before .before .check-all .ensures) (c .enum-told2 .given .1)
 
 same-length-11 : tie.Need-same-length-11
 same-length-11 c = search needs
@@ -85,7 +95,12 @@ same-length-14 c = search needs
 returns-4 : tie.Need-returns-4
 returns-4 c =
     let s = c .before .before .before .before .before .before .before .before .before .before .before .before .before .before .before .before .before .before .before .before .before .before .before .before .before .before .before .before .before .before .before .before .before .before in
-    λ n q l u v x y. let f = c .before .before .before .before .before .before .before .before .before .before .before .before .before .before .before .before .before .before .before .before .before .before .before .before .before .infer .ensures n q l u v in laid-told _ _ n _ (c .before .before .before .before .before .before .before .before .before .before .before .before .before .before .before .before .before .before .before .before .before .before .before .before .before .infer .last .1 .1 .1 .1 .1 .0) (c .before .before .before .before .before .before .before .before .before .before .before .before .before .before .before .widen .last .1 .0) _ _ _ _ _ _ _ (c .before .before .before .before .before .before .before .before .before .before .before .before .before .before .before .before .before .before .before .inferred .given .1) (f .1) (f .0) (λ z k. c .before .before .before .before .before .before .before .before .before .before .before .before .before .before .before .widen .ensures z (within z _ _ k x)) (l .equations .items) (c .before .before .before .before .before .before .before .before .check-all .ensures) _ (c .before .before .before .before .found .given .1) (room-stays (now (s .args .tags)) (now (s .args .values)) (now (s .args .table)) (c .before .before .before .before .before .before .before .before .check-all .last .1 .1 .1 .1 .1 .0) (s .pre) y (c .before .before .before .before .before .before .before .before .check-all .kept .1 .1 .1 .1 .1 .0)) _ (c .before .any-deep .ensures) (c .if1 .left)
+    let i = c .before .before .before .before .before .before .before .before .before .before .before .before .before .before .before .before .before .before .before .before .before .before .before .before .before .infer in
+    let w = c .before .before .before .before .before .before .before .before .before .before .before .before .before .before .before .widen in
+    let a = c .before .before .before .before .before .before .before .before .check-all in
+    λ n q l u v x y.
+    let f = i .ensures n q l u v in
+    laid-told _ _ n _ (i .last .1 .1 .1 .1 .1 .0) (w .last .1 .0) _ _ _ _ _ _ _ (c .before .before .before .before .before .before .before .before .before .before .before .before .before .before .before .before .before .before .before .inferred .given .1) (f .1) (f .0) (w .ensures (still _ _ _ v (i .kept .1 .1 .1 .1 .1 .0)) x) (l .equations .items) (a .ensures) _ (c .before .before .before .before .found .given .1) (room-stays (now (s .args .tags)) (now (s .args .values)) (now (s .args .table)) (a .last .1 .1 .1 .1 .1 .0) (s .pre) y (a .kept .1 .1 .1 .1 .1 .0)) _ (c .before .any-deep .ensures) (c .if1 .left)
 
 pub clock-laid-spec : {M : Type 1} → statement M
 clock-laid-spec =

@@ -27,42 +27,38 @@ loop-holds c = (refl, refl, refl, refl, λ ns q g u v x y. nodes-start _ _ _ _ q
 node-at-requires : tie.Need-node-at-requires Inv-loop μ-loop
 node-at-requires c κs = search needs
 
-clock-laid-requires : tie.Need-clock-laid-requires Inv-loop μ-loop
-clock-laid-requires c κs = search needs
-
-enum-told : tie.Need-enum-told Inv-loop μ-loop
-enum-told c = search needs
+deep-laid-requires : tie.Need-deep-laid-requires Inv-loop μ-loop
+deep-laid-requires c κs = search needs
 
 same-length : tie.Need-same-length Inv-loop μ-loop
-same-length c = c .before .before .before .before .before .before .before .before .before .before .clock-laid .kept .1 .1 .1 .1 .0 ∙ c .before .before .before .before .before .before .before .before .before .before .before .before .before .before .before .before .before .loop .inv .0
+same-length c = c .before .before .before .before .before .before .before .before .before .deep-laid .kept .1 .1 .1 .1 .0 ∙ c .before .before .before .before .before .before .before .before .before .before .before .before .before .before .before .before .loop .inv .0
 
 same-length-2 : tie.Need-same-length-2 Inv-loop μ-loop
-same-length-2 c = c .before .before .before .before .before .before .before .before .before .before .clock-laid .kept .1 .1 .1 .1 .1 .0 ∙ c .before .before .before .before .before .before .before .before .before .before .before .before .before .before .before .before .before .loop .inv .1
+same-length-2 c = c .before .before .before .before .before .before .before .before .before .deep-laid .kept .1 .1 .1 .1 .1 .0 ∙ c .before .before .before .before .before .before .before .before .before .before .before .before .before .before .before .before .loop .inv .1
 
 same-length-3 : tie.Need-same-length-3 Inv-loop μ-loop
-same-length-3 c = c .before .before .before .before .before .before .before .before .before .before .clock-laid .kept .1 .1 .1 .1 .1 .1 .0 ∙ c .before .before .before .before .before .before .before .before .before .before .before .before .before .before .before .before .before .loop .inv .2
+same-length-3 c = c .before .before .before .before .before .before .before .before .before .deep-laid .kept .1 .1 .1 .1 .1 .1 .0 ∙ c .before .before .before .before .before .before .before .before .before .before .before .before .before .before .before .before .loop .inv .2
 
 same-length-4 : tie.Need-same-length-4 Inv-loop μ-loop
-same-length-4 c = c .before .before .before .before .before .before .before .before .before .before .clock-laid .kept .1 .1 .1 .1 .1 .1 .1 .0 ∙ c .before .before .before .before .before .before .before .before .before .before .before .before .before .before .before .before .before .loop .inv .3
+same-length-4 c = c .before .before .before .before .before .before .before .before .before .deep-laid .kept .1 .1 .1 .1 .1 .1 .1 .0 ∙ c .before .before .before .before .before .before .before .before .before .before .before .before .before .before .before .before .loop .inv .3
 
 returns : tie.Need-returns Inv-loop μ-loop
 returns c =
-    let l = c .before .before .before .before .before .before .before .before .before .before .before .before .before .before .before .before .before .loop in
-    λ ns q g u v x y. nodes-deep _ _ _ _ _ _ _ q _ _ _ (c .before .before .before .before .before .before .before .before .before .before .before .before .before .before .before .before .loop-test .taken) (c .before .before .before .before .before .before .before .before .before .before .before .before .before .before .before .node-at .ensures) (λ n p d. c .before .before .before .before .before .before .before .before .before .before .clock-laid .ensures n p d (still _ _ _ u (l .inv .0)) (still _ _ _ v (l .inv .1)) (still _ _ _ x (l .inv .2)) (still _ _ _ y (l .inv .3))) (l .inv .4 ns q g u v x y) (c .enum-told .given .1)
-
-enum-told-2 : tie.Need-enum-told-2 Inv-loop μ-loop
-enum-told-2 c = search needs
+    let l = c .before .before .before .before .before .before .before .before .before .before .before .before .before .before .before .before .loop in
+    let d = c .before .before .before .before .before .before .before .before .before .deep-laid in
+    λ ns q g u v x y. nodes-deep _ _ _ _ _ q _ _ _ (c .before .before .before .before .before .before .before .before .before .before .before .before .before .before .before .loop-test .taken) (c .before .before .before .before .before .before .before .before .before .before .before .before .before .before .node-at .ensures) (λ n p e. d .ensures n p e (still _ _ _ u (l .inv .0)) (still _ _ _ v (l .inv .1)) (still _ _ _ x (l .inv .2)) (still _ _ _ y (l .inv .3))) (l .inv .4 ns q g u v x y) (c .if1 .taken)
 
 add-i : tie.Need-add-i Inv-loop μ-loop
-add-i c = search (needs, c .before .before .before .before .before .before .before .before .before .before .before .before .before .before .before .before .loop-test .taken, c .before .before .before .before .before .before .before .before .before .before .before .before .before .before .before .before .before .before .before .before .before .before .before .before .fits)
+add-i c = search (needs, c .before .before .before .before .before .before .before .before .before .before .before .before .before .before .before .loop-test .taken, c .before .before .before .before .before .before .before .before .before .before .before .before .before .before .before .before .before .before .before .before .before .before .before .fits)
 
 loop-less : tie.Need-loop-less Inv-loop μ-loop
 loop-less c = search needs
 
 loop-again : tie.Need-loop-again Inv-loop μ-loop
 loop-again c =
-    let l = c .before .before .before .before .before .before .before .before .before .before .before .before .before .before .before .before .before .loop in
-    (c .before .before .before .before .before .before .before .before .before .before .clock-laid .kept .1 .1 .1 .1 .0 ∙ l .inv .0, c .before .before .before .before .before .before .before .before .before .before .clock-laid .kept .1 .1 .1 .1 .1 .0 ∙ l .inv .1, c .before .before .before .before .before .before .before .before .before .before .clock-laid .kept .1 .1 .1 .1 .1 .1 .0 ∙ l .inv .2, c .before .before .before .before .before .before .before .before .before .before .clock-laid .kept .1 .1 .1 .1 .1 .1 .1 .0 ∙ l .inv .3, λ ns q g u v x y. nodes-step _ _ _ _ _ _ _ q _ _ _ (c .before .before .before .before .before .before .before .before .before .before .before .before .before .before .before .before .loop-test .taken) (c .before .before .before .before .before .before .before .before .before .before .before .before .before .before .before .node-at .ensures) (λ n p d. c .before .before .before .before .before .before .before .before .before .before .clock-laid .ensures n p d (still _ _ _ u (l .inv .0)) (still _ _ _ v (l .inv .1)) (still _ _ _ x (l .inv .2)) (still _ _ _ y (l .inv .3))) (l .inv .4 ns q g u v x y) _ _ (c .enum-told2 .given .1))
+    let l = c .before .before .before .before .before .before .before .before .before .before .before .before .before .before .before .before .loop in
+    let d = c .before .before .before .before .before .before .before .before .before .deep-laid in
+    (d .kept .1 .1 .1 .1 .0 ∙ l .inv .0, d .kept .1 .1 .1 .1 .1 .0 ∙ l .inv .1, d .kept .1 .1 .1 .1 .1 .1 .0 ∙ l .inv .2, d .kept .1 .1 .1 .1 .1 .1 .1 .0 ∙ l .inv .3, λ ns q g u v x y. nodes-step _ _ _ _ _ q _ _ _ (c .before .before .before .before .before .before .before .before .before .before .before .before .before .before .before .loop-test .taken) (c .before .before .before .before .before .before .before .before .before .before .before .before .before .before .node-at .ensures) (λ n p e. d .ensures n p e (still _ _ _ u (l .inv .0)) (still _ _ _ v (l .inv .1)) (still _ _ _ x (l .inv .2)) (still _ _ _ y (l .inv .3))) (l .inv .4 ns q g u v x y) (c .if1 .left))
 
 same-length-5 : tie.Need-same-length-5 Inv-loop μ-loop
 same-length-5 c = c .before .loop .inv .0
@@ -87,14 +83,12 @@ first-deep-spec =
     μ-loop
     loop-holds
     node-at-requires
-    clock-laid-requires
-    enum-told
+    deep-laid-requires
     same-length
     same-length-2
     same-length-3
     same-length-4
     returns
-    enum-told-2
     add-i
     loop-less
     loop-again

@@ -10,16 +10,11 @@ value-at-requires c κs = search needs
 past-requires : tie.Need-past-requires
 past-requires c κs = search needs
 
-read-declarations-requires : tie.Need-read-declarations-requires
-read-declarations-requires c κs = search needs
-
-ended-requires : tie.Need-ended-requires
-ended-requires c κs = search needs
+declarations-end-requires : tie.Need-declarations-end-requires
+declarations-end-requires c κs = search needs
 
 returns : tie.Need-returns
-returns c = rw (c .ended .ensures, c .before .read-declarations .ensures, c .before .before .before .value-at .ensures, c .before .before .past .ensures)
+returns c = record { first = c .before .past .ensures; counted = c .before .before .value-at .ensures; ended = c .declarations-end .ensures _ }
 
 pub declared-at-spec : {M : Type 1} → statement M
-declared-at-spec =
-    tie.close
-    (tie.spec value-at-requires past-requires read-declarations-requires ended-requires returns)
+declared-at-spec = tie.close (tie.spec value-at-requires past-requires declarations-end-requires returns)

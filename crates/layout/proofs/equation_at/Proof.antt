@@ -8,14 +8,11 @@ use Rattle.layout.proofs.equation_at.Tie as tie
 names-at-requires : tie.Need-names-at-requires
 names-at-requires c κs = search needs
 
-read-expr-requires : tie.Need-read-expr-requires
-read-expr-requires c κs = search needs
-
-ended-requires : tie.Need-ended-requires
-ended-requires c κs = search needs
+expr-end-requires : tie.Need-expr-end-requires
+expr-end-requires c κs = search needs
 
 returns : tie.Need-returns
-returns c = laid-equation _ _ (c .before .before .before .before .before .pre) _ _ _ (c .before .before .names-at .ensures) _ (c .before .read-expr .ensures) _ (c .ended .ensures)
+returns c = laid-equation _ _ (c .before .before .before .before .pre) _ _ _ (c .before .names-at .ensures) _ (c .expr-end .ensures _ 32)
 
 pub equation-at-spec : {M : Type 1} → statement M
-equation-at-spec = tie.close (tie.spec names-at-requires read-expr-requires ended-requires returns)
+equation-at-spec = tie.close (tie.spec names-at-requires expr-end-requires returns)

@@ -10,16 +10,11 @@ value-at-requires c κs = search needs
 past-requires : tie.Need-past-requires
 past-requires c κs = search needs
 
-read-equations-requires : tie.Need-read-equations-requires
-read-equations-requires c κs = search needs
-
-ended-requires : tie.Need-ended-requires
-ended-requires c κs = search needs
+equations-end-requires : tie.Need-equations-end-requires
+equations-end-requires c κs = search needs
 
 returns : tie.Need-returns
-returns c = rw (c .ended .ensures, c .before .read-equations .ensures, c .before .before .before .value-at .ensures, c .before .before .past .ensures)
+returns c = record { first = c .before .past .ensures; counted = c .before .before .value-at .ensures; ended = c .equations-end .ensures _ }
 
 pub equations-at-spec : {M : Type 1} → statement M
-equations-at-spec =
-    tie.close
-    (tie.spec value-at-requires past-requires read-equations-requires ended-requires returns)
+equations-at-spec = tie.close (tie.spec value-at-requires past-requires equations-end-requires returns)

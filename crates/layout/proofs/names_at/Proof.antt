@@ -10,15 +10,11 @@ value-at-requires c κs = search needs
 past-requires : tie.Need-past-requires
 past-requires c κs = search needs
 
-read-names-requires : tie.Need-read-names-requires
-read-names-requires c κs = search needs
-
-ended-requires : tie.Need-ended-requires
-ended-requires c κs = search needs
+names-end-requires : tie.Need-names-end-requires
+names-end-requires c κs = search needs
 
 returns : tie.Need-returns
-returns c = rw (c .ended .ensures, c .before .read-names .ensures, c .before .before .before .value-at .ensures, c .before .before .past .ensures)
+returns c = record { first = c .before .past .ensures; counted = c .before .before .value-at .ensures; ended = c .names-end .ensures _ }
 
 pub names-at-spec : {M : Type 1} → statement M
-names-at-spec =
-    tie.close (tie.spec value-at-requires past-requires read-names-requires ended-requires returns)
+names-at-spec = tie.close (tie.spec value-at-requires past-requires names-end-requires returns)

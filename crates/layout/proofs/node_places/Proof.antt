@@ -1,12 +1,15 @@
 -- `layout::node_places` meets its contract: the places so far are those of the first nodes. The measure is what is left of n.
 -- Assumes nothing.
 use mathlib.Core.Path.{_≡_, refl, _∙_}
+use mathlib.Core.List.{List}
 use Prim.Native.Nat.{ℕ, _-_, _≤_, _<_}
 use native.Mathlib.Omega.{arith}
 use lib.ListN.{length, getD, length-set}
 use Rattle.definitions.specs.Bytes.{tokens}
+use Rattle.definitions.specs.Tree.{Node}
+use Rattle.definitions.specs.Reading.{got, times}
 use Rattle.definitions.specs.Grammar.{node}
-use Rattle.typedefs.proofs.Laws.{placeAt, placed-more, placed-refused}
+use Rattle.typedefs.proofs.Laws.{placeAt, placed-next}
 use Rattle.layout.proofs.Laws.{nowhere, places}
 use borrow.Author.Needs.{needs}
 use Rattle.layout.proofs.node_places.Statement.{statement}
@@ -14,14 +17,14 @@ use Rattle.layout.proofs.node_places.Tie as tie
 
 abbrev Inv-loop : tie.InvT-loop
 Inv-loop tags values names n at places₀ place₀ i₀ places place i =
-    (i ≤ n) × (length places ≡ 16) × (place ≡ placeAt (node names) (tokens tags values) at i) × ((k : ℕ) → k < i → getD places k 0 ≡ placeAt (node names) (tokens tags values) at k)
+    (i ≤ n) × (length places ≡ 16) × ((l : List Node) (q : ℕ) → times n (node names) (tokens tags values) at ≡ got l q → (place ≡ placeAt (node names) (tokens tags values) at i) × ((k : ℕ) → k < i → getD places k 0 ≡ placeAt (node names) (tokens tags values) at k))
 
 abbrev μ-loop : tie.MeasureT-loop
 μ-loop tags values names n at places₀ place₀ i₀ places place i = n - i
 
 loop-holds : tie.Need-loop-holds Inv-loop μ-loop
 unfolding placeAt
-loop-holds c = (omega arith, refl, refl, λ k h. absurd (omega arith))
+loop-holds c = (omega arith, refl, λ l q g. (refl, λ k h. absurd (omega arith)))
 
 mul-places : tie.Need-mul-places Inv-loop μ-loop
 mul-places c = search needs
@@ -29,11 +32,8 @@ mul-places c = search needs
 array-write-places : tie.Need-array-write-places Inv-loop μ-loop
 array-write-places c = omega arith
 
-read-node-requires : tie.Need-read-node-requires Inv-loop μ-loop
-read-node-requires c κs = search needs
-
-enum-known-item : tie.Need-enum-known-item Inv-loop μ-loop
-enum-known-item c = search needs
+node-at-requires : tie.Need-node-at-requires Inv-loop μ-loop
+node-at-requires c κs = search needs
 
 add-i : tie.Need-add-i Inv-loop μ-loop
 add-i c = search needs
@@ -42,17 +42,14 @@ loop-less : tie.Need-loop-less Inv-loop μ-loop
 loop-less c = search needs
 
 loop-again : tie.Need-loop-again Inv-loop μ-loop
-loop-again c = let m = placed-more (node _) _ _ _ _ (c .before .before .before .before .before .loop .inv .2) _ (c .before .before .before .read-node .ensures) (c .before .before .before .before .before .loop .places) _ (omega arith) (c .before .before .before .before .before .loop .inv .3) (c .before .item .given .1) in
-    (omega arith, length-set (c .before .before .before .before .before .loop .places) (c .before .before .before .before .before .loop .i) (c .before .before .before .before .before .loop .place) ∙ c .before .before .before .before .before .loop .inv .1, m .0, m .1)
-
-enum-told : tie.Need-enum-told Inv-loop μ-loop
-enum-told c = search needs
+loop-again c = (
+  omega arith,
+  length-set (c .before .before .loop .places) (c .before .before .loop .i) (c .before .before .loop .place) ∙ c .before .before .loop .inv .1,
+  λ l q g. placed-next (node _) _ _ _ _ _ _ nowhere (c .before .before .loop .places) l q g (c .before .loop-test .taken) (omega arith) (λ a s r. c .node-at .ensures a s r .ends) (c .before .before .loop .inv .2 l q g),
+)
 
 returns : tie.Need-returns Inv-loop μ-loop
-returns c = λ l q g. absurd (placed-refused (node _) _ _ _ _ (c .before .before .before .before .loop .inv .2) _ (c .before .before .read-node .ensures) _ _ l q nowhere (c .before .before .before .loop-test .taken) (c .enum-told .given .1) g)
-
-returns-2 : tie.Need-returns-2 Inv-loop μ-loop
-returns-2 c = λ l q g. places _ _ _ _ _ l q (λ k h. c .before .loop .inv .3 k (omega (arith, h, c .loop-test .left))) g
+returns c = λ l q g. places _ _ _ _ _ l q (λ k h. c .before .loop .inv .2 l q g .1 k (omega (arith, h, c .loop-test .left))) g
 
 pub node-places-spec : {M : Type 1} → statement M
 node-places-spec =
@@ -63,11 +60,8 @@ node-places-spec =
     loop-holds
     mul-places
     array-write-places
-    read-node-requires
-    enum-known-item
+    node-at-requires
     add-i
     loop-less
     loop-again
-    enum-told
-    returns
-    returns-2)
+    returns)

@@ -10,16 +10,11 @@ value-at-requires c κs = search needs
 past-requires : tie.Need-past-requires
 past-requires c κs = search needs
 
-read-probes-requires : tie.Need-read-probes-requires
-read-probes-requires c κs = search needs
-
-ended-requires : tie.Need-ended-requires
-ended-requires c κs = search needs
+probes-end-requires : tie.Need-probes-end-requires
+probes-end-requires c κs = search needs
 
 returns : tie.Need-returns
-returns c = rw (c .ended .ensures, c .before .read-probes .ensures, c .before .before .before .value-at .ensures, c .before .before .past .ensures)
+returns c = record { first = c .before .past .ensures; counted = c .before .before .value-at .ensures; ended = c .probes-end .ensures _ }
 
 pub probes-at-spec : {M : Type 1} → statement M
-probes-at-spec =
-    tie.close
-    (tie.spec value-at-requires past-requires read-probes-requires ended-requires returns)
+probes-at-spec = tie.close (tie.spec value-at-requires past-requires probes-end-requires returns)

@@ -1,7 +1,5 @@
 -- `listing::measure_node` meets its contract: the place after the listing at the front. Assumes nothing.
-use Prim.Native.Nat.{_-_}
 use Rattle.spelling.proofs.Writing.{put-measure}
-use Rattle.listing.proofs.Lengths.{few}
 use borrow.Author.Needs.{needs}
 use Rattle.listing.proofs.measure_node.Statement.{statement}
 use Rattle.listing.proofs.measure_node.Tie as tie
@@ -12,16 +10,8 @@ slice-aggregate-put-node c = search needs
 put-node-requires : tie.Need-put-node-requires
 put-node-requires c κs = search needs
 
-same-length : tie.Need-same-length
-same-length c = search needs
-
-same-length-2 : tie.Need-same-length-2
-same-length-2 c = search needs
-
 returns : tie.Need-returns
-returns c = (c .before .before .before .before .before .put-node .ensures .0, λ node q k laid h told u v x y z. put-measure (c .before .before .before .before .before .put-node .ensures .1 .1 node q k laid h told u v (few _ z) x y z) (c .before .before .before .before .before .put-node .ensures .1 .0 node q k laid h told u v (few _ z)))
+returns c = (c .before .put-node .ensures .0, λ node q k laid h told e x y z. put-measure (c .before .put-node .ensures .1 .1 node q k laid h told e x y z) (c .before .put-node .ensures .1 .0 node q k laid h told e))
 
 pub measure-node-spec : {M : Type 1} → statement M
-measure-node-spec =
-    tie.close
-    (tie.spec slice-aggregate-put-node put-node-requires same-length same-length-2 returns)
+measure-node-spec = tie.close (tie.spec slice-aggregate-put-node put-node-requires returns)

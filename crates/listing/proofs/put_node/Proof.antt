@@ -1,5 +1,4 @@
 -- `listing::put_node` meets its contract: its parts, one behind another. Assumes nothing.
-use Prim.Native.Nat.{_-_}
 use native.Mathlib.Omega.{arith}
 use denote.Ref.{now}
 use Rattle.fresh.specs.Places.{lettersAt}
@@ -9,9 +8,6 @@ use Rattle.listing.proofs.Lengths.{node-fits}
 use borrow.Author.Needs.{needs}
 use Rattle.listing.proofs.put_node.Statement.{statement}
 use Rattle.listing.proofs.put_node.Tie as tie
-
-chain-rows-requires : tie.Need-chain-rows-requires
-chain-rows-requires c κs = search needs
 
 wide-requires : tie.Need-wide-requires
 wide-requires c κs = search needs
@@ -23,36 +19,27 @@ put-equations-requires : tie.Need-put-equations-requires
 put-equations-requires c κs = search needs
 
 put-chains-requires : tie.Need-put-chains-requires
-put-chains-requires c κs = omega (arith, c .before .before .before .before .before .before .before .before .before .before .before .before .before .before .before .before .before .before .before .before .before .before .before .before .before .before .before .before .before .before .pre .0, put-length (c .before .before .before .before .before .before .before .before .before .put-head .ensures), c .before .before .before .before .before .put-equations .kept .0)
+put-chains-requires c κs = omega (arith, c .before .before .before .before .before .before .before .before .before .before .before .before .before .before .before .before .before .before .before .before .before .pre .0, put-length (c .before .before .before .before .before .before .before .put-head .ensures), c .before .before .before .put-equations .kept .0)
 
 put-faults-requires : tie.Need-put-faults-requires
-put-faults-requires c κs = omega (arith, c .before .before .before .before .before .before .before .before .before .before .before .before .before .before .before .before .before .before .before .before .before .before .before .before .before .before .before .before .before .before .before .before .before .before .pre .0, put-length (c .before .before .before .before .before .before .before .before .before .before .before .before .before .put-head .ensures), c .before .before .before .before .before .before .before .before .before .put-equations .kept .0, put-length (c .before .before .before .put-chains .ensures))
+put-faults-requires c κs = omega (arith, c .before .before .before .before .before .before .before .before .before .before .before .before .before .before .before .before .before .before .before .before .before .before .before .before .before .pre .0, put-length (c .before .before .before .before .before .before .before .before .before .before .before .put-head .ensures), c .before .before .before .before .before .before .before .put-equations .kept .0, put-length (c .before .before .before .put-chains .ensures))
 
 same-length : tie.Need-same-length
 same-length c = search needs
 
-same-length-2 : tie.Need-same-length-2
-same-length-2 c = c .before .before .before .before .before .before .before .before .before .before .before .before .before .before .before .before .before .before .before .before .before .before .before .before .chain-rows .kept .1 .1 .1 .1 .0
-
-same-length-3 : tie.Need-same-length-3
-same-length-3 c = search needs
-
 returns : tie.Need-returns
 returns c =
-    let s = c .before .before .before .before .before .before .before .before .before .before .before .before .before .before .before .before .before .before .before .before .before .before .before .before .before .before .before .before .before .before .before .before .before .before .before .before .before in
-    (omega (arith, c .before .before .put-faults .ensures .place), (λ node q k laid h told u v w. node-put (lettersAt (now (s .args .starts)) (now (s .args .letters))) _ _ _ node q _ k (now (s .args .env)) (now (s .args .table)) _ _ _ _ _ _ laid h told (c .before .before .before .before .before .before .before .before .before .before .before .before .before .before .before .before .before .before .before .before .before .before .before .before .chain-rows .ensures u v w) (c .before .before .before .before .before .before .before .before .before .before .before .before .before .before .before .before .before .before .wide .ensures) (s .pre .0) (c .before .before .before .before .before .before .before .before .before .before .before .before .before .before .before .before .put-head .ensures) (c .before .before .before .before .before .before .before .before .before .before .before .before .put-equations .ensures .0) (c .before .before .before .before .before .before .put-chains .ensures) (c .before .before .put-faults .ensures), λ node q k laid h told u v w x y z. node-fits (now (s .args .starts)) (now (s .args .letters)) _ _ (now (s .args .tags)) (now (s .args .values)) node q _ k (now (s .args .env)) (now (s .args .table)) _ _ _ _ _ (s .pre .1) laid h told (c .before .before .before .before .before .before .before .before .before .before .before .before .before .before .before .before .before .before .before .before .before .before .before .before .chain-rows .ensures u v w) (c .before .before .before .before .before .before .before .before .before .before .before .before .put-equations .ensures .1) x y z))
+    let s = c .before .before .before .before .before .before .before .before .before .before .before .before .before .before .before .before .before .before .before .before .before .before .before .before .before .before .before .before in
+    (omega (arith, c .before .before .put-faults .ensures .place), (λ node q k laid h told e. node-put (lettersAt (now (s .args .starts)) (now (s .args .letters))) _ _ _ node q _ k (now (s .args .env)) (now (s .args .table)) _ _ _ _ _ _ laid h told e (c .before .before .before .before .before .before .before .before .before .before .before .before .before .before .before .before .wide .ensures) (s .pre .0) (c .before .before .before .before .before .before .before .before .before .before .before .before .before .before .put-head .ensures) (c .before .before .before .before .before .before .before .before .before .before .put-equations .ensures .0) (c .before .before .before .before .before .before .put-chains .ensures) (c .before .before .put-faults .ensures), λ node q k laid h told e x y z. node-fits (now (s .args .starts)) (now (s .args .letters)) _ _ (now (s .args .tags)) (now (s .args .values)) node q _ k (now (s .args .env)) (now (s .args .table)) _ _ _ _ _ (s .pre .1) laid h told e (c .before .before .before .before .before .before .before .before .before .before .put-equations .ensures .1) x y z))
 
 pub put-node-spec : {M : Type 1} → statement M
 put-node-spec =
     tie.close
     (tie.spec
-    chain-rows-requires
     wide-requires
     put-head-requires
     put-equations-requires
     put-chains-requires
     put-faults-requires
     same-length
-    same-length-2
-    same-length-3
     returns)

@@ -7,6 +7,7 @@ use lib.ListN.{length}
 use Rattle.operands.proofs.Laws.{spread-nil}
 use Rattle.operands.proofs.Roles.{arm}
 use Rattle.natural.proofs.Low.{arm-low}
+use Rattle.natural.proofs.Leaf.{leaf-past, leaf-rest}
 use Rattle.natural.proofs.Laws.{none-found, at-or-past, walk-past, walk-rest, walk-here, name-arm, spread-end, var-ends, sample-arm, join-branches, join-name, rest-arm}
 use borrow.Author.Needs.{needs}
 use Prim.Native.Nat.{ℕ, _<_, _+_, _-_, _*_, _^_}
@@ -23,6 +24,7 @@ use Rattle.natural.proofs.operand_clock.Kinds as operand-clock-kinds
 use Rattle.natural.proofs.+first_found+natural_clock+operand_clock.Lts-operand_clock as operand-clock-lts
 use Rattle.environment.proofs.lookup.Reads as lookup-reads
 use Rattle.natural.proofs.above.Reads as above-reads
+use Rattle.natural.proofs.free_leaf.Reads as free-leaf-reads
 use Rattle.natural.proofs.is_free.Reads as is-free-reads
 use Rattle.natural.proofs.nothing.Reads as nothing-reads
 use Rattle.natural.proofs.sampled.Reads as sampled-reads
@@ -74,7 +76,7 @@ operand-clock-below t =
     operand-clock.Pre
 
 abbrev first-found-uses : ℕ → first-found-lts.Claims
-first-found-uses t = (nothing-reads.Asked, nothing-reads.Learnt, operand-at-reads.Asked, operand-at-reads.Learnt, operand-clock-below t, operand-clock.Post, is-free-reads.Asked, is-free-reads.Learnt, after-operand-reads.Asked, after-operand-reads.Learnt, first-found-below t, first-found.Post)
+first-found-uses t = (nothing-reads.Asked, nothing-reads.Learnt, operand-at-reads.Asked, operand-at-reads.Learnt, free-leaf-reads.Asked, free-leaf-reads.Learnt, after-operand-reads.Asked, after-operand-reads.Learnt, first-found-below t, first-found.Post, operand-clock-below t, operand-clock.Post, is-free-reads.Asked, is-free-reads.Learnt)
 
 abbrev natural-clock-uses : ℕ → natural-clock-lts.Claims
 natural-clock-uses t = (view-at-reads.Asked, view-at-reads.Learnt, nothing-reads.Asked, nothing-reads.Learnt, lookup-reads.Asked, lookup-reads.Learnt, first-found-below t, first-found.Post, sampled-reads.Asked, sampled-reads.Learnt, is-free-reads.Asked, is-free-reads.Learnt)
@@ -91,11 +93,8 @@ first-found-returns t c = λ es q clocks g a. let i = spread-nil _ _ _ _ _ _ es 
 first-found-operand-at-requires : (t : ℕ) → first-found-lts.Need-operand-at-requires (first-found-uses t) (first-found-at t) first-found.Post
 first-found-operand-at-requires t c κs = search needs
 
-first-found-operand-clock-requires : (t : ℕ) → first-found-lts.Need-operand-clock-requires (first-found-uses t) (first-found-at t) first-found.Post
-first-found-operand-clock-requires t c κs = let l = at-or-past (length (now (c .before .before .before .before .before .args .tags))) (c .before .before .before .before .before .args .gap) (c .before .before .before .before .before .args .at) (c .operand-at .result) (c .operand-at .ensures) in (omega arith, c .before .before .before .before .before .pre .1)
-
-first-found-is-free-requires : (t : ℕ) → first-found-lts.Need-is-free-requires (first-found-uses t) (first-found-at t) first-found.Post
-first-found-is-free-requires t c κs = search needs
+first-found-free-leaf-requires : (t : ℕ) → first-found-lts.Need-free-leaf-requires (first-found-uses t) (first-found-at t) first-found.Post
+first-found-free-leaf-requires t c κs = search needs
 
 first-found-after-operand-requires : (t : ℕ) → first-found-lts.Need-after-operand-requires (first-found-uses t) (first-found-at t) first-found.Post
 first-found-after-operand-requires t c κs = search needs
@@ -104,7 +103,7 @@ first-found-nothing-requires-2 : (t : ℕ) → first-found-lts.Need-nothing-requ
 first-found-nothing-requires-2 t c κs = search needs
 
 first-found-returns-2 : (t : ℕ) → first-found-lts.Need-returns-2 (first-found-uses t) (first-found-at t) first-found.Post
-first-found-returns-2 t c = λ es q clocks g a. absurd (omega (arith, walk-past _ (now (c .before .before .before .before .before .before .before .before .before .before .before .before .args .tags)) (now (c .before .before .before .before .before .before .before .before .before .before .before .before .args .values)) (now (c .before .before .before .before .before .before .before .before .before .before .before .before .args .env)) (c .before .before .before .before .before .before .before .before .before .before .before .before .pre .1) (c .before .before .before .before .before .before .before .before .before .before .before .before .args .up) (c .before .before .before .before .before .before .before .before .before .before .before .before .args .gap) (c .before .before .before .before .before .before .before .before .before .before .before .before .args .count) (c .before .before .before .before .before .before .before .before .before .before .before .before .args .at) (c .before .before .before .before .before .before .before .operand-at .result) (c .before .before .before .before .before .before .before .before .if1 .left) (c .before .before .before .before .before .before .before .operand-at .ensures) _ (c .before .before .before .before .before .before .operand-clock .ensures) es q clocks g a (sym (c .before .before .before .before .is-free .ensures) ∙ c .before .before .before .if2 .taken) _ (c .before .before .after-operand .ensures .0), c .before .if3 .taken))
+first-found-returns-2 t c = λ es q clocks g a. absurd (omega (arith, leaf-past _ (now (c .before .before .before .before .before .before .before .before .before .before .args .tags)) (now (c .before .before .before .before .before .before .before .before .before .before .args .values)) (now (c .before .before .before .before .before .before .before .before .before .before .args .env)) (c .before .before .before .before .before .before .before .before .before .before .pre .1) (c .before .before .before .before .before .before .before .before .before .before .args .up) (c .before .before .before .before .before .before .before .before .before .before .args .gap) (c .before .before .before .before .before .before .before .before .before .before .args .count) (c .before .before .before .before .before .before .before .before .before .before .args .at) (c .before .before .before .before .before .operand-at .result) (c .before .before .before .before .before .before .if1 .left) (c .before .before .before .before .before .operand-at .ensures) _ (c .before .before .before .if2 .taken) (c .before .before .before .before .free-leaf .ensures) es q clocks g a _ (c .before .before .after-operand .ensures .0), c .before .if3 .taken))
 
 first-found-sub-first-found : (t : ℕ) → first-found-lts.Need-sub-first-found (first-found-uses t) (first-found-at t) first-found.Post
 first-found-sub-first-found t c = search needs
@@ -113,10 +112,34 @@ first-found-first-found-requires : (t : ℕ) → first-found-lts.Need-first-foun
 first-found-first-found-requires t c κs = search needs
 
 first-found-returns-3 : (t : ℕ) → first-found-lts.Need-returns-3 (first-found-uses t) (first-found-at t) first-found.Post
-first-found-returns-3 t c = λ es q clocks g a. walk-rest _ (now (c .before .before .before .before .before .before .before .before .before .before .before .before .args .tags)) (now (c .before .before .before .before .before .before .before .before .before .before .before .before .args .values)) (now (c .before .before .before .before .before .before .before .before .before .before .before .before .args .env)) (c .before .before .before .before .before .before .before .before .before .before .before .before .pre .1) (c .before .before .before .before .before .before .before .before .before .before .before .before .args .up) (c .before .before .before .before .before .before .before .before .before .before .before .before .args .gap) (c .before .before .before .before .before .before .before .before .before .before .before .before .args .count) (c .before .before .before .before .before .before .before .before .before .before .before .before .args .at) (c .before .before .before .before .before .before .before .operand-at .result) (c .before .before .before .before .before .before .before .before .if1 .left) (c .before .before .before .before .before .before .before .operand-at .ensures) _ (c .before .before .before .before .before .before .operand-clock .ensures) es q clocks g a (sym (c .before .before .before .before .is-free .ensures) ∙ c .before .before .before .if2 .taken) _ (c .before .before .after-operand .ensures .0) _ _ (c .before .before .after-operand .ensures .1) (c .first-found .ensures)
+first-found-returns-3 t c = λ es q clocks g a. leaf-rest _ (now (c .before .before .before .before .before .before .before .before .before .before .args .tags)) (now (c .before .before .before .before .before .before .before .before .before .before .args .values)) (now (c .before .before .before .before .before .before .before .before .before .before .args .env)) (c .before .before .before .before .before .before .before .before .before .before .pre .1) (c .before .before .before .before .before .before .before .before .before .before .args .up) (c .before .before .before .before .before .before .before .before .before .before .args .gap) (c .before .before .before .before .before .before .before .before .before .before .args .count) (c .before .before .before .before .before .before .before .before .before .before .args .at) (c .before .before .before .before .before .operand-at .result) (c .before .before .before .before .before .before .if1 .left) (c .before .before .before .before .before .operand-at .ensures) _ (c .before .before .before .if2 .taken) (c .before .before .before .before .free-leaf .ensures) es q clocks g a _ (c .before .before .after-operand .ensures .0) _ _ (c .before .before .after-operand .ensures .1) (c .first-found .ensures)
+
+first-found-operand-clock-requires : (t : ℕ) → first-found-lts.Need-operand-clock-requires (first-found-uses t) (first-found-at t) first-found.Post
+first-found-operand-clock-requires t c κs = let l = at-or-past (length (now (c .before .before .before .before .before .before .before .args .tags))) (c .before .before .before .before .before .before .before .args .gap) (c .before .before .before .before .before .before .before .args .at) (c .before .before .operand-at .result) (c .before .before .operand-at .ensures) in (omega arith, c .before .before .before .before .before .before .before .pre .1)
+
+first-found-is-free-requires : (t : ℕ) → first-found-lts.Need-is-free-requires (first-found-uses t) (first-found-at t) first-found.Post
+first-found-is-free-requires t c κs = search needs
+
+first-found-after-operand-requires-2 : (t : ℕ) → first-found-lts.Need-after-operand-requires-2 (first-found-uses t) (first-found-at t) first-found.Post
+first-found-after-operand-requires-2 t c κs = search needs
+
+first-found-nothing-requires-3 : (t : ℕ) → first-found-lts.Need-nothing-requires-3 (first-found-uses t) (first-found-at t) first-found.Post
+first-found-nothing-requires-3 t c κs = search needs
 
 first-found-returns-4 : (t : ℕ) → first-found-lts.Need-returns-4 (first-found-uses t) (first-found-at t) first-found.Post
-first-found-returns-4 t c = λ es q clocks g a. walk-here _ (now (c .before .before .before .before .before .before .before .before .before .args .tags)) (now (c .before .before .before .before .before .before .before .before .before .args .values)) (now (c .before .before .before .before .before .before .before .before .before .args .env)) (c .before .before .before .before .before .before .before .before .before .pre .1) (c .before .before .before .before .before .before .before .before .before .args .up) (c .before .before .before .before .before .before .before .before .before .args .gap) (c .before .before .before .before .before .before .before .before .before .args .count) (c .before .before .before .before .before .before .before .before .before .args .at) (c .before .before .before .before .operand-at .result) (c .before .before .before .before .before .if1 .left) (c .before .before .before .before .operand-at .ensures) _ (c .before .before .before .operand-clock .ensures) es q clocks g a (sym (c .before .is-free .ensures) ∙ c .if2 .left)
+first-found-returns-4 t c = λ es q clocks g a. absurd (omega (arith, walk-past _ (now (c .before .before .before .before .before .before .before .before .before .before .before .before .before .before .args .tags)) (now (c .before .before .before .before .before .before .before .before .before .before .before .before .before .before .args .values)) (now (c .before .before .before .before .before .before .before .before .before .before .before .before .before .before .args .env)) (c .before .before .before .before .before .before .before .before .before .before .before .before .before .before .pre .1) (c .before .before .before .before .before .before .before .before .before .before .before .before .before .before .args .up) (c .before .before .before .before .before .before .before .before .before .before .before .before .before .before .args .gap) (c .before .before .before .before .before .before .before .before .before .before .before .before .before .before .args .count) (c .before .before .before .before .before .before .before .before .before .before .before .before .before .before .args .at) (c .before .before .before .before .before .before .before .before .before .operand-at .result) (c .before .before .before .before .before .before .before .before .before .before .if1 .left) (c .before .before .before .before .before .before .before .before .before .operand-at .ensures) _ (c .before .before .before .before .before .before .operand-clock .ensures) es q clocks g a (sym (c .before .before .before .before .is-free .ensures) ∙ c .before .before .before .if4 .taken) _ (c .before .before .after-operand2 .ensures .0), c .before .if5 .taken))
+
+first-found-sub-first-found-2 : (t : ℕ) → first-found-lts.Need-sub-first-found-2 (first-found-uses t) (first-found-at t) first-found.Post
+first-found-sub-first-found-2 t c = search needs
+
+first-found-first-found-requires-2 : (t : ℕ) → first-found-lts.Need-first-found-requires-2 (first-found-uses t) (first-found-at t) first-found.Post
+first-found-first-found-requires-2 t c κs = search needs
+
+first-found-returns-5 : (t : ℕ) → first-found-lts.Need-returns-5 (first-found-uses t) (first-found-at t) first-found.Post
+first-found-returns-5 t c = λ es q clocks g a. walk-rest _ (now (c .before .before .before .before .before .before .before .before .before .before .before .before .before .before .args .tags)) (now (c .before .before .before .before .before .before .before .before .before .before .before .before .before .before .args .values)) (now (c .before .before .before .before .before .before .before .before .before .before .before .before .before .before .args .env)) (c .before .before .before .before .before .before .before .before .before .before .before .before .before .before .pre .1) (c .before .before .before .before .before .before .before .before .before .before .before .before .before .before .args .up) (c .before .before .before .before .before .before .before .before .before .before .before .before .before .before .args .gap) (c .before .before .before .before .before .before .before .before .before .before .before .before .before .before .args .count) (c .before .before .before .before .before .before .before .before .before .before .before .before .before .before .args .at) (c .before .before .before .before .before .before .before .before .before .operand-at .result) (c .before .before .before .before .before .before .before .before .before .before .if1 .left) (c .before .before .before .before .before .before .before .before .before .operand-at .ensures) _ (c .before .before .before .before .before .before .operand-clock .ensures) es q clocks g a (sym (c .before .before .before .before .is-free .ensures) ∙ c .before .before .before .if4 .taken) _ (c .before .before .after-operand2 .ensures .0) _ _ (c .before .before .after-operand2 .ensures .1) (c .first-found2 .ensures)
+
+first-found-returns-6 : (t : ℕ) → first-found-lts.Need-returns-6 (first-found-uses t) (first-found-at t) first-found.Post
+first-found-returns-6 t c = λ es q clocks g a. walk-here _ (now (c .before .before .before .before .before .before .before .before .before .before .before .args .tags)) (now (c .before .before .before .before .before .before .before .before .before .before .before .args .values)) (now (c .before .before .before .before .before .before .before .before .before .before .before .args .env)) (c .before .before .before .before .before .before .before .before .before .before .before .pre .1) (c .before .before .before .before .before .before .before .before .before .before .before .args .up) (c .before .before .before .before .before .before .before .before .before .before .before .args .gap) (c .before .before .before .before .before .before .before .before .before .before .before .args .count) (c .before .before .before .before .before .before .before .before .before .before .before .args .at) (c .before .before .before .before .before .before .operand-at .result) (c .before .before .before .before .before .before .before .if1 .left) (c .before .before .before .before .before .before .operand-at .ensures) _ (c .before .before .before .operand-clock .ensures) es q clocks g a (sym (c .before .is-free .ensures) ∙ c .if4 .left)
 
 natural-clock-view-at-requires : (t : ℕ) → natural-clock-lts.Need-view-at-requires (natural-clock-uses t) (natural-clock-at t) natural-clock.Post
 natural-clock-view-at-requires t c κs = search needs
@@ -192,15 +215,22 @@ pub +first-found+natural-clock+operand-clock-spec : {M : Type 1} → statement M
     (first-found-nothing-requires t)
     (first-found-returns t)
     (first-found-operand-at-requires t)
-    (first-found-operand-clock-requires t)
-    (first-found-is-free-requires t)
+    (first-found-free-leaf-requires t)
     (first-found-after-operand-requires t)
     (first-found-nothing-requires-2 t)
     (first-found-returns-2 t)
     (first-found-sub-first-found t)
     (first-found-first-found-requires t)
     (first-found-returns-3 t)
-    (first-found-returns-4 t))
+    (first-found-operand-clock-requires t)
+    (first-found-is-free-requires t)
+    (first-found-after-operand-requires-2 t)
+    (first-found-nothing-requires-3 t)
+    (first-found-returns-4 t)
+    (first-found-sub-first-found-2 t)
+    (first-found-first-found-requires-2 t)
+    (first-found-returns-5 t)
+    (first-found-returns-6 t))
     (λ t. natural-clock-lts.spec (natural-clock-uses t)
     (natural-clock-at t)
     natural-clock.Post

@@ -1,7 +1,7 @@
 -- `natural::above` meets its contract: a clock without a parent leaves the place to be found.
 -- Assumes nothing.
 use mathlib.Core.Path.{refl, sym, _∙_}
-use Rattle.natural.proofs.Laws.{above-free, above-none, above-some, skip-end}
+use Rattle.natural.proofs.Laws.{above-free, above-none, above-some}
 use borrow.Author.Needs.{needs}
 use Rattle.natural.proofs.above.Statement.{statement}
 use Rattle.natural.proofs.above.Tie as tie
@@ -18,14 +18,14 @@ parent-of-requires c κs = search needs
 is-free-requires-2 : tie.Need-is-free-requires-2
 is-free-requires-2 c κs = search needs
 
-skip-requires : tie.Need-skip-requires
-skip-requires c κs = search needs
+expr-end-requires : tie.Need-expr-end-requires
+expr-end-requires c κs = search needs
 
 nothing-requires : tie.Need-nothing-requires
 nothing-requires c κs = search needs
 
 returns-2 : tie.Need-returns-2
-returns-2 c = λ e q n g h. above-none _ n q h _ _ (c .before .before .before .before .parent-of .ensures) (sym (c .before .before .before .is-free2 .ensures) ∙ c .before .before .if2 .taken) (c .nothing .ensures .0, c .nothing .ensures .1 ∙ skip-end _ _ _ e q _ g (c .before .skip .ensures))
+returns-2 c = λ e q n g h. above-none _ n q h _ _ (c .before .before .before .before .parent-of .ensures) (sym (c .before .before .before .is-free2 .ensures) ∙ c .before .before .if2 .taken) (c .nothing .ensures .0, c .nothing .ensures .1 ∙ c .before .expr-end .ensures _ _ e q g)
 
 returns-3 : tie.Need-returns-3
 returns-3 c = λ e q n g h. above-some _ n q h _ _ (c .before .before .parent-of .ensures) (sym (c .before .is-free2 .ensures) ∙ c .if2 .left) refl
@@ -38,7 +38,7 @@ above-spec =
     returns
     parent-of-requires
     is-free-requires-2
-    skip-requires
+    expr-end-requires
     nothing-requires
     returns-2
     returns-3)

@@ -5,8 +5,8 @@ use borrow.Author.Needs.{needs}
 use Rattle.operands.proofs.behind_start.Statement.{statement}
 use Rattle.operands.proofs.behind_start.Tie as tie
 
-skip-requires : tie.Need-skip-requires
-skip-requires c κs = search needs
+expr-end-requires : tie.Need-expr-end-requires
+expr-end-requires c κs = search needs
 
 read-count-requires : tie.Need-read-count-requires
 read-count-requires c κs = search needs
@@ -24,16 +24,16 @@ plain-requires : tie.Need-plain-requires
 plain-requires c κs = search needs
 
 returns : tie.Need-returns
-returns c = start-behind _ _ _ _ _ (c .before .before .before .before .skip .ensures) (c .before .before .before .read-count .ensures) _ _ (c .before .count .given .1)
+returns c = λ e q g. start-behind _ _ _ q _ (c .before .before .before .before .expr-end .ensures _ _ e q g) (c .before .before .before .read-count .ensures) _ _ (c .before .count .given .1)
 
 returns-2 : tie.Need-returns-2
-returns-2 c = start-none _ _ _ _ _ (c .before .before .before .before .skip .ensures) (c .before .before .before .read-count .ensures) _ _ (c .before .enum-told .given .1) (c .plain .ensures)
+returns-2 c = λ e q g. start-none _ _ _ q _ (c .before .before .before .before .expr-end .ensures _ _ e q g) (c .before .before .before .read-count .ensures) _ _ (c .before .enum-told .given .1) (c .plain .ensures)
 
 pub behind-start-spec : {M : Type 1} → statement M
 behind-start-spec =
     tie.close
     (tie.spec
-    skip-requires
+    expr-end-requires
     read-count-requires
     enum-known-count
     add-t9

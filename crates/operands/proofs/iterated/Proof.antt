@@ -24,13 +24,13 @@ plain-requires : tie.Need-plain-requires
 plain-requires c κs = search needs
 
 returns : tie.Need-returns
-returns c = iterated-plain _ _ _ _ (c .before .before .before .before .before .read-count .ensures) _ _ _ (c .before .before .before .count .given .1) (c .before .if1 .taken) (c .behind-count .ensures)
+returns c = λ es q g. iterated-plain _ _ _ _ (c .before .before .before .before .before .read-count .ensures) _ _ _ (c .before .before .before .count .given .1) (c .before .if1 .taken) (c .behind-count .ensures)
 
 returns-2 : tie.Need-returns-2
 returns-2 c = iterated-started _ _ _ _ (c .before .before .before .before .before .read-count .ensures) _ _ _ (c .before .before .before .count .given .1) (c .before .if1 .left) (c .behind-start .ensures)
 
 returns-3 : tie.Need-returns-3
-returns-3 c = iterated-none _ _ _ _ (c .before .before .before .read-count .ensures) _ _ (c .before .enum-told .given .1) (c .plain .ensures)
+returns-3 c = λ es q g. iterated-none _ _ _ _ (c .before .before .before .read-count .ensures) _ _ (c .before .enum-told .given .1) (c .plain .ensures)
 
 pub iterated-spec : {M : Type 1} → statement M
 iterated-spec =

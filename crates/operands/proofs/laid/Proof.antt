@@ -46,25 +46,25 @@ iterated-requires : tie.Need-iterated-requires
 iterated-requires c κs = search needs
 
 returns : tie.Need-returns
-returns c = wide-in _ _ _ (c .before .before .before .before .before .before .pre) _ _ _ _ (c .before .before .enum-told .given .1) (c .before .past .ensures) (c .plain .ensures)
+returns c = λ es q g. wide-in _ _ _ (c .before .before .before .before .before .before .pre) _ _ _ _ (c .before .before .enum-told .given .1) (c .before .past .ensures) (c .plain .ensures)
 
 returns-2 : tie.Need-returns-2
 unfolding operandsAt
-returns-2 c = rw (c .before .before .shape .given .1) (c .plain2 .ensures)
+returns-2 c = λ es q g. rw (c .before .before .shape .given .1) (c .plain2 .ensures)
 
 returns-3 : tie.Need-returns-3
 unfolding operandsAt
-returns-3 c = rw (c .before .enum-told2 .given .1) (c .behind-count .ensures)
+returns-3 c = λ es q g. rw (c .before .enum-told2 .given .1) (c .behind-count .ensures)
 
 returns-4 : tie.Need-returns-4
 unfolding operandsAt
-returns-4 c = rw (c .before .enum-told3 .given .1) (c .behind-count2 .ensures)
+returns-4 c = λ es q g. rw (c .before .enum-told3 .given .1) (c .behind-count2 .ensures)
 
 returns-5 : tie.Need-returns-5
-returns-5 c = rw (c .before .enum-told4 .given .1) (c .behind-type .ensures)
+returns-5 c = λ es q g. rw (c .before .enum-told4 .given .1) (c .behind-type .ensures)
 
 returns-6 : tie.Need-returns-6
-returns-6 c = rw (c .before .enum-told5 .given .1) (c .iterated .ensures)
+returns-6 c = λ es q g. rw (c .before .enum-told5 .given .1) (c .iterated .ensures es q (rw (c .before .enum-told5 .given .1) at g))
 
 pub laid-spec : {M : Type 1} → statement M
 laid-spec =

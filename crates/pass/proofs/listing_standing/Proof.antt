@@ -1,57 +1,34 @@
 -- `pass::listing_standing` meets its contract. Assumes nothing.
-use mathlib.Core.Path.{refl}
-use Rattle.query.proofs.Listings.{told-own, roomy}
-use Rattle.pass.proofs.Given.{listing-turned, node-there, few-there, listing-given}
+use borrow.Author.Tests.{leb-true}
 use borrow.Author.Needs.{needs}
 use Rattle.pass.proofs.listing_standing.Statement.{statement}
 use Rattle.pass.proofs.listing_standing.Tie as tie
 
-slice-aggregate-clock-at : tie.Need-slice-aggregate-clock-at
-slice-aggregate-clock-at c = search needs
-
-slice-aggregate-clock-at-2 : tie.Need-slice-aggregate-clock-at-2
-slice-aggregate-clock-at-2 c = search needs
-
-clock-at-requires : tie.Need-clock-at-requires
-clock-at-requires c κs = search needs
-
-enum-known-found : tie.Need-enum-known-found
-enum-known-found c = search needs
-
-enum-known-found-2 : tie.Need-enum-known-found-2
-enum-known-found-2 c = search needs
-
-slice-aggregate-listing-told : tie.Need-slice-aggregate-listing-told
-slice-aggregate-listing-told c = search needs
-
-slice-aggregate-listing-told-2 : tie.Need-slice-aggregate-listing-told-2
-slice-aggregate-listing-told-2 c = search needs
-
-listing-told-requires : tie.Need-listing-told-requires
-listing-told-requires c κs = c .before .before .before .before .before .before .before .before .before .before .before .before .before .before .before .before .pre
-
-returns : tie.Need-returns
-returns c = λ i s. listing-turned _ _ _ _ i _ _ (c .before .before .before .before .before .clock-at .ensures i _ (s .tree) (roomy _ _ _ _ (s .few-names) (s .few-tokens) refl refl)) _ _ (c .before .found .given .1)
+listing-small-requires : tie.Need-listing-small-requires
+listing-small-requires c κs = search needs
 
 same-length : tie.Need-same-length
 same-length c = search needs
 
+returns : tie.Need-returns
+returns c = λ i s. c .before .before .listing-small .ensures i s (c .before .before .before .before .before .if1 .taken) (leb-true _ _ (c .before .before .before .before .if2 .taken))
+
+listing-large-requires : tie.Need-listing-large-requires
+listing-large-requires c κs = search needs
+
+same-length-2 : tie.Need-same-length-2
+same-length-2 c = search needs
+
 returns-2 : tie.Need-returns-2
-returns-2 c =
-    λ i s. let z = node-there _ _ _ _ i _ _ (c .before .before .before .before .before .before .before .before .before .before .before .clock-at .ensures i _ (s .tree) (roomy _ _ _ _ (s .few-names) (s .few-tokens) refl refl)) _ (c .before .before .before .before .before .before .before .found2 .given .1) in listing-given _ i _ _ (z .0) _ _ _ (s .named) (z .2 .number) (z .1) (c .before .before .listing-told .ensures (z .0) (told-own _ _ _ _ _ _ _ (z .2)) (s .few-letters) (s .few-tokens) (few-there _ _ _ _ _ _ _ (z .2) _ (c .before .before .before .before .before .before .before .before .before .before .before .clock-at .kept .1 .1 .1 .1 .1 .0) refl))
+returns-2 c = c .before .before .listing-large .ensures
 
 pub listing-standing-spec : {M : Type 1} → statement M
 listing-standing-spec =
     tie.close
     (tie.spec
-    slice-aggregate-clock-at
-    slice-aggregate-clock-at-2
-    clock-at-requires
-    enum-known-found
-    enum-known-found-2
-    slice-aggregate-listing-told
-    slice-aggregate-listing-told-2
-    listing-told-requires
-    returns
+    listing-small-requires
     same-length
+    returns
+    listing-large-requires
+    same-length-2
     returns-2)

@@ -17,7 +17,7 @@ same-length : tie.Need-same-length
 same-length c = search needs
 
 returns : tie.Need-returns
-returns c = λ n q clocks m g a. c .before .before .before .repeat-passes .ensures n q clocks m (c .before .before .before .before .before .before .before .equation-ends .ensures) g a
+returns c = λ n q clocks m g a. c .before .before .before .repeat-passes .ensures n q clocks m (c .before .before .before .before .before .before .before .equation-ends .ensures (n .equations) q g) g a
 
 pub all-passes-spec : {M : Type 1} → statement M
 all-passes-spec =

@@ -6,7 +6,6 @@ use Rattle.passes.proofs.Laws.{ports-marked, ports-on-base, infers-node
 use borrow.Author.Needs.{needs}
 use Rattle.passes.proofs.infer.Statement.{statement}
 use Rattle.passes.proofs.infer.Tie as tie
-use Rattle.passes.proofs.clear.Reads as clear-reads′
 
 clear-requires : tie.Need-clear-requires
 clear-requires c κs = search needs
@@ -31,10 +30,16 @@ same-length-2 c = search needs
 
 returns : tie.Need-returns
 returns c = λ n q l u v.
-    let a = c .before .before .before .before .before .before .before .before .before .before .before .before .before .before .before .before .before .before .set-ports .ensures (n .inputs) _ (l .inputs .items) (omega (arith, c .before .before .before .before .before .before .before .before .before .before .before .before .before .before .before .before .before .before .before .before .before .before .before .before .before .before .before .before .clear .kept .0, u)) (omega (arith, c .before .before .before .before .before .before .before .before .before .before .before .before .before .before .before .before .before .before .before .before .before .before .before .before .clear2 .kept .0, v)) in
-    let b = c .before .before .before .before .before .before .before .before .before .before .set-ports2 .ensures (n .outputs) _ (l .outputs .items) (omega (arith, c .before .before .before .before .before .before .before .before .before .before .before .before .before .before .before .before .before .before .before .before .before .before .before .before .before .before .before .before .clear .kept .0, c .before .before .before .before .before .before .before .before .before .before .before .before .before .before .before .before .before .before .set-ports .kept .1 .1 .1 .1 .1 .0, u)) (omega (arith, c .before .before .before .before .before .before .before .before .before .before .before .before .before .before .before .before .before .before .before .before .before .before .before .before .clear2 .kept .0, c .before .before .before .before .before .before .before .before .before .before .before .before .before .before .before .before .before .before .set-ports .kept .1 .1 .1 .1 .1 .1 .0, v)) in
-    let k = ports-marked (c .before .before .before .before .before .before .before .before .before .before .before .before .before .before .before .before .before .before .before .before .before .before .before .before .before .before .before .before .before .before .before .before .before .before .args .names) n (now (c .before .before .before .before .before .before .before .before .before .before .before .before .before .before .before .before .before .before .before .before .before .before .before .before .before .before .before .before .before .before .before .before .before .before .args .env)) (c .before .before .before .before .before .before .before .before .before .before .before .before .before .before .before .before .before .before .before .before .before .before .before .before .before .before .before .before .clear .last .0) (c .before .before .before .before .before .before .before .before .before .before .before .before .before .before .before .before .before .before .before .before .before .before .before .before .clear2 .last .0) (c .before .before .before .before .before .before .before .before .before .before .before .before .before .before .before .before .before .before .set-ports .last .1 .1 .1 .1 .1 .0) (c .before .before .before .before .before .before .before .before .before .before .before .before .before .before .before .before .before .before .set-ports .last .1 .1 .1 .1 .1 .1 .0) (c .before .before .before .before .before .before .before .before .before .before .set-ports2 .last .1 .1 .1 .1 .1 .0) (c .before .before .before .before .before .before .before .before .before .before .set-ports2 .last .1 .1 .1 .1 .1 .1 .0) (c .before .before .before .before .before .before .before .before .before .before .before .before .before .before .before .before .before .before .before .before .before .before .before .before .before .before .before .before .clear .ensures) (c .before .before .before .before .before .before .before .before .before .before .before .before .before .before .before .before .before .before .before .before .before .before .before .before .clear2 .ensures) a b in
-    (k, infers-node _ n _ _ _ (l .equations .many) (c .before .before .all-passes .ensures n _ _ k (l .equations .items) (ports-on-base (c .before .before .before .before .before .before .before .before .before .before .before .before .before .before .before .before .before .before .before .before .before .before .before .before .before .before .before .before .before .before .before .before .before .before .args .names) n (now (c .before .before .before .before .before .before .before .before .before .before .before .before .before .before .before .before .before .before .before .before .before .before .before .before .before .before .before .before .before .before .before .before .before .before .args .env)) (c .before .before .before .before .before .before .before .before .before .before .before .before .before .before .before .before .before .before .before .before .before .before .before .before .before .before .before .before .clear .last .0) (c .before .before .before .before .before .before .before .before .before .before .before .before .before .before .before .before .before .before .before .before .before .before .before .before .clear2 .last .0) (c .before .before .before .before .before .before .before .before .before .before .before .before .before .before .before .before .before .before .set-ports .last .1 .1 .1 .1 .1 .0) (c .before .before .before .before .before .before .before .before .before .before .before .before .before .before .before .before .before .before .set-ports .last .1 .1 .1 .1 .1 .1 .0) (c .before .before .before .before .before .before .before .before .before .before .set-ports2 .last .1 .1 .1 .1 .1 .0) (c .before .before .before .before .before .before .before .before .before .before .set-ports2 .last .1 .1 .1 .1 .1 .1 .0) (c .before .before .before .before .before .before .before .before .before .before .before .before .before .before .before .before .before .before .before .before .before .before .before .before .before .before .before .before .clear .ensures) (c .before .before .before .before .before .before .before .before .before .before .before .before .before .before .before .before .before .before .before .before .before .before .before .before .clear2 .ensures) a b (omega (arith, c .before .before .before .before .before .before .before .before .before .before .before .before .before .before .before .before .before .before .before .before .before .before .before .before .before .before .before .before .clear .kept .0, c .before .before .before .before .before .before .before .before .before .before .before .before .before .before .before .before .before .before .set-ports .kept .1 .1 .1 .1 .1 .0, u, c .before .before .before .before .before .before .before .before .before .before .set-ports2 .kept .1 .1 .1 .1 .1 .0)))))
+    let s = c .before .before .before .before .before .before .before .before .before .before .before .before .before .before .before .before .before .before .before .before .before .before .before .before .before .before .before .before .before .before .before .before .before .before .args in
+    let cleared = c .before .before .before .before .before .before .before .before .before .before .before .before .before .before .before .before .before .before .before .before .before .before .before .before .before .before .before .before .clear in
+    let unmarked = c .before .before .before .before .before .before .before .before .before .before .before .before .before .before .before .before .before .before .before .before .before .before .before .before .clear2 in
+    let ins = c .before .before .before .before .before .before .before .before .before .before .before .before .before .before .before .before .before .before .set-ports in
+    let outs = c .before .before .before .before .before .before .before .before .before .before .set-ports2 in
+    let a = ins .ensures (n .inputs) _ (l .inputs .items) (omega (arith, cleared .kept .0, u)) (omega (arith, unmarked .kept .0, v)) in
+    let b = outs .ensures (n .outputs) _ (l .outputs .items) (omega (arith, cleared .kept .0, ins .kept .1 .1 .1 .1 .1 .0, u)) (omega (arith, unmarked .kept .0, ins .kept .1 .1 .1 .1 .1 .1 .0, v)) in
+    let k = ports-marked (s .names) n (now (s .env)) (cleared .last .0) (unmarked .last .0) (ins .last .1 .1 .1 .1 .1 .0) (ins .last .1 .1 .1 .1 .1 .1 .0) (outs .last .1 .1 .1 .1 .1 .0) (outs .last .1 .1 .1 .1 .1 .1 .0) u (cleared .ensures) (unmarked .ensures v) a b in
+    let g = ports-on-base (s .names) n (now (s .env)) (cleared .last .0) (unmarked .last .0) (ins .last .1 .1 .1 .1 .1 .0) (ins .last .1 .1 .1 .1 .1 .1 .0) (outs .last .1 .1 .1 .1 .1 .0) (outs .last .1 .1 .1 .1 .1 .1 .0) u (cleared .ensures) (unmarked .ensures v) a b (omega (arith, cleared .kept .0, ins .kept .1 .1 .1 .1 .1 .0, u, outs .kept .1 .1 .1 .1 .1 .0)) in
+    (k, infers-node _ n _ _ _ (l .equations .many) (c .before .before .all-passes .ensures n _ _ k (l .equations .items) g))
 
 pub infer-spec : {M : Type 1} → statement M
 infer-spec =

@@ -1,14 +1,27 @@
 -- `query::clock_laid` meets its contract. Assumes nothing.
-use Rattle.query.proofs.Nodes.{clocked-deep, clocked-node}
+use mathlib.Core.Path.{refl}
+use Rattle.query.proofs.Nodes.{part-long, part-enough, clocked-deep, clocked-node}
 use borrow.Author.Needs.{needs}
 use Rattle.query.proofs.clock_laid.Statement.{statement}
 use Rattle.query.proofs.clock_laid.Tie as tie
 
+wide-requires : tie.Need-wide-requires
+wide-requires c κs = search needs
+
+least-requires : tie.Need-least-requires
+least-requires c κs = search needs
+
+array-borrow-prefix-marks : tie.Need-array-borrow-prefix-marks
+array-borrow-prefix-marks c = search needs
+
 slice-aggregate-clock-laid : tie.Need-slice-aggregate-clock-laid
-slice-aggregate-clock-laid c = search needs
+slice-aggregate-clock-laid c = part-long _ _ _ (c .before .before .least .ensures) refl
+
+array-borrow-prefix-ports : tie.Need-array-borrow-prefix-ports
+array-borrow-prefix-ports c = search needs
 
 slice-aggregate-clock-laid-2 : tie.Need-slice-aggregate-clock-laid-2
-slice-aggregate-clock-laid-2 c = search needs
+slice-aggregate-clock-laid-2 c = part-long _ _ _ (c .before .before .before .least .ensures) refl
 
 clock-laid-requires : tie.Need-clock-laid-requires
 clock-laid-requires c κs = search needs
@@ -26,7 +39,7 @@ same-length-2 : tie.Need-same-length-2
 same-length-2 c = search needs
 
 returns : tie.Need-returns
-returns c = λ n q d r. clocked-deep _ _ _ _ _ n _ (c .before .before .before .before .before .before .before .before .clock-laid .ensures n q d (r .clocks) (r .few) (r .few) (r .found)) (c .enum-told .given .1)
+returns c = λ n q d r. clocked-deep _ _ _ _ _ n _ (c .before .before .before .before .before .before .before .before .clock-laid .ensures n q d (r .clocks) (part-enough _ _ _ (c .before .before .before .before .before .before .before .before .before .before .before .before .before .least .ensures) refl _ (c .before .before .before .before .before .before .before .before .before .before .before .before .before .before .wide .ensures) (r .few)) (part-enough _ _ _ (c .before .before .before .before .before .before .before .before .before .before .before .before .before .least .ensures) refl _ (c .before .before .before .before .before .before .before .before .before .before .before .before .before .before .wide .ensures) (r .few)) (r .found)) (c .enum-told .given .1)
 
 same-length-3 : tie.Need-same-length-3
 same-length-3 c = search needs
@@ -35,13 +48,17 @@ same-length-4 : tie.Need-same-length-4
 same-length-4 c = search needs
 
 returns-2 : tie.Need-returns-2
-returns-2 c = λ n q d r. clocked-node _ _ _ _ _ n _ (c .before .before .before .before .before .before .before .before .before .clock-laid .ensures n q d (r .clocks) (r .few) (r .few) (r .found)) q _ _ _ (c .before .clocked .given .1) d
+returns-2 c = λ n q d r. clocked-node _ _ _ _ _ n _ (c .before .before .before .before .before .before .before .before .before .clock-laid .ensures n q d (r .clocks) (part-enough _ _ _ (c .before .before .before .before .before .before .before .before .before .before .before .before .before .before .least .ensures) refl _ (c .before .before .before .before .before .before .before .before .before .before .before .before .before .before .before .wide .ensures) (r .few)) (part-enough _ _ _ (c .before .before .before .before .before .before .before .before .before .before .before .before .before .before .least .ensures) refl _ (c .before .before .before .before .before .before .before .before .before .before .before .before .before .before .before .wide .ensures) (r .few)) (r .found)) q _ _ _ (c .before .clocked .given .1) d
 
 pub clock-laid-spec : {M : Type 1} → statement M
 clock-laid-spec =
     tie.close
     (tie.spec
+    wide-requires
+    least-requires
+    array-borrow-prefix-marks
     slice-aggregate-clock-laid
+    array-borrow-prefix-ports
     slice-aggregate-clock-laid-2
     clock-laid-requires
     enum-told

@@ -1,10 +1,17 @@
 -- `query::put_fault` meets its contract. Assumes nothing.
 use native.Mathlib.Omega.{arith}
 use lib.ListN.{length-set}
+use borrow.Author.Tests.{lt-ltb, le-ltb}
 use Rattle.query.proofs.Words.{stored-three}
 use borrow.Author.Needs.{needs}
 use Rattle.query.proofs.put_fault.Statement.{statement}
 use Rattle.query.proofs.put_fault.Tie as tie
+
+returns : tie.Need-returns
+returns c = rw (le-ltb _ _ (c .if1 .taken))
+
+mul-b : tie.Need-mul-b
+mul-b c = search needs
 
 mul-list : tie.Need-mul-list
 mul-list c = search needs
@@ -33,13 +40,15 @@ slice-write-list-3 c = simp length-set (omega arith)
 same-length : tie.Need-same-length
 same-length c = search needs
 
-returns : tie.Need-returns
-returns c = stored-three _ _ _ _ _
+returns-2 : tie.Need-returns-2
+returns-2 c = rw (lt-ltb _ _ (c .if1 .left)) (stored-three _ _ _ _ _)
 
 pub put-fault-spec : {M : Type 1} → statement M
 put-fault-spec =
     tie.close
     (tie.spec
+    returns
+    mul-b
     mul-list
     slice-write-list
     add-list
@@ -49,4 +58,4 @@ put-fault-spec =
     mul-list-3
     slice-write-list-3
     same-length
-    returns)
+    returns-2)

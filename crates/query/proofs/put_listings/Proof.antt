@@ -1,34 +1,33 @@
 -- `query::put_listings` meets its contract: the listings of the nodes so far are put. Assumes nothing.
 use mathlib.Core.Path.{_≡_, refl, _∙_}
 use mathlib.Core.List.{List}
-use Prim.Native.Nat.{_-_, _*_, _≤_}
+use Prim.Native.Nat.{ℕ, _-_, _*_, _≤_}
 use native.Mathlib.Omega.{arith}
 use lib.ListN.{length}
 use Rattle.definitions.specs.Lists.{join, numbered}
 use Rattle.definitions.specs.Bytes.{tokens}
+use Rattle.definitions.specs.Tree.{Node}
+use Rattle.definitions.specs.Reading.{got, times}
+use Rattle.definitions.specs.Grammar.{node}
 use Rattle.definitions.specs.Refusals.{accepted}
 use Rattle.definitions.specs.Output.{ClockedNode}
-use Rattle.definitions.specs.Answer.{Input, clockings, nodeListing}
+use Rattle.definitions.specs.Answer.{clockings, nodeListing}
 use Rattle.fresh.specs.Places.{lettersAt}
-use Rattle.query.specs.Standing.{Standing}
-use Rattle.query.proofs.Listings.{Listed, listed-none, listed-more, listed-all, same-letters, same-number}
+use Rattle.query.specs.Standing.{Roomy, Ample}
+use Rattle.query.proofs.Listings.{Listed, listed-none, listed-more, listed-all, same-number, roomy-kept, ample-kept}
 use borrow.Author.Needs.{needs}
 use Rattle.query.proofs.put_listings.Statement.{statement}
 use Rattle.query.proofs.put_listings.Tie as tie
 
 abbrev Inv-loop : tie.InvT-loop
-Inv-loop out₀ starts letters tags values names n place₀ at₀ i₀ out place at i =
-    (length out ≡ length out₀) × (at ≤ 4294967296 * i) × ((r : Input) (ns : List ClockedNode) → Standing starts letters tags values names r → clockings 0 (r .sheet .nodes) ≡ accepted ns → Listed names (tokens tags values) (lettersAt starts letters) (n - i) i place out₀ at out (join (numbered (nodeListing (lettersAt starts letters)) 0 ns)))
+Inv-loop out₀ starts letters tags values names n from env₀ table₀ rows₀ chain₀ place₀ at₀ i₀ out env table rows chain place at i =
+    (length out ≡ length out₀) × (length env ≡ length env₀) × (length table ≡ length table₀) × (length rows ≡ length rows₀) × (length chain ≡ length chain₀) × (at ≤ 4294967296 * i) × ((ns : List Node) (q : ℕ) (l : List ClockedNode) → times n (node names) (tokens tags values) from ≡ got ns q → clockings 0 ns ≡ accepted l → Roomy names (length tags) env₀ table₀ → Ample table₀ rows₀ chain₀ → length letters ≤ 16384 → length tags ≤ 4096 → Listed names (tokens tags values) (lettersAt starts letters) (n - i) i place out₀ at out (join (numbered (nodeListing (lettersAt starts letters)) 0 l)))
 
 abbrev μ-loop : tie.MeasureT-loop
-μ-loop out₀ starts letters tags values names n place₀ at₀ i₀ out place at i = n - i
-
-sheet-at-requires : tie.Need-sheet-at-requires Inv-loop μ-loop
-sheet-at-requires c κs = search needs
+μ-loop out₀ starts letters tags values names n from env₀ table₀ rows₀ chain₀ place₀ at₀ i₀ out env table rows chain place at i = n - i
 
 loop-holds : tie.Need-loop-holds Inv-loop μ-loop
-loop-holds c =
-    (refl, omega arith, λ r ns s h. let w = c .before .sheet-at .ensures (r .sheet) _ (s .tree) in listed-none _ _ _ _ _ _ _ (r .sheet .nodes) ns (w .nodes .items) h)
+loop-holds c = (refl, refl, refl, refl, refl, omega arith, λ ns q l g h r a x y. listed-none _ _ _ _ _ _ q ns l g h)
 
 node-at-requires : tie.Need-node-at-requires Inv-loop μ-loop
 node-at-requires c κs = search needs
@@ -40,24 +39,34 @@ put-laid-requires : tie.Need-put-laid-requires Inv-loop μ-loop
 put-laid-requires c κs = search needs
 
 add-at : tie.Need-add-at Inv-loop μ-loop
-add-at c = omega (arith, c .before .before .before .before .before .before .before .loop .inv .1, c .before .before .put-laid .ensures .0, c .before .before .before .before .before .before .loop-test .taken, c .before .before .before .before .before .before .before .before .before .sheet-at .ok)
+add-at c = omega (arith, c .before .before .before .before .before .before .before .before .before .before .before .before .before .before .before .before .before .before .before .loop .inv .5, c .before .before .before .before .before .before .before .before .before .before .put-laid .ensures .0, c .before .before .before .before .before .before .before .before .before .before .before .before .before .before .before .before .before .before .loop-test .taken, c .before .before .before .before .before .before .before .before .before .before .before .before .before .before .before .before .before .before .before .before .before .before .before .before .before .before .before .before .before .fits .n)
 
 add-i : tie.Need-add-i Inv-loop μ-loop
-add-i c = omega (arith, c .before .before .before .before .before .before .loop-test .taken, c .before .before .before .before .before .before .before .before .before .sheet-at .ok)
+add-i c = omega (arith, c .before .before .before .before .before .before .before .before .before .before .before .before .before .before .before .before .before .before .loop-test .taken, c .before .before .before .before .before .before .before .before .before .before .before .before .before .before .before .before .before .before .before .before .before .before .before .before .before .before .before .before .before .fits .n)
 
 loop-less : tie.Need-loop-less Inv-loop μ-loop
 loop-less c = search needs
 
 loop-again : tie.Need-loop-again Inv-loop μ-loop
-loop-again c =
-    let l = c .before .before .before .before .before .before .before .loop in
-    (c .before .before .put-laid .kept .0 ∙ l .inv .0, omega (arith, l .inv .1, c .before .before .put-laid .ensures .0), λ r ns s h. listed-more _ _ _ _ _ _ _ _ _ _ _ _ _ _ (c .before .before .before .before .before .before .loop-test .taken) (c .before .before .before .before .before .node-at .ensures) (λ x q k d f. same-number _ _ _ _ _ _ _ _ (c .before .before .before .before .wide .ensures) (c .before .before .put-laid .ensures .1 x q k d f (s .few-names) (s .few-letters) (s .few-tokens))) refl (l .inv .2 r ns s h))
+loop-again c = (c .before .before .before .before .before .before .before .before .before .before .put-laid .kept .0 ∙ c .before .before .before .before .before .before .before .before .before .before .before .before .before .before .before .before .before .before .before .loop .inv .0, c .before .before .before .before .before .before .before .before .before .before .put-laid .kept .1 .1 .1 .1 .1 .1 .1 .1 .1 .0 ∙ c .before .before .before .before .before .before .before .before .before .before .before .before .before .before .before .before .before .before .before .loop .inv .1, c .before .before .before .before .before .before .before .before .before .before .put-laid .kept .1 .1 .1 .1 .1 .1 .1 .1 .1 .1 .0 ∙ c .before .before .before .before .before .before .before .before .before .before .before .before .before .before .before .before .before .before .before .loop .inv .2, c .before .before .before .before .before .before .before .before .before .before .put-laid .kept .1 .1 .1 .1 .1 .1 .1 .1 .1 .1 .1 .0 ∙ c .before .before .before .before .before .before .before .before .before .before .before .before .before .before .before .before .before .before .before .loop .inv .3, c .before .before .before .before .before .before .before .before .before .before .put-laid .kept .1 .1 .1 .1 .1 .1 .1 .1 .1 .1 .1 .1 .0 ∙ c .before .before .before .before .before .before .before .before .before .before .before .before .before .before .before .before .before .before .before .loop .inv .4, omega (arith, c .before .before .before .before .before .before .before .before .before .before .before .before .before .before .before .before .before .before .before .loop .inv .5, c .before .before .before .before .before .before .before .before .before .before .put-laid .ensures .0), λ ns q l g h r a x y. listed-more _ _ _ _ _ _ _ _ _ _ _ _ _ _ (c .before .before .before .before .before .before .before .before .before .before .before .before .before .before .before .before .before .before .loop-test .taken) (c .before .before .before .before .before .before .before .before .before .before .before .before .before .before .before .before .before .node-at .ensures) (λ n s k d f. same-number _ _ _ _ _ _ _ _ (c .before .before .before .before .before .before .before .before .before .before .before .before .before .before .before .before .wide .ensures) (c .before .before .before .before .before .before .before .before .before .before .put-laid .ensures .1 n s k d f (roomy-kept _ _ _ _ _ _ r (c .before .before .before .before .before .before .before .before .before .before .before .before .before .before .before .before .before .before .before .loop .inv .1) (c .before .before .before .before .before .before .before .before .before .before .before .before .before .before .before .before .before .before .before .loop .inv .2)) (ample-kept _ _ _ a _ _ _ (c .before .before .before .before .before .before .before .before .before .before .before .before .before .before .before .before .before .before .before .loop .inv .2) (c .before .before .before .before .before .before .before .before .before .before .before .before .before .before .before .before .before .before .before .loop .inv .3) (c .before .before .before .before .before .before .before .before .before .before .before .before .before .before .before .before .before .before .before .loop .inv .4)) x y)) refl (c .before .before .before .before .before .before .before .before .before .before .before .before .before .before .before .before .before .before .before .loop .inv .6 ns q l g h r a x y))
 
 same-length : tie.Need-same-length Inv-loop μ-loop
 same-length c = c .before .loop .inv .0
 
+same-length-2 : tie.Need-same-length-2 Inv-loop μ-loop
+same-length-2 c = c .before .loop .inv .1
+
+same-length-3 : tie.Need-same-length-3 Inv-loop μ-loop
+same-length-3 c = c .before .loop .inv .2
+
+same-length-4 : tie.Need-same-length-4 Inv-loop μ-loop
+same-length-4 c = c .before .loop .inv .3
+
+same-length-5 : tie.Need-same-length-5 Inv-loop μ-loop
+same-length-5 c = c .before .loop .inv .4
+
 returns : tie.Need-returns Inv-loop μ-loop
-returns c = λ r ns s h. same-letters _ _ ns _ _ _ (s .named) (listed-all _ _ _ _ _ _ _ _ _ _ (omega (arith, c .loop-test .left)) (c .before .loop .inv .2 r ns s h))
+returns c = λ ns q l g h r a x y. listed-all _ _ _ _ _ _ _ _ _ _ (omega (arith, c .loop-test .left)) (c .before .loop .inv .6 ns q l g h r a x y)
 
 pub put-listings-spec : {M : Type 1} → statement M
 put-listings-spec =
@@ -65,7 +74,6 @@ put-listings-spec =
     (tie.spec
     Inv-loop
     μ-loop
-    sheet-at-requires
     loop-holds
     node-at-requires
     wide-requires
@@ -75,4 +83,8 @@ put-listings-spec =
     loop-less
     loop-again
     same-length
+    same-length-2
+    same-length-3
+    same-length-4
+    same-length-5
     returns)

@@ -1,5 +1,8 @@
 -- `query::write_clocks` meets its contract. Assumes nothing.
+use mathlib.Core.Path.{refl}
+use Rattle.listing.proofs.Lengths.{few}
 use Rattle.query.proofs.Entries.{node-written}
+use Rattle.query.proofs.Listings.{ample-room}
 use borrow.Author.Needs.{needs}
 use Rattle.query.proofs.write_clocks.Statement.{statement}
 use Rattle.query.proofs.write_clocks.Tie as tie
@@ -28,8 +31,14 @@ same-length-2 c = search needs
 same-length-3 : tie.Need-same-length-3
 same-length-3 c = search needs
 
+same-length-4 : tie.Need-same-length-4
+same-length-4 c = search needs
+
+same-length-5 : tie.Need-same-length-5
+same-length-5 c = search needs
+
 returns : tie.Need-returns
-returns c = λ n z few small. node-written _ _ _ _ _ n z _ _ _ _ _ _ _ _ _ _ few small (c .before .before .before .before .before .before .before .before .before .before .before .before .before .narrow .ensures) (c .wide .ensures) (c .before .before .before .before .before .before .before .before .before .before .before .write-equations .ensures) (c .before .before .before .before .before .before .before .write-chains .ensures .0) (c .before .before .before .before .before .before .before .write-chains .ensures .1) (c .before .before .before .write-faults .ensures .0) (c .before .before .before .write-faults .ensures .1)
+returns c = λ n z a small. let w = ample-room _ _ _ a _ _ refl (z .tells .room) in node-written _ _ _ _ _ n z _ _ _ _ _ _ _ _ _ _ small (c .before .before .before .before .before .before .before .before .before .before .before .before .before .before .before .before .before .before .before .narrow .ensures) (c .wide .ensures) (c .before .before .before .before .before .before .before .before .before .before .before .before .before .before .before .before .before .write-equations .ensures) (c .before .before .before .before .before .before .before .before .before .before .before .write-chains .ensures .0 (w .0) (w .1) (few _ (w .2))) (c .before .before .before .before .before .before .before .before .before .before .before .write-chains .ensures .1 (w .0) (w .1) (few _ (w .2))) (c .before .before .before .write-faults .ensures .0) (c .before .before .before .write-faults .ensures .1)
 
 pub write-clocks-spec : {M : Type 1} → statement M
 write-clocks-spec =
@@ -43,4 +52,6 @@ write-clocks-spec =
     same-length
     same-length-2
     same-length-3
+    same-length-4
+    same-length-5
     returns)

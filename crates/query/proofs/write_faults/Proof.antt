@@ -1,55 +1,36 @@
--- `query::write_faults` meets its contract: the first i faults are written. Assumes nothing.
-use mathlib.Core.Path.{_≡_, refl, _∙_}
-use Prim.Native.Nat.{_-_, _*_, _≤_}
+-- `query::write_faults` meets its contract: the faults of the first rows are written. The measure is the number of rows left. Assumes nothing.
+use Prim.Native.Nat.{_-_, _≤_}
 use native.Mathlib.Omega.{arith}
 use denote.Ref.{now}
-use lib.ListN.{length}
-use Rattle.definitions.specs.InferClocks.{clockFaults}
-use Rattle.findings.specs.Findings.{findingsIn}
-use Rattle.query.specs.Words.{faultWords}
-use Rattle.query.proofs.Entries.{Entered, entered-none, fault-entered, faults-entered}
+use Rattle.query.proofs.Entries.{Faults, faults-none, fault-written, fault-passed, faults-length, faults-all}
 use borrow.Author.Needs.{needs}
 use Rattle.query.proofs.write_faults.Statement.{statement}
 use Rattle.query.proofs.write_faults.Tie as tie
 
 abbrev Inv-loop : tie.InvT-loop
-Inv-loop table n node list₀ numbers equations m room most i₀ list i = (length list ≡ length list₀) × (i ≤ most) × (n ≤ 4096 → Entered (faultWords node) (clockFaults (findingsIn table n)) list₀ i (3 * i) list)
+Inv-loop table n node list₀ i₀ m₀ list i m =
+    (i ≤ n) × (m ≤ i) × Faults node table list₀ i m list
 
 abbrev μ-loop : tie.MeasureT-loop
-μ-loop table n node list₀ numbers equations m room most i₀ list i = most - i
-
-slice-aggregate-write-faults : tie.Need-slice-aggregate-write-faults Inv-loop μ-loop
-slice-aggregate-write-faults c = search needs
-
-slice-aggregate-write-faults-2 : tie.Need-slice-aggregate-write-faults-2 Inv-loop μ-loop
-slice-aggregate-write-faults-2 c = search needs
-
-write-faults-requires : tie.Need-write-faults-requires Inv-loop μ-loop
-write-faults-requires c κs = search needs
-
-least-requires : tie.Need-least-requires Inv-loop μ-loop
-least-requires c κs = search needs
+μ-loop table n node list₀ i₀ m₀ list i m = n - i
 
 loop-holds : tie.Need-loop-holds Inv-loop μ-loop
-loop-holds c = (refl, omega arith, λ few. entered-none _ _ _)
+loop-holds c = (omega arith, omega arith, faults-none _ (now (c .before .before .args .table)) _)
 
-slice-aggregate-word-at : tie.Need-slice-aggregate-word-at Inv-loop μ-loop
-slice-aggregate-word-at c = search needs
+is-fault-requires : tie.Need-is-fault-requires Inv-loop μ-loop
+is-fault-requires c κs = search needs
 
-word-at-requires : tie.Need-word-at-requires Inv-loop μ-loop
-word-at-requires c κs = search needs
+found-in-requires : tie.Need-found-in-requires Inv-loop μ-loop
+found-in-requires c κs = search needs
 
-slice-aggregate-word-at-2 : tie.Need-slice-aggregate-word-at-2 Inv-loop μ-loop
-slice-aggregate-word-at-2 c = search needs
-
-word-at-requires-2 : tie.Need-word-at-requires-2 Inv-loop μ-loop
-word-at-requires-2 c κs = search needs
-
-mul-put-fault : tie.Need-mul-put-fault Inv-loop μ-loop
-mul-put-fault c = search needs
+fault-number-requires : tie.Need-fault-number-requires Inv-loop μ-loop
+fault-number-requires c κs = search needs
 
 put-fault-requires : tie.Need-put-fault-requires Inv-loop μ-loop
-put-fault-requires c κs = omega (arith, c .before .before .before .before .before .before .loop .inv .0, c .before .before .before .before .before .loop-test .taken, c .before .before .before .before .before .before .before .least .ensures)
+put-fault-requires c κs = search needs
+
+add-m : tie.Need-add-m Inv-loop μ-loop
+add-m c = search needs
 
 add-i : tie.Need-add-i Inv-loop μ-loop
 add-i c = search needs
@@ -58,14 +39,22 @@ loop-less : tie.Need-loop-less Inv-loop μ-loop
 loop-less c = search needs
 
 loop-again : tie.Need-loop-again Inv-loop μ-loop
-loop-again c =
-    (c .before .before .put-fault .kept .0 ∙ c .before .before .before .before .before .before .before .before .before .loop .inv .0, omega (arith, c .before .before .before .before .before .before .before .before .loop-test .taken), λ few. fault-entered _ _ _ _ _ _ _ _ _ _ _ _ _ few refl refl (omega (arith, c .before .before .before .before .before .before .before .before .loop-test .taken, c .before .before .before .before .before .before .before .before .before .before .least .ensures, c .before .before .before .before .before .before .before .before .before .before .before .before .before .write-faults .ensures .0)) (c .before .before .before .before .before .before .before .before .before .before .before .before .before .write-faults .ensures .1 .0) (c .before .before .before .before .before .before .before .before .before .before .before .before .before .write-faults .ensures .1 .1) (c .before .before .before .before .before .before .word-at .ensures) (c .before .before .before .before .word-at2 .ensures) (c .before .before .put-fault .ensures) (c .before .before .before .before .before .before .before .before .before .loop .inv .2 few))
+loop-again c = (omega (arith, c .before .before .before .before .before .before .before .before .before .loop-test .taken), omega (arith, c .before .before .before .before .before .before .before .before .before .before .loop .inv .1), fault-written _ (now (c .before .before .before .before .before .before .before .before .before .before .before .before .before .args .table)) _ _ _ _ (c .before .before .before .before .before .before .before .before .before .before .loop .inv .2) _ (c .before .before .before .before .before .before .before .before .is-fault .ensures) _ _ _ (c .before .before .before .before .before .before .before .if1 .taken) (c .before .before .before .before .before .before .found-in .ensures) (c .before .before .before .before .fault-number .ensures) (c .before .before .put-fault .ensures))
+
+add-i-2 : tie.Need-add-i-2 Inv-loop μ-loop
+add-i-2 c = search needs
+
+loop-less-2 : tie.Need-loop-less-2 Inv-loop μ-loop
+loop-less-2 c = search needs
+
+loop-again-2 : tie.Need-loop-again-2 Inv-loop μ-loop
+loop-again-2 c = (omega (arith, c .before .before .loop-test .taken), omega (arith, c .before .before .before .loop .inv .1), fault-passed _ (now (c .before .before .before .before .before .before .args .table)) _ _ _ _ (c .before .before .before .loop .inv .2) _ (c .before .is-fault .ensures) (c .if1 .left))
 
 same-length : tie.Need-same-length Inv-loop μ-loop
-same-length c = c .before .loop .inv .0
+same-length c = faults-length _ (now (c .before .before .before .before .args .table)) _ _ _ _ (c .before .loop .inv .2)
 
 returns : tie.Need-returns Inv-loop μ-loop
-returns c = (c .before .before .before .before .before .write-faults .ensures .0, λ few. faults-entered _ _ _ _ _ _ _ _ _ (c .before .before .before .before .before .write-faults .ensures .0) refl (c .before .before .least .ensures) (c .before .loop .inv .1) (c .loop-test .left) (c .before .loop .inv .2 few))
+returns c = let w = faults-all _ (now (c .before .before .before .before .args .table)) _ _ _ _ (c .before .loop .inv .2) _ (c .before .loop .inv .0) (c .loop-test .left) in (w .count, w .written)
 
 pub write-faults-spec : {M : Type 1} → statement M
 write-faults-spec =
@@ -73,19 +62,17 @@ write-faults-spec =
     (tie.spec
     Inv-loop
     μ-loop
-    slice-aggregate-write-faults
-    slice-aggregate-write-faults-2
-    write-faults-requires
-    least-requires
     loop-holds
-    slice-aggregate-word-at
-    word-at-requires
-    slice-aggregate-word-at-2
-    word-at-requires-2
-    mul-put-fault
+    is-fault-requires
+    found-in-requires
+    fault-number-requires
     put-fault-requires
+    add-m
     add-i
     loop-less
     loop-again
+    add-i-2
+    loop-less-2
+    loop-again-2
     same-length
     returns)

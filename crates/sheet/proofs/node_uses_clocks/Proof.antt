@@ -13,7 +13,7 @@ equations-use-clocks-requires c κs = search needs
 
 returns : tie.Need-returns
 unfolding usesClocks
-returns c = λ n q g. c .equations-use-clocks .ensures (n .equations) _ (c .before .before .node-at .ensures n q g .equations .items)
+returns c = λ n q g. c .equations-use-clocks .ensures _ (n .equations) _ (c .before .before .node-at .ensures n q g .equations .items)
 
 pub node-uses-clocks-spec : {M : Type 1} → statement M
 node-uses-clocks-spec = tie.close (tie.spec node-at-requires equations-use-clocks-requires returns)

@@ -1,0 +1,4 @@
+pub mod Tags
+pub mod Owed
+pub mod Ends
+pub mod Marks

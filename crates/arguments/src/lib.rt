@@ -1,5 +1,6 @@
 // What the programs share: what a word of a command line says, the lines that tell a refusal, the front of lent bytes.
 use definitions::Refusal;
+use libc::STDIN_FILENO;
 ghost use mathlib.Core.Path.{_≡_};
 ghost use mathlib.Core.List.{_∷_};
 ghost use Prim.Native.Nat.{_+_, _*_, _-_, _≤_, _<_, min};
@@ -7,6 +8,7 @@ ghost use lib.ListN.{length, take};
 ghost use Rattle.definitions.specs.Lists.{decimal};
 ghost use Rattle.definitions.specs.Bytes.{isDigit};
 ghost use Rattle.definitions.specs.Refusals.{number};
+ghost use Rattle.io.specs.Counts.{Counts};
 ghost use Rattle.spelling.specs.Writing.{Put, farthest};
 ghost use Rattle.arguments.specs.Words.{most, numberOf, meaningOf, refused, refusalLine, reasonOf, reasonLine};
 
@@ -220,4 +222,19 @@ pub fn front(bytes: &[u8], n: usize) -> &[u8]
         return &bytes[from..n];
     }
     bytes
+}
+
+// The rest of the sheet on standard input, of which the start is read: the whole over the front of these bytes, and how long it is.
+pub fn read_on(start: &[u8], sheet: &mut [u8]) -> usize
+    requires { ⌜ length (now start) ≤ length (now sheet) ⌝ }
+    ensures { λ r. ⌜ Counts r (now (sheet .exit)) ⌝ }
+{
+    let n = start.len();
+    let mut i: usize = 0;
+    while i < n {
+        sheet[i] = start[i];
+        i += 1;
+    }
+    let m = io::read_full(STDIN_FILENO, &mut sheet[n..]);
+    n + m
 }

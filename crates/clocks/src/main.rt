@@ -67,12 +67,7 @@ fn print_long(sheet: &[u8], asked: Asked) {
     let answer = listed_long(sheet, asked, &mut out);
     match answer {
         ListingAnswer::Written(n) => show_long(&out, n),
-        ListingAnswer::Refused(_) => {
-            io::write_all(
-                STDERR_FILENO,
-                b"clocks: the listing is longer than 3407872 bytes\n",
-            );
-        }
+        ListingAnswer::Refused(r) => refuse(r),
     }
 }
 
@@ -84,8 +79,9 @@ fn turn_down(sheet: &[u8], asked: Asked, r: Refusal) {
     refuse(r);
 }
 
-fn print(sheet: &[u8], asked: Asked) {
-    let mut out = io::large_buffer();
+// A short sheet's listing is mostly short.
+fn print_short(sheet: &[u8], asked: Asked) {
+    let mut out = [0u8; 16384];
     let answer = listed(sheet, asked, &mut out);
     match answer {
         ListingAnswer::Written(n) => show(STDOUT_FILENO, &out, n),
@@ -93,10 +89,39 @@ fn print(sheet: &[u8], asked: Asked) {
     }
 }
 
-fn answer(asked: Asked) {
+fn listed_middle(sheet: &[u8], asked: Asked, out: &mut [u8; 524288]) -> ListingAnswer {
+    listed(sheet, asked, out)
+}
+
+fn show_middle(out: &[u8; 524288], n: usize) {
+    show(STDOUT_FILENO, out, n)
+}
+
+// Only hostile sheets are listed in more bytes than these.
+fn print_middle(sheet: &[u8], asked: Asked) {
+    let mut out = [0u8; 524288];
+    let answer = listed_middle(sheet, asked, &mut out);
+    match answer {
+        ListingAnswer::Written(n) => show_middle(&out, n),
+        ListingAnswer::Refused(r) => turn_down(sheet, asked, r),
+    }
+}
+
+// A longer sheet, of which these bytes are read.
+fn answer_long(start: &[u8; 4096], asked: Asked) {
     let mut sheet = io::large_buffer();
-    let n = io::read_full(STDIN_FILENO, &mut sheet);
-    print(&sheet[..n], asked);
+    let n = arguments::read_on(start, &mut sheet);
+    print_middle(&sheet[..n], asked);
+}
+
+fn answer(asked: Asked) {
+    let mut start = io::buffer();
+    let n = io::read_full(STDIN_FILENO, &mut start);
+    if n < 4096 {
+        print_short(&start[..n], asked);
+        return;
+    }
+    answer_long(&start, asked);
 }
 
 // What the one word says.

@@ -1,14 +1,14 @@
 -- Laws of the names that types end in, of sets of definitions as bytes, and of the first definition that reaches itself.
 -- Assumes nothing.
 use mathlib.Core.Path.{_≡_, refl, sym, _∙_, ap}
-use mathlib.Core.List.{List, [], _∷_, _++_, map}
+use mathlib.Core.List.{List, [], _∷_, _++_, map, append-assoc}
 use mathlib.Core.Bool.{Bool, true, false, _||_, _&&_, not}
 use mathlib.Core.Option.{Option, none, some}
 use Prim.Native.Nat.{ℕ, zero, suc, _+_, _-_, _*_, _/_, _%_, _≤_, _<_}
 use native.Mathlib.Omega.{arith}
 use native.Mathlib.Numerals.{add-one, sub-one}
-use lib.ListN.{length, getD, drop}
-use lib.Seq.{drop-cons, drop-length}
+use lib.ListN.{length, getD, set, drop, replicate, getD-replicate}
+use lib.Seq.{drop-cons, drop-length, getD-set-same, getD-set-other}
 use lib.Dec.{eqb, ltb}
 use borrow.Author.Tests.{eq-eqb, ne-eqb, eqb-true, eqb-false, lt-ltb, le-ltb, ltb-true, ltb-false}
 use Rattle.definitions.specs.Lists.{choose, any, among, keep, find, join, placeBy}
@@ -21,7 +21,7 @@ use Rattle.grammar.proofs.Got.{times-nil}
 use Rattle.typedefs.specs.declared.Defined.{Defined}
 use Rattle.typedefs.specs.Table.{nowhere, defAt, nameAt, isNamed, firstOf, Table, Described}
 use Rattle.typedefs.proofs.Laws.{FirstField, find-none, find-some, place-true, place-before}
-use Rattle.cycles.specs.Edges.{bit, Holds, Edges, joined}
+use Rattle.cycles.specs.Edges.{bit, Called, Holds, Edges, joined, inside, Settled}
 
 -- two truth values that follow from each other
 pub iff : (a b : Bool) → (a ≡ true → b ≡ true) → (b ≡ true → a ≡ true) → a ≡ b
@@ -43,6 +43,14 @@ bit-test false = refl
 
 or-left : (a b : Bool) → a ≡ true → (a || b) ≡ true
 or-left a b e = rw e
+
+pub and-false : (a : Bool) → (a && false) ≡ false
+and-false true = refl
+and-false false = refl
+
+append-nil : {A : Type 0} (l : List A) → l ++ [] ≡ l
+append-nil [] = refl
+append-nil (x ∷ l) = ap (λ (m : List _). x ∷ m) (append-nil l)
 
 or-right : (a b : Bool) → b ≡ true → (a || b) ≡ true
 or-right true b e = refl
@@ -98,51 +106,61 @@ among-self [] j h = absurd (omega arith)
 among-self (d ∷ types) zero h = or-left (eqb (d .name) (d .name)) _ (eq-eqb (d .name) (d .name) refl)
 among-self (d ∷ types) (suc j) h = or-right (eqb (nameAt types j) (d .name)) _ (among-self types j (omega arith))
 
--- the names that types and definitions end in
-module _ (x : ℕ) where
-  pub ends-basic : (t : Ty) (b : _) → t ≡ Ty.primitive b → false ≡ among x (target t)
-  unfolding target
-  ends-basic t b e = rw e
+-- sets of definitions: those of some names, and of more names
+module _ (types : List TypeDef) (n : ℕ) where
+  pub holds-empty : n ≤ 32 → Holds types n (replicate 32 0) []
+  holds-empty l = record { says = λ j h. getD-replicate 32 j 0 0 (omega arith) }
 
-  pub ends-named : (t : Ty) (y : ℕ) → t ≡ Ty.named y → eqb x y ≡ among x (target t)
-  unfolding target
-  ends-named t y e = rw e (go (eqb x y))
+  pub holds-same : (bytes xs ys : List ℕ) → xs ≡ ys → Holds types n bytes xs → Holds types n bytes ys
+  holds-same bytes xs ys e h = record { says = λ j l. h .says j l ∙ ap (λ (zs : List ℕ). bit (among (nameAt types j) zs)) e }
+
+  holds-more : (called bytes more : List ℕ) (x : ℕ) (xs : List ℕ) → Called types n called → Holds types n bytes xs → ((j : ℕ) → j < n → getD more j 0 ≡ choose (eqb (getD called j 0) x) 1 (getD bytes j 0)) → Holds types n more (xs ++ (x ∷ []))
+  holds-more called bytes more x xs c h f = record { says = λ j l. f j l ∙ rw (c .are j l, h .says j l, any-append (eqb (nameAt types j)) xs (x ∷ [])) (pick (eqb (nameAt types j) x) (among (nameAt types j) xs)) }
     where
-      go : (b : Bool) → b ≡ (b || false)
-      go true = refl
-      go false = refl
+      pick : (b a : Bool) → choose b 1 (bit a) ≡ bit (a || (b || false))
+      pick true true = refl
+      pick true false = refl
+      pick false true = refl
+      pick false false = refl
 
-  pub ends-array : (r : Bool) (t b : Ty) (n : ℕ) → t ≡ Ty.array n b → r ≡ among x (target b) → r ≡ among x (target t)
+  -- the name that a type ends in
+  pub marks-basic : (bytes xs : List ℕ) (t : Ty) (b : _) → t ≡ Ty.primitive b → Holds types n bytes xs → Holds types n bytes (xs ++ target t)
   unfolding target
-  ends-array r t b n e h = rw e h
+  marks-basic bytes xs t b e h = rw e (holds-same bytes xs (xs ++ []) (sym (append-nil xs)) h)
 
+  pub marks-named : (called bytes more xs : List ℕ) (t : Ty) (x : ℕ) → t ≡ Ty.named x → Called types n called → Holds types n bytes xs → ((j : ℕ) → j < n → getD more j 0 ≡ choose (eqb (getD called j 0) x) 1 (getD bytes j 0)) → Holds types n more (xs ++ target t)
+  unfolding target
+  marks-named called bytes more xs t x e c h f = rw e (holds-more called bytes more x xs c h f)
+
+  pub marks-array : (more xs : List ℕ) (t b : Ty) (m : ℕ) → t ≡ Ty.array m b → Holds types n more (xs ++ target b) → Holds types n more (xs ++ target t)
+  unfolding target
+  marks-array more xs t b m e h = rw e h
+
+  -- the names that the types of fields end in
   module _ (M : ℕ) (ts : List TagValue) (k p : ℕ) (fs : List Declared) (q : ℕ) where
-    pub fields-end : k ≡ 0 → times k (declaration M) ts p ≡ got fs q → false ≡ among x (join (map (λ f. target (f .type)) fs))
-    fields-end z g = let e = times-nil (declaration M) ts k p fs q z g in rw (e .0)
+    pub marks-no-field : (bytes xs : List ℕ) → k ≡ 0 → times k (declaration M) ts p ≡ got fs q → Holds types n bytes xs → Holds types n bytes (xs ++ join (map (λ f. target (f .type)) fs))
+    marks-no-field bytes xs z g h = let e = times-nil (declaration M) ts k p fs q z g in rw (e .0) (holds-same bytes xs (xs ++ []) (sym (append-nil xs)) h)
 
-    module _ (first : ℕ) (f : FirstField M ts k p first fs q) (b : Bool) (here : b ≡ among x (target (f .type))) where
-      pub fields-hit : b ≡ true → true ≡ among x (join (map (λ g. target (g .type)) fs))
-      fields-hit e = rw (f .whole, any-append (eqb x) (target (f .type)) (join (map (λ g. target (g .type)) (f .rest))), ← here, e)
+    pub marks-fields : (first : ℕ) (f : FirstField M ts k p first fs q) (more xs : List ℕ) → Holds types n more ((xs ++ target (f .type)) ++ join (map (λ g. target (g .type)) (f .rest))) → Holds types n more (xs ++ join (map (λ g. target (g .type)) fs))
+    marks-fields first f more xs h = rw (f .whole) (holds-same more _ _ (append-assoc xs (target (f .type)) (join (map (λ g. target (g .type)) (f .rest)))) h)
 
-      pub fields-on : (r : Bool) → b ≡ false → r ≡ among x (join (map (λ g. target (g .type)) (f .rest))) → r ≡ among x (join (map (λ g. target (g .type)) fs))
-      fields-on r e h = rw (f .whole, any-append (eqb x) (target (f .type)) (join (map (λ g. target (g .type)) (f .rest))), ← here, e) h
-
-  module _ (M : ℕ) (ts : List TagValue) (d : TypeDef) (q : ℕ) (D : Defined) (g : Described M ts d q D) where
-    pub leads-enum : (y n p : ℕ) → D ≡ Defined.Enum y n p → false ≡ among x (targets (d .body))
+  -- the names that a definition goes on to
+  module _ (M : ℕ) (ts : List TagValue) (d : TypeDef) (q : ℕ) (D : Defined) (g : Described M ts d q D) (more : List ℕ) where
+    pub marks-enum : (y c p : ℕ) → D ≡ Defined.Enum y c p → Holds types n more [] → Holds types n more (targets (d .body))
     unfolding Described targets
-    leads-enum y n p e = let h = rw e at g in rw (h .2)
+    marks-enum y c p e f = let h = rw e at g in rw (h .2) f
 
-    pub leads-record : (y n p : ℕ) (r : Bool) → D ≡ Defined.Record y n p → ((fs : List Declared) (s : ℕ) → times n (declaration M) ts p ≡ got fs s → r ≡ among x (join (map (λ f. target (f .type)) fs))) → r ≡ among x (targets (d .body))
+    pub marks-record : (y c p : ℕ) → D ≡ Defined.Record y c p → ((fs : List Declared) (s : ℕ) → times c (declaration M) ts p ≡ got fs s → Holds types n more (join (map (λ f. target (f .type)) fs))) → Holds types n more (targets (d .body))
     unfolding Described targets
-    leads-record y n p r e f = let h = rw e at g in rw (h .2) (f (h .0) q (h .1))
+    marks-record y c p e f = let h = rw e at g in rw (h .2) (f (h .0) q (h .1))
 
-    pub leads-alias : (y p : ℕ) (r : Bool) → D ≡ Defined.Alias y p → ((t : Ty) (s : ℕ) → ty M 8 ts p ≡ got t s → r ≡ among x (target t)) → r ≡ among x (targets (d .body))
+    pub marks-alias : (y p : ℕ) → D ≡ Defined.Alias y p → ((t : Ty) (s : ℕ) → ty M 8 ts p ≡ got t s → Holds types n more (target t)) → Holds types n more (targets (d .body))
     unfolding Described targets
-    leads-alias y p r e f = let h = rw e at g in rw (h .2) (f (h .0) q (h .1))
+    marks-alias y p e f = let h = rw e at g in rw (h .2) (f (h .0) q (h .1))
 
-    pub leads-nothing : D ≡ Defined.Nothing → ⊥
+    pub marks-nothing : D ≡ Defined.Nothing → ⊥
     unfolding Described
-    leads-nothing e = rw e at g
+    marks-nothing e = rw e at g
 
 -- the names that a name goes on to
 module _ (types : List TypeDef) (x : ℕ) where
@@ -157,19 +175,33 @@ module _ (types : List TypeDef) (x : ℕ) where
   pub first-name : firstOf types x < length types → nameAt types (firstOf types x) ≡ x
   first-name h = eqb-true _ x (place-true (isNamed x) types nowhere h)
 
--- an edge, by the definition that is found
-module _ (M : ℕ) (ts : List TagValue) (places : List ℕ) (n : ℕ) (types : List TypeDef) (t : Table M ts places n types) (i j k x y : ℕ) (ex : x ≡ nameAt types i) (ey : y ≡ nameAt types j) (ek : k ≡ firstOf types x) where
-  pub edge-none : n ≤ k → 0 ≡ bit (among (nameAt types j) (goesOn types (nameAt types i)))
-  edge-none h = rw (← ex, goes-none types x (omega (arith, t .count)))
+-- the definitions that a name goes on to, by the definition that is found
+module _ (M : ℕ) (ts : List TagValue) (places : List ℕ) (n : ℕ) (types : List TypeDef) (t : Table M ts places n types) (x k : ℕ) (first : k ≡ firstOf types x) (more : List ℕ) where
+  pub goes-nowhere : n ≤ k → Holds types n more [] → Holds types n more (goesOn types x)
+  goes-nowhere h e = holds-same types n more [] (goesOn types x) (sym (goes-none types x (omega (arith, t .count)))) e
 
-  pub edge-byte : (b : Bool) → k < n → ((d : TypeDef) (q : ℕ) → typeDef M ts (getD places k 0) ≡ got d q → b ≡ among y (targets (d .body))) → bit b ≡ bit (among (nameAt types j) (goesOn types (nameAt types i)))
-  edge-byte b h f =
-      let s = t .stands k h in
-      let g = f (defAt types k) (s .0) (s .1) in
-      rw (← ex, ← ey, goes-some types x k ek (omega (arith, t .count))) (ap bit g)
+  pub goes-by : k < n → ((d : TypeDef) (q : ℕ) → typeDef M ts (getD places k 0) ≡ got d q → Holds types n more (targets (d .body))) → Holds types n more (goesOn types x)
+  goes-by h f = let s = t .stands k h in holds-same types n more _ (goesOn types x) (sym (goes-some types x k first (omega (arith, t .count)))) (f (defAt types k) (s .0) (s .1))
 
-pub edge-at : (F : ℕ → ℕ → ℕ) (go : List ℕ) (m i j : ℕ) → m / 32 ≡ i → m % 32 ≡ j → getD go m 0 ≡ F (m / 32) (m % 32) → getD go m 0 ≡ F i j
-edge-at F go m i j e f h = h ∙ ap (λ (k : ℕ). F k (m % 32)) e ∙ ap (F i) f
+-- one more byte of a row, which starts at b
+module _ (go before row : List ℕ) (b j : ℕ) (room : b + j < length go) where
+  pub row-more : ((m : ℕ) → m < b → getD go m 0 ≡ getD before m 0) → ((k : ℕ) → k < j → getD go (b + k) 0 ≡ getD row k 0) →
+      ((m : ℕ) → m < b → getD (set go (b + j) (getD row j 0)) m 0 ≡ getD before m 0) × ((k : ℕ) → k < j + 1 → getD (set go (b + j) (getD row j 0)) (b + k) 0 ≡ getD row k 0)
+  row-more old new = ((λ m h. getD-set-other go (b + j) m _ 0 (λ e. omega arith) ∙ old m h), λ k h. pick k h (eqb k j) refl)
+    where
+      pick : (k : ℕ) → k < j + 1 → (t : Bool) → eqb k j ≡ t → getD (set go (b + j) (getD row j 0)) (b + k) 0 ≡ getD row k 0
+      pick k h true t = let e : k ≡ j = eqb-true k j t in rw e (getD-set-same go (b + j) _ 0 room)
+      pick k h false t = let n : k < j = omega (arith, eqb-false k j t) in getD-set-other go (b + j) (b + k) _ 0 (λ e. omega arith) ∙ new k n
+
+-- a row of the table
+module _ (go after row : List ℕ) (n i : ℕ) (before : (m : ℕ) → m < 32 * i → getD after m 0 ≡ getD go m 0) (written : (j : ℕ) → j < n → getD after (32 * i + j) 0 ≡ getD row j 0) where
+  pub rows-more : (types : List TypeDef) → n ≤ 32 → ((a j : ℕ) → a < i → j < n → getD go (32 * a + j) 0 ≡ bit (among (nameAt types j) (goesOn types (nameAt types a)))) → Holds types n row (goesOn types (nameAt types i)) →
+      (a j : ℕ) → a < i + 1 → j < n → getD after (32 * a + j) 0 ≡ bit (among (nameAt types j) (goesOn types (nameAt types a)))
+  rows-more types l f h a j u v = pick (eqb a i) refl
+    where
+      pick : (b : Bool) → eqb a i ≡ b → getD after (32 * a + j) 0 ≡ bit (among (nameAt types j) (goesOn types (nameAt types a)))
+      pick true e = let g : a ≡ i = eqb-true a i e in rw g (written j v ∙ h .says j v)
+      pick false e = let w : a < i = omega (arith, eqb-false a i e) in before (32 * a + j) (omega arith) ∙ f a j w v
 
 -- one of a set that goes on to j
 module _ (go set : List ℕ) (j : ℕ) where
@@ -215,7 +247,7 @@ module _ (types : List TypeDef) (n : ℕ) (many : length types ≡ n) (go set : 
       pick true b c p s t e r = r p
       pick false true true p s t e r =
           any-intro (λ x. among (nameAt types j) (goesOn types x)) (nameAt types m) xs
-          (bit-true _ (sym (holds m (omega arith)) ∙ eqb-true _ 1 s))
+          (bit-true _ (sym (holds .says m (omega arith)) ∙ eqb-true _ 1 s))
           (bit-true _ (sym (edges m j (omega arith) h) ∙ eqb-true _ 1 t))
       pick false true false p s t e r = let z : _≡_ {A = ℕ} 0 1 = cc in absurd (omega arith)
       pick false false c p s t e r = let z : _≡_ {A = ℕ} 0 1 = cc in absurd (omega arith)
@@ -228,7 +260,7 @@ module _ (types : List TypeDef) (n : ℕ) (many : length types ≡ n) (go set : 
           let l : firstOf types x < n = ltb-true (firstOf types x) n t in
           let f : nameAt types (firstOf types x) ≡ x = first-name types x (omega arith) in
           joined-found go set j n (firstOf types x) l
-          (holds (firstOf types x) l ∙ bit-one (among (nameAt types (firstOf types x)) xs) (rw f u))
+          (holds .says (firstOf types x) l ∙ bit-one (among (nameAt types (firstOf types x)) xs) (rw f u))
           (edges (firstOf types x) j l h ∙ bit-one (among (nameAt types j) (goesOn types (nameAt types (firstOf types x)))) (rw f v))
       pick x u v false t =
           let w : among (nameAt types j) [] ≡ true = rw (goes-none types x (omega (arith, ltb-false (firstOf types x) n t))) at v in
@@ -236,11 +268,14 @@ module _ (types : List TypeDef) (n : ℕ) (many : length types ≡ n) (go set : 
 
   pub holds-step : (more : List ℕ) → ((j : ℕ) → j < n → getD more j 0 ≡ bit (eqb (getD set j 0) 1 || joined go set j n)) → Holds types n more (oneStep types xs)
   unfolding oneStep
-  holds-step more f j h =
-      let k = keep-among (λ y. among y xs || any (λ x. among y (goesOn types x)) xs) (nameAt types j) (map (λ d. d .name) types) (among-self types j (omega arith)) in
-      let a : eqb (getD set j 0) 1 ≡ among (nameAt types j) xs = rw (holds j h) (bit-test _) in
-      let b : joined go set j n ≡ any (λ x. among (nameAt types j) (goesOn types x)) xs = iff _ _ (joined-any j n h (omega arith)) (any-joined j h) in
-      f j h ∙ rw (k, a, b)
+  holds-step more f = record { says = each }
+    where
+      each : (j : ℕ) → j < n → getD more j 0 ≡ bit (among (nameAt types j) (oneStep types xs))
+      each j h =
+          let k = keep-among (λ y. among y xs || any (λ x. among y (goesOn types x)) xs) (nameAt types j) (map (λ d. d .name) types) (among-self types j (omega arith)) in
+          let a : eqb (getD set j 0) 1 ≡ among (nameAt types j) xs = rw (holds .says j h) (bit-test _) in
+          let b : joined go set j n ≡ any (λ x. among (nameAt types j) (goesOn types x)) xs = iff _ _ (joined-any j n h (omega arith)) (any-joined j h) in
+          f j h ∙ rw (k, a, b)
 
 -- the sets that are reached
 module _ (types : List TypeDef) (xs ys : List ℕ) (n k : ℕ) (e : reached types n xs ≡ reached types (n - k) ys) where
@@ -251,6 +286,121 @@ module _ (types : List TypeDef) (xs ys : List ℕ) (n k : ℕ) (e : reached type
   pub reached-end : n ≤ k → reached types n xs ≡ ys
   unfolding reached
   reached-end h = let f : n - k ≡ 0 = omega arith in e ∙ rw f
+
+-- those that i goes on to are in a set
+module _ (go bytes : List ℕ) (i : ℕ) where
+  pub inside-none : inside go bytes i 0 ≡ true
+  unfolding inside
+  inside-none = refl
+
+  pub inside-out : (n j : ℕ) → j < n → getD go (32 * i + j) 0 ≡ 1 → (getD bytes j 0 ≡ 1 → ⊥) → inside go bytes i n ≡ false
+  unfolding inside
+  inside-out zero j h a b = absurd (omega arith)
+  inside-out (suc n) j h a b = pick (eqb j n) refl (inside-out n j)
+    where
+      pick : (t : Bool) → eqb j n ≡ t → (j < n → getD go (32 * i + j) 0 ≡ 1 → (getD bytes j 0 ≡ 1 → ⊥) → inside go bytes i n ≡ false) → (inside go bytes i n && (not (eqb (getD go (32 * i + n) 0) 1) || eqb (getD bytes n 0) 1)) ≡ false
+      pick true t r = let e : j ≡ n = eqb-true j n t in rw (← e, a, ne-eqb (getD bytes j 0) 1 b) (and-false (inside go bytes i j))
+      pick false t r = rw (r (omega (arith, eqb-false j n t)) a b)
+
+  pub inside-more : (j : ℕ) → inside go bytes i j ≡ true → (getD go (32 * i + j) 0 ≡ 1 → getD bytes j 0 ≡ 1) → inside go bytes i (j + 1) ≡ true
+  unfolding inside
+  inside-more j e f = rw (add-one j, e) (pick (eqb (getD go (32 * i + j) 0) 1) refl)
+    where
+      pick : (a : Bool) → eqb (getD go (32 * i + j) 0) 1 ≡ a → (not a || eqb (getD bytes j 0) 1) ≡ true
+      pick true t = eq-eqb _ 1 (f (eqb-true _ 1 t))
+      pick false t = refl
+
+  pub inside-end : (j n : ℕ) → n ≤ j → j ≤ n → inside go bytes i j ≡ true → true ≡ inside go bytes i n
+  inside-end j n h l e = let f : j ≡ n = omega arith in sym (rw f at e)
+
+  pub inside-each : (n : ℕ) → ((j : ℕ) → j < n → getD go (32 * i + j) 0 ≡ 1 → getD bytes j 0 ≡ 1) → inside go bytes i n ≡ true
+  inside-each zero f = inside-none
+  inside-each (suc n) f = rw (← add-one n) (inside-more n (inside-each n (λ j h. f j (omega arith))) (f n (omega arith)))
+
+  pub inside-at : (n j : ℕ) → inside go bytes i n ≡ true → j < n → getD go (32 * i + j) 0 ≡ 1 → getD bytes j 0 ≡ 1
+  inside-at n j e h a = pick (eqb (getD bytes j 0) 1) refl
+    where
+      pick : (t : Bool) → eqb (getD bytes j 0) 1 ≡ t → getD bytes j 0 ≡ 1
+      pick true t = eqb-true _ 1 t
+      pick false t = let f = inside-out n j h a (eqb-false _ 1 t) in let z : _≡_ {A = ℕ} 0 1 = cc in absurd (omega arith)
+
+-- from a set that is closed, only its own are reached
+module _ (types : List TypeDef) (n : ℕ) (many : length types ≡ n) (go bytes : List ℕ) (edges : Edges types n go) (settled : Settled types n go bytes) where
+  abbrev Inside : List ℕ → Type 0
+  Inside xs = (j : ℕ) → j < n → among (nameAt types j) xs ≡ true → getD bytes j 0 ≡ 1
+
+  step-inside : (xs : List ℕ) → Inside xs → Inside (oneStep types xs)
+  unfolding oneStep
+  step-inside xs f j h e =
+      let k = keep-among (λ y. among y xs || any (λ x. among y (goesOn types x)) xs) (nameAt types j) (map (λ d. d .name) types) (among-self types j (omega arith)) in
+      pick (among (nameAt types j) xs) (any (λ x. among (nameAt types j) (goesOn types x)) xs) refl refl (sym k ∙ e)
+    where
+      via : (x : ℕ) → among x xs ≡ true → among (nameAt types j) (goesOn types x) ≡ true → (b : Bool) → ltb (firstOf types x) n ≡ b → getD bytes j 0 ≡ 1
+      via x u v true t =
+          let l : firstOf types x < n = ltb-true (firstOf types x) n t in
+          let g : nameAt types (firstOf types x) ≡ x = first-name types x (omega arith) in
+          settled .closed (firstOf types x) l (f (firstOf types x) l (rw g u)) j h
+          (edges (firstOf types x) j l h ∙ bit-one (among (nameAt types j) (goesOn types (nameAt types (firstOf types x)))) (rw g v))
+      via x u v false t =
+          let w : among (nameAt types j) [] ≡ true = rw (goes-none types x (omega (arith, ltb-false (firstOf types x) n t))) at v in
+          let z : _≡_ {A = ℕ} 0 1 = cc in absurd (omega arith)
+
+      pick : (a b : Bool) → among (nameAt types j) xs ≡ a → any (λ x. among (nameAt types j) (goesOn types x)) xs ≡ b → (a || b) ≡ true → getD bytes j 0 ≡ 1
+      pick true b p q s = f j h p
+      pick false true p q s = let w = any-elim (λ x. among (nameAt types j) (goesOn types x)) xs q in via (w .0) (w .1) (w .2) (ltb (firstOf types (w .0)) n) refl
+      pick false false p q s = let z : _≡_ {A = ℕ} 0 1 = cc in absurd (omega arith)
+
+  reached-inside : (m : ℕ) (xs : List ℕ) → Inside xs → Inside (reached types m xs)
+  unfolding reached
+  reached-inside zero xs f = f
+  reached-inside (suc m) xs f = reached-inside m (oneStep types xs) (step-inside xs f)
+
+  -- one more whose own are all in the set
+  module _ (i : ℕ) (h : i < n) (room : i < length bytes) (all : inside go bytes i n ≡ true) where
+    itself-not : (m : ℕ) → among (nameAt types i) (reached types m (goesOn types (nameAt types i))) ≡ false
+    itself-not m = pick (eqb (getD bytes i 0) 1) refl (among (nameAt types i) (reached types m (goesOn types (nameAt types i)))) refl
+      where
+        start : Inside (goesOn types (nameAt types i))
+        start j l e = inside-at go bytes i n j all l (edges i j h l ∙ bit-one _ e)
+
+        pick : (a : Bool) → eqb (getD bytes i 0) 1 ≡ a → (b : Bool) → among (nameAt types i) (reached types m (goesOn types (nameAt types i))) ≡ b → b ≡ false
+        pick true s b t = sym t ∙ settled .acyclic i h (eqb-true _ 1 s) m
+        pick false s true t = absurd (eqb-false _ 1 s (reached-inside m (goesOn types (nameAt types i)) start i h t))
+        pick false s false t = refl
+
+    grown : (j : ℕ) → getD bytes j 0 ≡ 1 → getD (set bytes i 1) j 0 ≡ 1
+    grown j e = pick (eqb j i) refl
+      where
+        pick : (b : Bool) → eqb j i ≡ b → getD (set bytes i 1) j 0 ≡ 1
+        pick true t = let f : j ≡ i = eqb-true j i t in rw f (getD-set-same bytes i 1 0 room)
+        pick false t = getD-set-other bytes i j 1 0 (eqb-false j i t) ∙ e
+
+    pub settled-more : Settled types n go (set bytes i 1)
+    settled-more = record { closed = λ a l e j u g. grown j (own a l e (eqb a i) refl j u g); acyclic = λ a l e. free a l e (eqb a i) refl }
+      where
+        before : (a : ℕ) → getD (set bytes i 1) a 0 ≡ 1 → eqb a i ≡ false → getD bytes a 0 ≡ 1
+        before a e t = sym (getD-set-other bytes i a 1 0 (eqb-false a i t)) ∙ e
+
+        own : (a : ℕ) → a < n → getD (set bytes i 1) a 0 ≡ 1 → (b : Bool) → eqb a i ≡ b → (j : ℕ) → j < n → getD go (32 * a + j) 0 ≡ 1 → getD bytes j 0 ≡ 1
+        own a l e true t j u g = let f : a ≡ i = eqb-true a i t in inside-at go bytes i n j all u (rw (← f) g)
+        own a l e false t j u g = settled .closed a l (before a e t) j u g
+
+        free : (a : ℕ) → a < n → getD (set bytes i 1) a 0 ≡ 1 → (b : Bool) → eqb a i ≡ b → (m : ℕ) → among (nameAt types a) (reached types m (goesOn types (nameAt types a))) ≡ false
+        free a l e true t m = let f : a ≡ i = eqb-true a i t in rw f (itself-not m)
+        free a l e false t m = settled .acyclic a l (before a e t) m
+
+pub all-more : (bytes : List ℕ) (i : ℕ) → ((k : ℕ) → k < i → getD bytes k 0 ≡ 1) → getD bytes i 0 ≡ 1 → (k : ℕ) → k < i + 1 → getD bytes k 0 ≡ 1
+all-more bytes i f e k h = pick (eqb k i) refl
+  where
+    pick : (b : Bool) → eqb k i ≡ b → getD bytes k 0 ≡ 1
+    pick true t = let g : k ≡ i = eqb-true k i t in rw g e
+    pick false t = f k (omega (arith, eqb-false k i t))
+
+pub settled-none : (types : List TypeDef) (n : ℕ) (go : List ℕ) → n ≤ 32 → Settled types n go (replicate 32 0)
+settled-none types n go l = record { closed = λ i h e. absurd (no i h e); acyclic = λ i h e. absurd (no i h e) }
+  where
+    no : (i : ℕ) → i < n → _≡_ {A = ℕ} (getD (replicate 32 0) i 0) 1 → ⊥
+    no i h e = let f = getD-replicate {A = ℕ} 32 i 0 0 (omega arith) in omega arith
 
 -- the first definition that reaches itself, from the i-th on
 pub record Passed (types : List TypeDef) (i : ℕ) : Type 0 where
@@ -323,3 +473,16 @@ module _ (types : List TypeDef) (n : ℕ) (many : length types ≡ n) (i : ℕ) 
           from = c .from ∙ rw (drop-cons types i nowhere (omega arith)) (rw (c .are (nameAt types i), lt-ltb (firstOf types (nameAt types i)) i l, add-one i) (omega arith));
           are = are-more;
         }
+
+-- where none reaches itself
+module _ (types : List TypeDef) (n : ℕ) (many : length types ≡ n) (none : (i : ℕ) → i < n → among (nameAt types i) (reached types n (goesOn types (nameAt types i))) ≡ false) where
+  passed-each : (i : ℕ) → i ≤ n → Passed types i
+  passed-each zero h = passed-none types
+  passed-each (suc i) h = rw (← add-one i) (pick (passed-each i (omega arith)) (eqb (firstOf types (nameAt types i)) i) refl)
+    where
+      pick : Passed types i → (b : Bool) → eqb (firstOf types (nameAt types i)) i ≡ b → Passed types (i + 1)
+      pick c true e = passed-on types n many i c (omega arith) (firstOf types (nameAt types i)) refl false (sym (none i (omega arith))) (eqb-true _ i e) refl
+      pick c false e = passed-over types n many i c (omega arith) (firstOf types (nameAt types i)) refl (eqb-false _ i e)
+
+  pub no-cycle : n ≡ firstCycle types [] types
+  no-cycle = passed-all types n many n (passed-each n (omega arith)) (omega arith) (omega arith)

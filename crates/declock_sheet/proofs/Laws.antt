@@ -34,6 +34,7 @@ use Rattle.layout.specs.Laid.{Laid, LaidSheet}
 use Rattle.rows.specs.Rows.{clocksIn}
 use Rattle.rows.proofs.Laws.{has-all, has-count}
 use Rattle.shapes.proofs.Clockless.{output-as-came}
+use Rattle.infer_clocks.specs.Clocked.{Sole}
 use Rattle.emit.specs.Out.{Out, emits}
 use Rattle.emit.proofs.Laws.{emits-none}
 use Rattle.callees.specs.Callees.{Standing}
@@ -59,6 +60,7 @@ use Rattle.openings.specs.declared.Sizes.{Sizes}
 use Rattle.openings.specs.Planned as planned
 use Rattle.node_tables.specs.Filled.{Filled}
 use Rattle.output_names.specs.Faultless.{Faultless}
+use Rattle.output_names.proofs.Laws.{sole-here}
 use Rattle.declock.specs.Ready.{Ready, needsIn, yieldIn}
 use Rattle.declock_sheet.specs.Clocked.{Clocked}
 
@@ -247,9 +249,9 @@ module _ {starts letters tags values : List ℕ} {M : ℕ} {bytes : List ℕ} {r
         }
 
     -- one node more
-    pub tokens-more : (at : ℕ) → at ≡ getD places i 0 → (o o₁ o₂ : Out)
-        → ((names all : List Letters) (s : Sheet) (n₁ : ClockedNode) (q : ℕ) → Clocked starts letters tags values places typePlaces lens text c sizes names all s n₁ → node M (tokens tags values) at ≡ got (n₁ .node) q → o₂ ≡ emits o₁ (nodeTokens (outputNode names s all n₁)))
+    pub tokens-more : {env env₀ : List ℕ} → Sole env₀ M (r .sheet .nodes) → (n ≤ 1 → env ≡ env₀) → (at : ℕ) → at ≡ getD places i 0 → (o o₁ o₂ : Out)
+        → ((names all : List Letters) (s : Sheet) (n₁ : ClockedNode) (q : ℕ) → Clocked starts letters tags values places typePlaces lens text c sizes names all s n₁ → node M (tokens tags values) at ≡ got (n₁ .node) q → (n ≤ 1 → usesClocks (n₁ .node) ≡ true → Agrees env M (n₁ .clocking .names)) → o₂ ≡ emits o₁ (nodeTokens (outputNode names s all n₁)))
         → o₁ ≡ emits o (sofar i) → o₂ ≡ emits o (sofar (i + 1))
-    tokens-more at e o o₁ o₂ put before =
+    tokens-more sole same at e o o₁ o₂ put before =
         let g : node M (tokens tags values) at ≡ got (here .clocked .node) (read-here .0) = ap (node M (tokens tags values)) e ∙ read-here .1 in
-        after o o₁ o₂ _ _ before (put (r .names) all (r .sheet) (here .clocked) (read-here .0) clocked-here g) ∙ ap (emits o) (sym (tokens-front (r .names) (r .sheet) all here))
+        after o o₁ o₂ _ _ before (put (r .names) all (r .sheet) (here .clocked) (read-here .0) clocked-here g (sole-here sole (stands .count) same here)) ∙ ap (emits o) (sym (tokens-front (r .names) (r .sheet) all here))

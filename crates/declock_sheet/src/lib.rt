@@ -23,6 +23,7 @@ ghost use Rattle.definitions.specs.Answer.{Input};
 ghost use Rattle.environment.specs.Environment.{Agrees};
 ghost use Rattle.fresh.specs.Table.{Sound, Holds};
 ghost use Rattle.layout.specs.Laid.{Laid};
+ghost use Rattle.infer_clocks.specs.Clocked.{Sole};
 ghost use Rattle.emit.specs.Out.{out, emits};
 ghost use Rattle.stateless.specs.Whole.{noNeeds, oldNeeds};
 ghost use Rattle.node_tables.specs.Filled.{Filled};
@@ -228,13 +229,16 @@ fn put_node(
     requires { ⌜ length (now values) ≡ length (now tags) ⌝ }
     requires { ⌜ (k .nodes ≤ 16) × (k .types ≤ 32) ⌝ }
     requires { ⌜ Sound (now lengths) (now text) c ⌝ }
-    ensures { λ r. ⌜ ((names all : List Letters) (s : Sheet) (n : ClockedNode) (q : ℕ) → Clocked (now (starts .entry)) (now (letters .entry)) (now (tags .entry)) (now (values .entry)) (now (places .entry)) (now («type_places» .entry)) (now (lengths .entry)) (now (text .entry)) c k names all s n → node (k .names) (tokens (now (tags .entry)) (now (values .entry))) at ≡ got (n .node) q → out (now (otags .exit)) (now (ovalues .exit)) r ≡ emits (out (now (otags .entry)) (now (ovalues .entry)) w) (nodeTokens (outputNode names s all n))) ⌝ }
+    ensures { λ _. ⌜ (k .nodes ≤ 1 → now (env .exit) ≡ now (env .entry)) ⌝ }
+    ensures { λ r. ⌜ ((names all : List Letters) (s : Sheet) (n : ClockedNode) (q : ℕ) → Clocked (now (starts .entry)) (now (letters .entry)) (now (tags .entry)) (now (values .entry)) (now (places .entry)) (now («type_places» .entry)) (now (lengths .entry)) (now (text .entry)) c k names all s n → node (k .names) (tokens (now (tags .entry)) (now (values .entry))) at ≡ got (n .node) q → (k .nodes ≤ 1 → usesClocks (n .node) ≡ true → Agrees (now (env .entry)) (k .names) (n .clocking .names)) → out (now (otags .exit)) (now (ovalues .exit)) r ≡ emits (out (now (otags .entry)) (now (ovalues .entry)) w) (nodeTokens (outputNode names s all n))) ⌝ }
 {
     let names = k.names;
     let l = layout::node_at(tags, values, names, at);
     let uses = sheet::node_uses_clocks(tags, values, names, at);
     if uses {
-        infer_clocks::name_clocks(tags, values, names, l, env);
+        // an only node's clocks are there already
+        let held = k.nodes <= 1;
+        infer_clocks::name_clocks(tags, values, names, l, env, held);
         return put_clocked(
             starts,
             letters,
@@ -258,7 +262,8 @@ fn put_node(
     node_parts::put_node_as_it_came(otags, ovalues, w, tags, values, l)
 }
 
-// The output: its types, then each node. The place after the last token; 8,193, where they do not fit.
+// The output: its types, then each node. The place after the last token; 8,193, where they do not fit. `env` has the clocks of an only
+// node.
 pub fn declock_sheet(
     starts: &[u32],
     letters: &[u8],
@@ -276,7 +281,7 @@ pub fn declock_sheet(
 ) -> usize
     requires { ⌜ length (now values) ≡ length (now tags) ⌝ }
     requires { ⌜ Sound (now lengths) (now text) c ⌝ }
-    ensures { λ r. ⌜ ((bytes : List ℕ) (i : Input) (ns : List ClockedNode) → Faultless (now (starts .entry)) (now (letters .entry)) (now (tags .entry)) (now (values .entry)) names bytes i ns → Holds (now (lengths .entry)) (now (text .entry)) c (namesOut (i .names) (i .sheet) ns) → c .full ≡ false → out (now (otags .exit)) (now (ovalues .exit)) r ≡ emits (out (now (otags .entry)) (now (ovalues .entry)) 0) (sheetTokens (sheetOut (i .names) (i .sheet) ns))) ⌝ }
+    ensures { λ r. ⌜ ((bytes : List ℕ) (i : Input) (ns : List ClockedNode) → Faultless (now (starts .entry)) (now (letters .entry)) (now (tags .entry)) (now (values .entry)) names bytes i ns → Sole (now (env .entry)) names (i .sheet .nodes) → Holds (now (lengths .entry)) (now (text .entry)) c (namesOut (i .names) (i .sheet) ns) → c .full ≡ false → out (now (otags .exit)) (now (ovalues .exit)) r ≡ emits (out (now (otags .entry)) (now (ovalues .entry)) 0) (sheetTokens (sheetOut (i .names) (i .sheet) ns))) ⌝ }
 {
     let whole = layout::sheet_at(tags, values, names);
     let types = whole.types;
@@ -290,7 +295,7 @@ pub fn declock_sheet(
         return 0;
     }
     let places = layout::node_places(tags, values, names, n, span.at);
-    let type_places = typedefs::definition_places(tags, values, names, m, types.at);
+    let type_places = layout::definition_places(tags, values, names, m, types.at);
     let condact = new_names::condact_id(lengths, text, c);
     let k = Sizes {
         names,

@@ -12,16 +12,15 @@ use Rattle.definitions.specs.declared.Primitive.{Primitive}
 use Rattle.definitions.specs.Tokens.{TagValue}
 use Rattle.definitions.specs.Tree.{Ty, Declared, Body, TypeDef, Head, Expr, Exprs}
 use Rattle.definitions.specs.Reading.{got, times}
-use Rattle.definitions.specs.Grammar.{name, ty, declaration, typeDef}
+use Rattle.definitions.specs.Grammar.{name, ty, declaration}
 use Rattle.definitions.specs.Types.{copies, definitionOf, defaultBy, defaultsBy, defaultOf, defaultNamed, default}
 use Rattle.grammar.proofs.Laws.{times-length}
 use Rattle.grammar.proofs.Got.{times-nil}
 use Rattle.typedefs.specs.declared.Defined.{Defined}
-use Rattle.typedefs.specs.Table.{nowhere, defAt, nameAt, isNamed, firstOf, Table, Named, Described}
+use Rattle.typedefs.specs.Table.{nowhere, defAt, nameAt, isNamed, firstOf, Described}
 use Rattle.typedefs.proofs.Laws.{FirstField, find-none, find-some}
-use Rattle.cycles.specs.Edges.{bit}
 use Rattle.cycles.proofs.Laws.{first-name, bit-test}
-use Rattle.defaults.specs.Has.{isSome, Has}
+use Rattle.defaults.specs.Has.{isSome, Has, HasBy}
 
 -- whether a type has a default, G saying it of names
 module _ (G : ℕ → Option Expr) where
@@ -103,25 +102,18 @@ module _ (types : List TypeDef) (x : ℕ) where
   unfolding defaultNamed definitionOf
   named-by k i e h = rw e (rw (find-some (isNamed x) types nowhere (omega arith), defaultNamed))
 
-module _ (types : List TypeDef) (n : ℕ) (many : length types ≡ n) (x k i : ℕ) (first : i ≡ firstOf types x) where
-  pub has-unnamed : n ≤ i → false ≡ isSome (defaultNamed types k x)
-  has-unnamed h = rw (unnamed types x k (omega arith))
+-- what is known k definitions down gives no name that is not defined a default
+pub has-by : (types : List TypeDef) (n k : ℕ) (has : List ℕ) → Has types n k has → HasBy types n (defaultNamed types k) has
+has-by types n k has f = record { bytes = f; unknown = λ x h. rw (unnamed types x k h) }
 
-  pub has-at : (has : List ℕ) → Has types n k has → i < n → eqb (getD has i 0) 1 ≡ isSome (defaultNamed types k x)
-  has-at has f h =
+module _ (types : List TypeDef) (n : ℕ) (many : length types ≡ n) (G : ℕ → Option Expr) (has : List ℕ) (by : HasBy types n G has) (x i : ℕ) (first : i ≡ firstOf types x) where
+  pub has-unnamed : n ≤ i → false ≡ isSome (G x)
+  has-unnamed h = sym (by .unknown x (omega arith))
+
+  pub has-at : i < n → eqb (getD has i 0) 1 ≡ isSome (G x)
+  has-at h =
       let e : nameAt types i ≡ x = rw first (first-name types x (omega arith)) in
-      ap (λ (y : ℕ). eqb y 1) (f i h) ∙ bit-test _ ∙ ap (λ (y : ℕ). isSome (defaultNamed types k y)) e
-
--- a byte of the next round
-module _ (M : ℕ) (ts : List TagValue) (places : List ℕ) (n : ℕ) (types : List TypeDef) (t : Table M ts places n types) (k i j x : ℕ) (ex : x ≡ nameAt types i) (first : j ≡ firstOf types x) where
-  pub byte-unnamed : n ≤ j → 0 ≡ bit (isSome (defaultNamed types (suc k) (nameAt types i)))
-  byte-unnamed h = rw (← ex, unnamed types x (suc k) (omega (arith, t .count)))
-
-  pub byte-has : (b : Bool) → j < n → ((d : TypeDef) (q : ℕ) → typeDef M ts (getD places j 0) ≡ got d q → b ≡ isSome (defaultOf (defaultNamed types k) d (d .body))) →
-      bit b ≡ bit (isSome (defaultNamed types (suc k) (nameAt types i)))
-  byte-has b h f =
-      let s = t .stands j h in
-      rw (← ex, named-by types x k j first (omega (arith, t .count))) (ap bit (f (defAt types j) (s .0) (s .1)))
+      ap (λ (y : ℕ). eqb y 1) (by .bytes i h) ∙ bit-test _ ∙ ap (λ (y : ℕ). isSome (G y)) e
 
 -- at first none has one, and after n rounds it is settled
 pub has-start : (types : List TypeDef) (n : ℕ) → n ≤ 32 → Has types n 0 (replicate 32 0)

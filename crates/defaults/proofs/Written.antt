@@ -26,6 +26,8 @@ use Rattle.typedefs.specs.Table.{defAt, firstOf, Table, Described}
 use Rattle.typedefs.proofs.Laws.{name-value}
 use Rattle.emit.specs.Out.{Out, out, emits}
 use Rattle.emit.proofs.Laws.{emits-append, emits-none}
+use Rattle.defaults.specs.declared.Plain.{Plain}
+use Rattle.defaults.specs.Plain.{IsPlain}
 use Rattle.defaults.proofs.Laws.{unnamed, named-by}
 
 append-nil : {A : Type 0} (l : List A) → l ++ [] ≡ l
@@ -73,9 +75,32 @@ unfolding operandTokens copies
 copies-length zero e = refl
 copies-length (suc m) e = ap suc (copies-length m e)
 
+-- an array of a primitive type, by the constant
+pub plain-default : (G : ℕ → Option Expr) (P : Plain) (l : Literal) (t : Ty) (y : Expr) → IsPlain P t → P ≡ Plain.Constant l → defaultBy G t ≡ some y → y ≡ Expr.const l 0
+unfolding defaultBy
+plain-default G P l t y i e d =
+    let h = i l e in
+    let f : some (Expr.const (primitiveDefault (h .0)) 0) ≡ some y = rw (h .1) at d in
+    let g : y ≡ Expr.const (primitiveDefault (h .0)) 0 = cc in
+    g ∙ ap (λ (k : Literal). Expr.const k 0) (sym (h .2))
+
+-- so many times a constant: one more, none left, and where nothing fits any more
+module _ (l : Literal) where
+  pub literals-more : (o o₁ o₂ : Out) (n : ℕ) → 0 < n → o₂ ≡ emits o₁ (literalTokens l 0) → o ≡ emits o₁ (join (operandTokens (copies n (Expr.const l 0)))) → o ≡ emits o₂ (join (operandTokens (copies (n - 1) (Expr.const l 0))))
+  unfolding operandTokens copies exprTokens
+  literals-more o o₁ o₂ zero h f e = absurd (omega arith)
+  literals-more o o₁ o₂ (suc n) h f e = let i : suc n - 1 ≡ n = omega arith in e ∙ rw (i, f) (sym (emits-append o₁ (literalTokens l 0) (join (operandTokens (copies n (Expr.const l 0))))))
+
+  pub literals-none : (o o₁ : Out) (n : ℕ) → n ≤ 0 → o ≡ emits o₁ (join (operandTokens (copies n (Expr.const l 0)))) → o₁ ≡ o
+  unfolding operandTokens copies
+  literals-none o o₁ n h e = let i : n ≡ 0 = omega arith in sym (rw i at e ∙ emits-none o₁)
+
 pub wrote-array : (e y : Expr) (m : ℕ) (o o₁ o₂ : Out) → e ≡ Expr.op Head.array (copies m y) → o₁ ≡ emits o (Token.Expression ExprToken.Array ∷ Token.Count m ∷ []) → o₂ ≡ emits o₁ (join (operandTokens (copies m y))) → o₂ ≡ emits o (exprTokens e)
 unfolding exprTokens formTokens
 wrote-array e y m o o₁ o₂ j f g = then o o₁ o₂ _ _ _ f g (rw (j, copies-length m y))
+
+pub wrote-plain : (e y : Expr) (l : Literal) (m : ℕ) (o o₁ o₂ : Out) → e ≡ Expr.op Head.array (copies m y) → y ≡ Expr.const l 0 → o₁ ≡ emits o (Token.Expression ExprToken.Array ∷ Token.Count m ∷ []) → o₂ ≡ emits o₁ (join (operandTokens (copies m (Expr.const l 0)))) → o₂ ≡ emits o (exprTokens e)
+wrote-plain e y l m o o₁ o₂ j k f g = wrote-array e (Expr.const l 0) m o o₁ o₂ (rw k at j) f g
 
 -- copies of a default
 pub wrote-none : (e : Expr) (m : ℕ) (o : Out) → m ≡ 0 → o ≡ emits o (join (operandTokens (copies m e)))

@@ -1,6 +1,6 @@
 // Defaults of types: document 01, "Declocking". Whether a type has one is found once for each definition; then it is written.
 // `tags` and `values` are a sheet's tokens, `names` the number of its names; `places` are those of its n definitions;
-// byte i of `has` says whether definition i has a default.
+// byte i of `has` says whether definition i has a default; `go` is the table of crate `cycles`.
 use definitions::ExprToken;
 use definitions::Literal;
 use definitions::Primitive;
@@ -11,8 +11,10 @@ use grammar::TypeHead;
 use typedefs::Defined;
 ghost use mathlib.Core.Path.{_≡_};
 ghost use mathlib.Core.List.{List, [], _∷_, map};
-ghost use mathlib.Core.Option.{some};
+ghost use mathlib.Core.Bool.{_&&_};
+ghost use mathlib.Core.Option.{Option, some};
 ghost use Prim.Native.Nat.{ℕ, suc, _≤_, _<_};
+ghost use lib.Dec.{eqb};
 ghost use lib.ListN.{length, getD};
 ghost use Rattle.definitions.specs.Bytes.{tokens};
 ghost use Rattle.definitions.specs.Lists.{join};
@@ -22,14 +24,21 @@ ghost use Rattle.definitions.specs.Grammar.{ty, declaration, typeDef};
 ghost use Rattle.definitions.specs.Types.{copies, primitiveDefault, defaultBy, defaultsBy, defaultOf, defaultNamed, default};
 ghost use Rattle.definitions.specs.Output.{literalTokens, fieldTokens, exprTokens, operandTokens};
 ghost use Rattle.typedefs.specs.Table.{Table, Named, nameAt};
-ghost use Rattle.cycles.specs.Edges.{bit};
+ghost use Rattle.cycles.specs.Edges.{bit, inside};
 ghost use Rattle.emit.specs.Out.{out, emits};
-ghost use Rattle.defaults.specs.Has.{isSome, Has};
+ghost use Rattle.defaults.specs.Has.{isSome, Has, HasBy, known, down, Own, alike};
+ghost use Rattle.defaults.specs.Plain.{IsPlain};
+
+// A primitive type's default, or another type: many of the former are written without going down the type again.
+pub enum Plain {
+    Constant(Literal),
+    Other,
+}
 
 // Has the type of this name a default?
 pub fn named_has(values: &[u32], places: &[usize; 32], n: usize, has: &[u8; 32], x: u32) -> bool
     requires { ⌜ n ≤ 32 ⌝ }
-    ensures { λ r. ⌜ ((types : List TypeDef) (k : ℕ) → Named (now (values .entry)) (now (places .entry)) n types → Has types n k (now (has .entry)) → r ≡ isSome (defaultNamed types k x)) ⌝ }
+    ensures { λ r. ⌜ ((types : List TypeDef) (G : ℕ → Option Expr) → Named (now (values .entry)) (now (places .entry)) n types → HasBy types n G (now (has .entry)) → r ≡ isSome (G x)) ⌝ }
 {
     let k = typedefs::find_definition(values, places, n, x);
     if n <= k {
@@ -51,7 +60,7 @@ pub fn type_has(
 ) -> bool
     requires { ⌜ length (now values) ≡ length (now tags) ⌝ }
     requires { ⌜ n ≤ 32 ⌝ }
-    ensures { λ r. ⌜ ((types : List TypeDef) (k : ℕ) (t : Ty) (q : ℕ) → Table names (tokens (now (tags .entry)) (now (values .entry))) (now (places .entry)) n types → Has types n k (now (has .entry)) → ty names depth (tokens (now (tags .entry)) (now (values .entry))) at ≡ got t q → r ≡ isSome (defaultBy (defaultNamed types k) t)) ⌝ }
+    ensures { λ r. ⌜ ((types : List TypeDef) (G : ℕ → Option Expr) (t : Ty) (q : ℕ) → Table names (tokens (now (tags .entry)) (now (values .entry))) (now (places .entry)) n types → HasBy types n G (now (has .entry)) → ty names depth (tokens (now (tags .entry)) (now (values .entry))) at ≡ got t q → r ≡ isSome (defaultBy G t)) ⌝ }
 {
     let head = grammar::type_head(tags, values, names, at);
     match head {
@@ -81,7 +90,7 @@ pub fn fields_have(
 ) -> bool
     requires { ⌜ length (now values) ≡ length (now tags) ⌝ }
     requires { ⌜ n ≤ 32 ⌝ }
-    ensures { λ r. ⌜ ((types : List TypeDef) (k : ℕ) (fs : List Declared) (q : ℕ) → Table names (tokens (now (tags .entry)) (now (values .entry))) (now (places .entry)) n types → Has types n k (now (has .entry)) → times left (declaration names) (tokens (now (tags .entry)) (now (values .entry))) at ≡ got fs q → r ≡ isSome (defaultsBy (defaultNamed types k) fs)) ⌝ }
+    ensures { λ r. ⌜ ((types : List TypeDef) (G : ℕ → Option Expr) (fs : List Declared) (q : ℕ) → Table names (tokens (now (tags .entry)) (now (values .entry))) (now (places .entry)) n types → HasBy types n G (now (has .entry)) → times left (declaration names) (tokens (now (tags .entry)) (now (values .entry))) at ≡ got fs q → r ≡ isSome (defaultsBy G fs)) ⌝ }
 {
     if left == 0 {
         return true;
@@ -124,7 +133,7 @@ pub fn definition_has(
 ) -> bool
     requires { ⌜ length (now values) ≡ length (now tags) ⌝ }
     requires { ⌜ n ≤ 32 ⌝ }
-    ensures { λ r. ⌜ ((types : List TypeDef) (k : ℕ) (d : TypeDef) (q : ℕ) → Table names (tokens (now (tags .entry)) (now (values .entry))) (now (places .entry)) n types → Has types n k (now (has .entry)) → typeDef names (tokens (now (tags .entry)) (now (values .entry))) at ≡ got d q → r ≡ isSome (defaultOf (defaultNamed types k) d (d .body))) ⌝ }
+    ensures { λ r. ⌜ ((types : List TypeDef) (G : ℕ → Option Expr) (d : TypeDef) (q : ℕ) → Table names (tokens (now (tags .entry)) (now (values .entry))) (now (places .entry)) n types → HasBy types n G (now (has .entry)) → typeDef names (tokens (now (tags .entry)) (now (values .entry))) at ≡ got d q → r ≡ isSome (defaultOf G d (d .body))) ⌝ }
 {
     let found = typedefs::describe(tags, values, names, at);
     match found {
@@ -144,55 +153,94 @@ pub fn definition_has(
     }
 }
 
-// Has the name of definition i a default, one definition further down? A byte.
-pub fn has_byte(
+// Has the name of definition i a default, if every name that is defined has one? A byte.
+pub fn own_byte(
     tags: &[u8],
     values: &[u32],
     names: u32,
     places: &[usize; 32],
     n: usize,
-    has: &[u8; 32],
     i: usize,
 ) -> u8
     requires { ⌜ length (now values) ≡ length (now tags) ⌝ }
     requires { ⌜ (n ≤ 32) × (i < n) ⌝ }
-    ensures { λ r. ⌜ ((types : List TypeDef) (k : ℕ) → Table names (tokens (now (tags .entry)) (now (values .entry))) (now (places .entry)) n types → Has types n k (now (has .entry)) → r ≡ bit (isSome (defaultNamed types (suc k) (nameAt types i)))) ⌝ }
+    ensures { λ r. ⌜ ((types : List TypeDef) → Table names (tokens (now (tags .entry)) (now (values .entry))) (now (places .entry)) n types → r ≡ bit (isSome (down types (known types) (nameAt types i)))) ⌝ }
 {
+    let every = [1u8; 32];
     let x = typedefs::value_at(values, places[i]);
     let k = typedefs::find_definition(values, places, n, x);
     if n <= k {
         return 0;
     }
-    if definition_has(tags, values, names, places, n, has, places[k]) {
+    if definition_has(tags, values, names, places, n, &every, places[k]) {
         1
     } else {
         0
     }
 }
 
-// Which definitions have a default, one definition further down.
-pub fn has_round(
+// Which definitions have a default, if every name that is defined has one: what their tokens have to say, read once.
+pub fn own_bytes(
     tags: &[u8],
     values: &[u32],
     names: u32,
     places: &[usize; 32],
     n: usize,
-    has: &[u8; 32],
 ) -> [u8; 32]
     requires { ⌜ length (now values) ≡ length (now tags) ⌝ }
     requires { ⌜ n ≤ 32 ⌝ }
-    ensures { λ r. ⌜ ((types : List TypeDef) (k : ℕ) → Table names (tokens (now (tags .entry)) (now (values .entry))) (now (places .entry)) n types → Has types n k (now (has .entry)) → Has types n (suc k) r) ⌝ }
+    ensures { λ r. ⌜ ((types : List TypeDef) → Table names (tokens (now (tags .entry)) (now (values .entry))) (now (places .entry)) n types → Own types n r) ⌝ }
+{
+    let mut own = [0u8; 32];
+    let mut i: usize = 0;
+    while i < n {
+        own[i] = own_byte(tags, values, names, places, n, i);
+        i += 1;
+    }
+    own
+}
+
+// Has the name of definition i a default, one definition further down? A byte.
+pub fn has_byte(go: &[u8; 1024], own: &[u8; 32], n: usize, has: &[u8; 32], i: usize) -> u8
+    requires { ⌜ (n ≤ 32) × (i < 32) ⌝ }
+    ensures { λ r. ⌜ r ≡ bit (eqb (getD (now (own .entry)) i 0) 1 && inside (now (go .entry)) (now (has .entry)) i n) ⌝ }
+{
+    if own[i] != 1 {
+        return 0;
+    }
+    if cycles::within(go, has, n, i) { 1 } else { 0 }
+}
+
+// Which definitions have a default, one definition further down.
+pub fn has_round(go: &[u8; 1024], own: &[u8; 32], n: usize, has: &[u8; 32]) -> [u8; 32]
+    requires { ⌜ n ≤ 32 ⌝ }
+    ensures { λ r. ⌜ ((i : ℕ) → i < n → getD r i 0 ≡ bit (eqb (getD (now (own .entry)) i 0) 1 && inside (now (go .entry)) (now (has .entry)) i n)) ⌝ }
 {
     let mut more = [0u8; 32];
     let mut i: usize = 0;
     while i < n {
-        more[i] = has_byte(tags, values, names, places, n, has, i);
+        more[i] = has_byte(go, own, n, has, i);
         i += 1;
     }
     more
 }
 
-// Which definitions have a default: as many rounds as there are definitions.
+// Are the first n bytes the same?
+pub fn same_bytes(has: &[u8; 32], more: &[u8; 32], n: usize) -> bool
+    requires { ⌜ n ≤ 32 ⌝ }
+    ensures { λ r. ⌜ r ≡ alike (now (has .entry)) (now (more .entry)) n ⌝ }
+{
+    let mut i: usize = 0;
+    while i < n {
+        if has[i] != more[i] {
+            return false;
+        }
+        i += 1;
+    }
+    true
+}
+
+// Which definitions have a default: at most as many rounds as there are definitions, over tables, so that tokens are not read again in each.
 pub fn has_defaults(
     tags: &[u8],
     values: &[u32],
@@ -204,10 +252,16 @@ pub fn has_defaults(
     requires { ⌜ n ≤ 32 ⌝ }
     ensures { λ r. ⌜ ((types : List TypeDef) → Table names (tokens (now (tags .entry)) (now (values .entry))) (now (places .entry)) n types → Has types n n r) ⌝ }
 {
+    let go = cycles::edges(tags, values, names, places, n);
+    let own = own_bytes(tags, values, names, places, n);
     let mut has = [0u8; 32];
     let mut k: usize = 0;
     while k < n {
-        let more = has_round(tags, values, names, places, n, &has);
+        let more = has_round(&go, &own, n, &has);
+        // A round that changes nothing is followed by no other that does.
+        if same_bytes(&has, &more, n) {
+            return has;
+        }
         has = more;
         k += 1;
     }
@@ -249,6 +303,44 @@ pub fn emit_literal(
         Literal::Int(_) => emit::emit(otags, ovalues, next, Token::High(0)),
         Literal::Float(_) => emit::emit(otags, ovalues, next, Token::High(0)),
         Literal::Char(_) => next,
+    }
+}
+
+// So many times a constant.
+pub fn emit_literals(
+    otags: &mut [u8; 8192],
+    ovalues: &mut [u32; 8192],
+    w: usize,
+    l: Literal,
+    m: u32,
+) -> usize
+    ensures { λ r. ⌜ out (now (otags .exit)) (now (ovalues .exit)) r ≡ emits (out (now (otags .entry)) (now (ovalues .entry)) w) (join (operandTokens (copies m (Expr.const l 0)))) ⌝ }
+{
+    let mut next = w;
+    let mut left = m;
+    while 0 < left {
+        if next == 8193 {
+            return next;
+        }
+        next = emit_literal(otags, ovalues, next, l);
+        left -= 1;
+    }
+    next
+}
+
+// The constant of a type that is primitive, or none.
+pub fn literal_at(tags: &[u8], values: &[u32], names: u32, at: usize) -> Plain
+    requires { ⌜ length (now values) ≡ length (now tags) ⌝ }
+    ensures { λ r. ⌜ ((depth : ℕ) (t : Ty) (q : ℕ) → ty names depth (tokens (now (tags .entry)) (now (values .entry))) at ≡ got t q → IsPlain r t) ⌝ }
+{
+    let head = grammar::type_head(tags, values, names, at);
+    match head {
+        TypeHead::Refused(_) => Plain::Other,
+        TypeHead::Token(t, _) => match t {
+            TypeToken::Basic(p) => Plain::Constant(default_literal(p)),
+            TypeToken::Named(_) => Plain::Other,
+            TypeToken::Array(_) => Plain::Other,
+        },
     }
 }
 
@@ -321,20 +413,24 @@ pub fn emit_type(
                     Token::Expression(ExprToken::Array),
                     Token::Count(m),
                 );
-                emit_copies(
-                    tags,
-                    values,
-                    names,
-                    places,
-                    n,
-                    fuel,
-                    depth - 1,
-                    next,
-                    m,
-                    otags,
-                    ovalues,
-                    first,
-                )
+                let element = literal_at(tags, values, names, next);
+                match element {
+                    Plain::Constant(l) => emit_literals(otags, ovalues, first, l, m),
+                    Plain::Other => emit_copies(
+                        tags,
+                        values,
+                        names,
+                        places,
+                        n,
+                        fuel,
+                        depth - 1,
+                        next,
+                        m,
+                        otags,
+                        ovalues,
+                        first,
+                    ),
+                }
             },
         },
     }

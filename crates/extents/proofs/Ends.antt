@@ -1,4 +1,4 @@
--- Where names, probes and equations that were read end. Assumes nothing.
+-- Where names, probes, definitions and equations that were read end. Assumes nothing.
 use mathlib.Core.Path.{_≡_, refl, sym, _∙_, ap}
 use mathlib.Core.List.{List}
 use Prim.Native.Nat.{ℕ, zero, suc, _+_, _*_, _-_, _<_, _≤_}
@@ -7,14 +7,16 @@ use native.Mathlib.Numerals.{sub-one}
 use lib.ListN.{length, getD}
 use Rattle.definitions.specs.Tokens.{TagValue}
 use Rattle.definitions.specs.Bytes.{tokens}
-use Rattle.definitions.specs.Tree.{Expr, Declared, Equation, Probe}
+use Rattle.definitions.specs.Tree.{Ty, Declared, TypeDef, Expr, Equation, Probe}
 use Rattle.definitions.specs.Reading.{got, Reader, times}
-use Rattle.definitions.specs.Grammar.{name, declaration, expr, equation, probe}
+use Rattle.definitions.specs.Grammar.{name, ty, declaration, expr, equation, probe}
 use Rattle.grammar.proofs.Laws.{after-got, tokens-length}
 use Rattle.grammar.proofs.Longer.{keeps, name-grows, probe-grows, times-keeps, counted-grows}
 use Rattle.grammar.proofs.Got.{times-nil, times-cons, tagged-value, counted-value, equation-got}
+use Rattle.typedefs.specs.declared.Defined.{Defined}
+use Rattle.typedefs.specs.Table.{Described}
 use Rattle.extents.specs.Owed.{Owed}
-use Rattle.extents.proofs.Owed.{owed-all, expr-owes, declaration-owes, times-owes}
+use Rattle.extents.proofs.Owed.{owed-all, type-owes, expr-owes, declaration-owes, times-owes}
 
 module _ (gs vs : List ℕ) (same : length vs ≡ length gs) where
   -- each item that R reads has w tokens
@@ -62,6 +64,27 @@ module _ (gs vs : List ℕ) (same : length vs ≡ length gs) where
 
   pub declaration-parts : (M n p : ℕ) (l : List Declared) (q : ℕ) → times n (declaration M) (tokens gs vs) p ≡ got l q → Owed gs vs p n q
   declaration-parts M n p l q g = owed-all gs vs same (times n (declaration M)) n (times-owes gs vs same (declaration M) (declaration-owes gs vs same M) n) p l q g
+
+  pub type-part : (M d p : ℕ) (t : Ty) (q : ℕ) → ty M d (tokens gs vs) p ≡ got t q → Owed gs vs p 1 q
+  type-part M d p t q g = owed-all gs vs same (ty M d) 1 (type-owes gs vs same M d) p t q g
+
+  -- a definition ends where the last of its parts does
+  module _ (M : ℕ) (d : TypeDef) (q : ℕ) (D : Defined) (h : Described M (tokens gs vs) d q D) (r : ℕ) where
+    pub enum-ends : (x n p : ℕ) → D ≡ Defined.Enum x n p → ((m : ℕ) (l : List ℕ) (s : ℕ) → times n (name m) (tokens gs vs) p ≡ got l s → r ≡ s) → r ≡ q
+    unfolding Described
+    enum-ends x n p e f = let a = rw e at h in f M (a .0) q (a .1)
+
+    pub record-ends : (x n p : ℕ) → D ≡ Defined.Record x n p → ((m : ℕ) (l : List Declared) (s : ℕ) → times n (declaration m) (tokens gs vs) p ≡ got l s → r ≡ s) → r ≡ q
+    unfolding Described
+    record-ends x n p e f = let a = rw e at h in f M (a .0) q (a .1)
+
+    pub alias-ends : (x p : ℕ) → D ≡ Defined.Alias x p → ((s : ℕ) → Owed gs vs p 1 s → r ≡ s) → r ≡ q
+    unfolding Described
+    alias-ends x p e f = let a = rw e at h in f q (type-part M 8 p (a .0) q (a .1))
+
+    pub nothing-ends : D ≡ Defined.Nothing → r ≡ q
+    unfolding Described
+    nothing-ends e = absurd (rw e at h)
 
   -- an equation's parts, by their ends
   pub equation-ends : (p n first right r : ℕ) → n ≡ getD vs p 0 → (1 ≤ length gs - p → first ≡ p + 1)

@@ -20,8 +20,8 @@ use Rattle.grammar.proofs.Longer.{token-got, counted-grows, tagged-grows}
 use Rattle.grammar.proofs.Got.{limited-got, token-value, tagged-value, counted-value}
 use Rattle.shapes.proofs.Decoded.{Maybe}
 use Rattle.extents.specs.Owed.{follows, Owed, paid, owes}
-use Rattle.extents.specs.Marks.{isSample}
-use Rattle.extents.proofs.Tags.{of-literal, of-expr, of-type, is-sample, expr-tags, type-tags, said}
+use Rattle.extents.specs.Marks.{Mark, markOf, nowhere}
+use Rattle.extents.proofs.Tags.{of-literal, of-expr, of-type, mark-of, expr-tags, type-tags, said}
 
 -- none are owed: their end is here
 pub owed-none : {gs vs : List ℕ} {p n q : ℕ} → Owed gs vs p n q → n ≡ 0 → p ≡ q
@@ -37,6 +37,11 @@ owed-step {gs} {vs} {p} {n} {q} (owes {n = m} l h) e = (l, subst (λ (k : ℕ). 
 pub owed-few : {gs vs : List ℕ} {p n q : ℕ} → Owed gs vs p n q → n ≤ length gs - p
 owed-few paid = omega arith
 owed-few (owes l h) = let f = owed-few h in omega arith
+
+-- each part's token is before the end
+pub owed-on : {gs vs : List ℕ} {p n q : ℕ} → Owed gs vs p n q → p + n ≤ q
+owed-on paid = omega arith
+owed-on (owes l h) = let f = owed-on h in omega arith
 
 -- the two arrays
 module _ (gs vs : List ℕ) (same : length vs ≡ length gs) where
@@ -55,12 +60,12 @@ module _ (gs vs : List ℕ) (same : length vs ≡ length gs) where
   here : (p q n m s : ℕ) → p < length gs → q ≡ p + 1 → follows (getD gs p 0) (getD vs p 0) ≡ n → Owed gs vs q (n + m) s → Owed gs vs p (suc m) s
   here p q n m s b e f d = owes b (subst (λ (x : ℕ). Owed gs vs x (m + follows (getD gs p 0) (getD vs p 0)) s) e (change (omega arith) d))
 
-  token-heads : {A : Type 0} (f : ℕ → ℕ → Option A) (parts : A → ℕ) (sample : A → Bool) → ((tag v : ℕ) → Maybe (λ a. (follows tag v ≡ parts a) × (isSample tag ≡ sample a)) (f tag v)) → Heads (token f) parts
-  token-heads f parts sample h = record {
+  token-heads : {A : Type 0} (f : ℕ → ℕ → Option A) (parts : A → ℕ) (mark : A → Option Mark) → ((tag v : ℕ) → Maybe (λ a. (follows tag v ≡ parts a) × (markOf nowhere tag v ≡ mark a)) (f tag v)) → Heads (token f) parts
+  token-heads f parts mark h = record {
     heading = λ p a q g m s d.
         let b : p < length gs = omega (arith, token-got f (tokens gs vs) p a q g .1, tokens-length gs vs same) in
         let t = token-value gs vs same p f a q b g in
-        here p q (parts a) m s b (t .1) (said (λ x. (follows (getD gs p 0) (getD vs p 0) ≡ parts x) × (isSample (getD gs p 0) ≡ sample x)) _ a (h (getD gs p 0) (getD vs p 0)) (t .0) .0) d;
+        here p q (parts a) m s b (t .1) (said (λ x. (follows (getD gs p 0) (getD vs p 0) ≡ parts x) × (markOf nowhere (getD gs p 0) (getD vs p 0) ≡ mark x)) _ a (h (getD gs p 0) (getD vs p 0)) (t .0) .0) d;
   }
 
   limited-heads : {A : Type 0} (test : A → Bool) (r : Reader A) (parts : A → ℕ) → Heads r parts → Heads (limited test r) parts
@@ -133,7 +138,7 @@ module _ (gs vs : List ℕ) (same : length vs ≡ length gs) where
 
   module _ (M : ℕ) where
     type-heads : Heads (token (typeTokenOf M)) of-type
-    type-heads = token-heads (typeTokenOf M) of-type (λ t. false) (type-tags M)
+    type-heads = token-heads (typeTokenOf M) of-type (λ t. none) (type-tags nowhere M)
 
     pub type-owes : (d : ℕ) → Owes (ty M d) 1
     unfolding ty
@@ -201,7 +206,7 @@ module _ (gs vs : List ℕ) (same : length vs ≡ length gs) where
       form-owes (ExprToken.Fold f) = iteration-owes _
 
     expr-heads : Heads (token (exprTokenOf M)) of-expr
-    expr-heads = token-heads (exprTokenOf M) of-expr is-sample (expr-tags M)
+    expr-heads = token-heads (exprTokenOf M) of-expr (mark-of (λ x. none)) (expr-tags nowhere (λ x. none) M (λ x l. refl))
 
     pub expr-owes : (d : ℕ) → Owes (expr M d) 1
     unfolding expr

@@ -1,18 +1,19 @@
 // Where what was read from an accepted sheet ends: its tokens are counted, and none is read again.
 // `tags` and `values` are as long as each other. Where nothing was read, an answer says nothing.
+use typedefs::Defined;
 ghost use mathlib.Core.Path.{_≡_};
 ghost use mathlib.Core.List.{List};
-ghost use mathlib.Core.Bool.{Bool};
+ghost use mathlib.Core.Option.{Option};
 ghost use Prim.Native.Nat.{ℕ, _+_, _-_, _≤_};
 ghost use lib.ListN.{length};
 ghost use Rattle.definitions.specs.Bytes.{tokens};
-ghost use Rattle.definitions.specs.Tree.{Expr, Declared, Equation, Probe};
+ghost use Rattle.definitions.specs.Tree.{Expr, Declared, Equation, Probe, TypeDef};
 ghost use Rattle.definitions.specs.Reading.{got, times};
-ghost use Rattle.definitions.specs.Grammar.{name, declaration, expr, equation, probe};
+ghost use Rattle.definitions.specs.Grammar.{name, declaration, typeDef, expr, equation, probe};
 ghost use Rattle.definitions.specs.Lists.{any};
 ghost use Rattle.definitions.specs.InferClocks.{samples};
-ghost use Rattle.extents.specs.Owed.{follows, Owed};
-ghost use Rattle.extents.specs.Marks.{isSample, Marks};
+ghost use Rattle.extents.specs.Owed.{parts, follows, Owed};
+ghost use Rattle.extents.specs.Marks.{isSample, nowhere, there, Mark, Marks};
 
 // How many parts follow a token, by its tag: operands, a type, a value behind its name, the high word. Of a count its value says so.
 const PARTS: [u8; 72] = [
@@ -96,8 +97,16 @@ fn wide(x: u8) -> u32
     x as u32
 }
 
-// How many parts follow a token.
-fn follow(tag: u8, value: u32) -> u32
+// The table, for those who lend it.
+pub fn parts_table() -> [u8; 72]
+    ensures { λ r. ⌜ r ≡ parts ⌝ }
+{
+    PARTS
+}
+
+// How many parts follow a token, by the table, which is lent so that it is made once.
+pub fn follow(table: &[u8; 72], tag: u8, value: u32) -> u32
+    requires { ⌜ now table ≡ parts ⌝ }
     ensures { λ r. ⌜ r ≡ follows tag value ⌝ }
 {
     if tag == 3 {
@@ -105,7 +114,7 @@ fn follow(tag: u8, value: u32) -> u32
     }
     let i = tag as usize;
     if i < 72 {
-        return wide(PARTS[i]);
+        return wide(table[i]);
     }
     0
 }
@@ -115,6 +124,7 @@ pub fn past(tags: &[u8], values: &[u32], many: usize, at: usize) -> usize
     requires { ⌜ length (now values) ≡ length (now tags) ⌝ }
     ensures { λ r. ⌜ ((q : ℕ) → Owed (now (tags .entry)) (now (values .entry)) at many q → r ≡ q) ⌝ }
 {
+    let table = PARTS;
     let mut owed = many;
     let mut place = at;
     while 0 < owed {
@@ -124,7 +134,7 @@ pub fn past(tags: &[u8], values: &[u32], many: usize, at: usize) -> usize
         if tags.len() < owed {
             return place;
         }
-        let more = follow(tags[place], values[place]);
+        let more = follow(&table, tags[place], values[place]);
         owed = owed - 1 + (more as usize);
         place += 1;
     }
@@ -201,8 +211,36 @@ pub fn equations_end(tags: &[u8], values: &[u32], n: u32, at: usize) -> usize
     place
 }
 
+// The place after a type's definition.
+pub fn definition_end(tags: &[u8], values: &[u32], names: u32, at: usize) -> usize
+    requires { ⌜ length (now values) ≡ length (now tags) ⌝ }
+    ensures { λ r. ⌜ ((d : TypeDef) (q : ℕ) → typeDef names (tokens (now (tags .entry)) (now (values .entry))) at ≡ got d q → r ≡ q) ⌝ }
+{
+    let found = typedefs::describe(tags, values, names, at);
+    match found {
+        Defined::Enum(_, n, first) => names_end(tags, values, n, first),
+        Defined::Record(_, n, first) => declarations_end(tags, values, n, first),
+        Defined::Alias(_, first) => past(tags, values, 1, first),
+        Defined::Nothing => at,
+    }
+}
+
+// The place after so many types' definitions.
+pub fn definitions_end(tags: &[u8], values: &[u32], names: u32, n: u32, at: usize) -> usize
+    requires { ⌜ length (now values) ≡ length (now tags) ⌝ }
+    ensures { λ r. ⌜ ((l : List TypeDef) (q : ℕ) → times n (typeDef names) (tokens (now (tags .entry)) (now (values .entry))) at ≡ got l q → r ≡ q) ⌝ }
+{
+    let mut place = at;
+    let mut left = n;
+    while 0 < left {
+        place = definition_end(tags, values, names, place);
+        left -= 1;
+    }
+    place
+}
+
 // Is a tag that of a when or a merge?
-fn is_sample(tag: u8) -> bool
+pub fn is_sample(tag: u8) -> bool
     ensures { λ r. ⌜ r ≡ isSample tag ⌝ }
 {
     if tag < 67 {
@@ -213,7 +251,7 @@ fn is_sample(tag: u8) -> bool
 
 // Is a when or a merge among the tokens of a stretch?
 fn some_sample(tags: &[u8], from: usize, to: usize) -> bool
-    ensures { λ r. ⌜ ((b : Bool) → Marks (now (tags .entry)) from to b → r ≡ b) ⌝ }
+    ensures { λ r. ⌜ ((vs : List ℕ) (b : Option Mark) → Marks nowhere (now (tags .entry)) vs from to b → r ≡ there b) ⌝ }
 {
     let mut i = from;
     while i < to {

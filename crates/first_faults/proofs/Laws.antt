@@ -1,7 +1,7 @@
 -- A node's faults one by one: its clock faults, else the first that rewriting meets; what a question on a fault's text asks for is at
 -- the end (`fault-there`, `fault-missing`). Assumes nothing.
 use Prim.Native.Nat.{ℕ, zero, suc, _+_, _≤_, _<_}
-use mathlib.Core.Path.{_≡_, refl, sym, ap, _∙_, subst}
+use mathlib.Core.Path.{_≡_, refl, sym, ap, ap₂, _∙_, subst}
 use mathlib.Core.List.{List, [], _∷_}
 use mathlib.Core.Bool.{Bool, true, false}
 use mathlib.Core.Option.{Option, none, some, Option·some-injective, Option·none-ne-some}
@@ -26,7 +26,7 @@ use Rattle.defaults.specs.Has.{Has}
 use Rattle.listing.proofs.Laws.{clocked-many}
 use Rattle.findings.specs.Findings.{findingsIn, noFault}
 use Rattle.infer_clocks.specs.declared.NodeClocked.{NodeClocked}
-use Rattle.infer_clocks.specs.Clocked.{Tells, Clocked as Clocks′}
+use Rattle.infer_clocks.specs.Clocked.{Tells, Sole, Clocked as Clocks′}
 use Rattle.stateless.specs.Faults.{rightFault, atEquation, oldFault}
 use Rattle.stateless.specs.Sheets.{NodeHere, withinAll, oneOf, faultsBy}
 use Rattle.stateless.proofs.Nodes.{clockings-form, node-here, same-clocking, not-too-deep, clocked, all-within, node-faults, rewriting-faulty}
@@ -45,6 +45,9 @@ pub item-none : {A : Type 0} (l : List A) (j : ℕ) → length l ≤ j → getEl
 item-none [] j h = refl
 item-none (a ∷ l) zero h = absurd (omega arith)
 item-none (a ∷ l) (suc j) h = item-none l j (omega arith)
+
+pub not-past : {A : Type 0} (l : List A) (j : ℕ) (a : A) → getElem? l j ≡ some a → length l ≤ j → ⊥
+not-past l j a e h = Option·none-ne-some a (sym (item-none l j h) ∙ e)
 
 item-some : {A : Type 0} (l : List A) (j : ℕ) (d : A) → j < length l → getElem? l j ≡ some (getD l j d)
 item-some [] j d h = absurd (omega arith)
@@ -180,6 +183,22 @@ module _ (gs vs : List ℕ) (t : Tables) (r : Input) (ns : List ClockedNode) (h 
       let p = h .nodes .each .stands k (here .clocked .node) (here .node-here) in
       F (here .clocked .node) (p .0) (here .clocked .clocking) (L (here .clocked .node) (p .0) (p .1)) (here .forms)
       ∙ sym (ap (λ (x : Option ClockedNode). faultIn r x j) (here .here))
+
+-- it is laid out where it stands
+pub laid-at : {P : Type 0} (gs vs : List ℕ) (t : Tables) (r : Input) → Tabled gs vs t r → (k : ℕ) (n : Node) → getElem? (r .sheet .nodes) k ≡ some n → (l : NodeLayout)
+    → ((n : Node) (q : ℕ) → node (t .names) (tokens gs vs) (getD (t .places) k 0) ≡ got n q → Laid (t .names) (tokens gs vs) n q l)
+    → ((q : ℕ) → Laid (t .names) (tokens gs vs) n q l → P) → P
+laid-at gs vs t r h k n e l L F = let p = h .nodes .each .stands k n e in F (p .0) (L n (p .0) (p .1))
+
+-- the clocks of the only node are those of node k
+pub sole-at : (env : List ℕ) (M : ℕ) (nodes : List Node) (k : ℕ) → k < length nodes
+    → ((n : Node) (c : Clocking) → getElem? nodes k ≡ some n → clocking n ≡ formed c → usesClocks n ≡ true → Agrees env M (c .names)) → Sole env M nodes
+sole-at env M nodes k few F =
+    record { known = λ n c e f u. let z : k ≡ 0 = omega (arith, few, ap length e) in F n c (ap₂ (λ (l : List Node) (i : ℕ). getElem? l i) e z) f u }
+
+-- of other sheets nothing is said
+pub sole-else : (env : List ℕ) (M : ℕ) (nodes : List Node) → (length nodes ≡ 1 → Sole env M nodes) → Sole env M nodes
+sole-else env M nodes F = record { known = λ n c e f u. F (ap length e) .known n c e f u }
 
 -- ---- the tables of a sheet
 same-times : {A : Type 0} (R : Reader A) (ts : List TagValue) (n w count at q : ℕ) (l : List A) → w ≡ count → (w ≤ 32 → n ≡ w) → count ≤ 32 → times count R ts at ≡ got l q → times n R ts at ≡ got l q

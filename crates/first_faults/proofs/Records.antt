@@ -1,25 +1,33 @@
--- Fault records put over the front of a lent list, one after another. Assumes nothing.
+-- Fault records put over the front of a lent list, one after another, node after node up to the first in which too deep a clock is formed.
+-- Assumes nothing.
 use Prim.Native.Nat.{ℕ, zero, suc, _+_, _*_, _/_, _≤_, _<_}
 use mathlib.Core.Path.{_≡_, refl, sym, ap, _∙_, subst}
 use mathlib.Core.List.{List, [], _∷_, _++_, map, append-nil}
 use mathlib.Core.Bool.{Bool, true, false}
 use mathlib.Core.Option.{Option, none, some}
 use native.Mathlib.Omega.{arith}
-use lib.ListN.{length, take, getElem?, length-append, length-map}
+use native.Mathlib.Numerals.{add-one}
+use lib.Dec.{leb}
+use borrow.Author.Tests.{leb-true, leb-false}
+use lib.ListN.{length, take, drop, getElem?, length-append, length-map, drop-of-length-le}
 use lib.Seq.{take-all}
 use Rattle.definitions.specs.declared.FaultRecord.{FaultRecord}
 use Rattle.definitions.specs.Lists.{choose, join, over}
+use Rattle.definitions.specs.Tree.{Node}
 use Rattle.definitions.specs.Refusals.{accepted}
-use Rattle.definitions.specs.InferClocks.{Fault, NodeFault, faultNumber}
+use Rattle.definitions.specs.InferClocks.{Fault, NodeFault, faultNumber, clocking}
 use Rattle.definitions.specs.Output.{ClockedNode, nodeFaults}
 use Rattle.definitions.specs.Answer.{Input, clockings, firstOf}
 use Rattle.spelling.specs.Writing.{overAt}
 use Rattle.spelling.proofs.Writing.{over-front, over-then, length-over}
+use Rattle.infer_clocks.specs.Clocked.{isDeep, Deeply}
+use Rattle.infer_clocks.proofs.Laws.{Ahead, ahead-end, ahead-step, ahead-deep}
 use Rattle.stateless.specs.Sheets.{firstFaultsFrom}
 use Rattle.stateless.proofs.Nodes.{clockings-form, node-here, all-before, faults-end, faults-front}
 use Rattle.query.specs.Words.{recordWords, entriesOver}
 use Rattle.query.proofs.Words.{join-last}
-use Rattle.first_faults.specs.Faults.{faultIn, Recorded}
+use Rattle.first_faults.specs.declared.Walked.{Walked}
+use Rattle.first_faults.specs.Faults.{faultIn, Recorded, Walks}
 
 -- ---- entries over a list
 words-long : (l : List FaultRecord) → length (join (map recordWords l)) ≡ 3 * length l
@@ -116,6 +124,39 @@ module _ (lent : List ℕ) (l : List FaultRecord) (m : ℕ) (now : List ℕ) (h 
             ∙ (entries-more lent l a (3 * m) w p ∙ ap (λ (y : List FaultRecord). entriesOver 3 (map recordWords (l ++ y)) lent) (sym x))));
       }
 
+-- ---- records that were put in one list, copied over another
+take-over : (n : ℕ) (a s : List ℕ) → n ≤ length a → length a ≤ length s → take n (over a s) ≡ take n a
+take-over zero a s h l = refl
+take-over (suc n) [] s h l = absurd (omega arith)
+take-over (suc n) (x ∷ a) [] h l = absurd (omega arith)
+take-over (suc n) (x ∷ a) (y ∷ s) h l = ap (λ (r : List ℕ). x ∷ r) (take-over n a s (omega arith) (omega arith))
+
+take-words : (n : ℕ) (l : List FaultRecord) → take (3 * n) (join (map recordWords l)) ≡ join (take n (map recordWords l))
+take-words zero l = refl
+take-words (suc n) [] = take-empty (3 * suc n)
+take-words (suc n) (f ∷ l) =
+    let e : 3 * suc n ≡ suc (suc (suc (3 * n))) = omega arith in
+    ap (λ (i : ℕ). take i (join (map recordWords (f ∷ l)))) e ∙ ap (λ (r : List ℕ). f .node ∷ f .fault ∷ f .equation ∷ r) (take-words n l)
+
+-- as many as there are, or as there is room for
+take-most : {A : Type 0} (n k : ℕ) (l : List A) → (length l ≤ k → n ≡ length l) → (k ≤ length l → n ≡ k) → take n l ≡ take k l
+take-most n k l f g = go (leb (length l) k) refl
+  where
+    go : (b : Bool) → leb (length l) k ≡ b → take n l ≡ take k l
+    go true e = let h = leb-true (length l) k e in take-all n l (omega (arith, f h)) ∙ sym (take-all k l h)
+    go false e = ap (λ (i : ℕ). take i l) (g (omega (arith, leb-false (length l) k e)))
+
+pub record-copied : (first kept lent after : List ℕ) (l : List FaultRecord) (m n : ℕ) → Recorded first l m kept → 3 * m ≤ length kept → n ≤ m → (m ≤ length lent / 3 → n ≡ m) → (length lent / 3 ≤ m → n ≡ length lent / 3)
+    → after ≡ overAt 0 (take (3 * n) kept) lent → Recorded lent l m after
+unfolding entriesOver
+record-copied first kept lent after l m n h room few f g e =
+    let many = length-map l recordWords in
+    let long : length kept ≡ length first = ap length (h .written) ∙ entries-long first (map recordWords l) in
+    let k = h .written ∙ entries-all first l (omega (arith, room, h .counted, long)) in
+    let part = ap (take (3 * n)) k ∙ (take-over (3 * n) (join (map recordWords l)) first (omega (arith, few, h .counted, words-long l)) (omega (arith, room, h .counted, long, words-long l)) ∙ take-words n l) in
+    let same = take-most n (length lent / 3) (map recordWords l) (λ u. f (omega (arith, u, h .counted, many)) ∙ (h .counted ∙ sym many)) (λ u. g (omega (arith, u, h .counted, many))) in
+    record { counted = h .counted; written = e ∙ (over-front (take (3 * n) kept) lent ∙ ap (λ (x : List ℕ). over x lent) (part ∙ ap join same)) }
+
 -- ---- node after node
 module _ (r : Input) (ns : List ClockedNode) (clocks : clockings 0 (r .sheet .nodes) ≡ accepted ns) (lent : List ℕ) where
   pub first-start : Recorded lent (firstFaultsFrom r 0 (take 0 ns)) 0 lent
@@ -131,3 +172,49 @@ module _ (r : Input) (ns : List ClockedNode) (clocks : clockings 0 (r .sheet .no
 
   pub first-end : (k m : ℕ) (now : List ℕ) → length (r .sheet .nodes) ≤ k → Recorded lent (firstFaultsFrom r 0 (take k ns)) m now → Recorded lent (firstFaultsFrom r 0 ns) m now
   first-end k m now past h = let e = all-before (clockings-form 0 (r .sheet .nodes) ns clocks) k past in rw e at h
+
+-- the item at a place, and those left
+item-here : {A : Type 0} (l : List A) (k : ℕ) → k < length l → (a : A) × (getElem? l k ≡ some a) × (drop k l ≡ a ∷ drop (suc k) l)
+item-here [] k h = absurd (omega arith)
+item-here (a ∷ l) zero h = (a, refl, refl)
+item-here (a ∷ l) (suc k) h = item-here l k (omega arith)
+
+module _ (r : Input) (k : ℕ) (ahead : Ahead k (drop k (r .sheet .nodes)) (clockings 0 (r .sheet .nodes))) where
+  module _ (b : Bool) (few : k < length (r .sheet .nodes)) (told : (n : Node) → getElem? (r .sheet .nodes) k ≡ some n → b ≡ isDeep (clocking n)) where
+    here : (n : Node) × (drop k (r .sheet .nodes) ≡ n ∷ drop (k + 1) (r .sheet .nodes)) × (b ≡ isDeep (clocking n))
+    here = let x = item-here (r .sheet .nodes) k few in (x .0, x .2 ∙ ap (λ (i : ℕ). x .0 ∷ drop i (r .sheet .nodes)) (sym (add-one k)), told (x .0) (x .1))
+
+    pub walk-step : b ≡ false → Ahead (k + 1) (drop (k + 1) (r .sheet .nodes)) (clockings 0 (r .sheet .nodes))
+    walk-step e = ahead-step k (drop k (r .sheet .nodes)) (clockings 0 (r .sheet .nodes)) ahead (here .0) (drop (k + 1) (r .sheet .nodes)) (here .1) b (here .2) e
+
+    pub walk-deep : (lent now : List ℕ) → b ≡ true → Walks r lent now (Walked.Deep k)
+    unfolding Walks Deeply
+    walk-deep lent now e = ahead-deep k (drop k (r .sheet .nodes)) (clockings 0 (r .sheet .nodes)) ahead (here .0) (drop (k + 1) (r .sheet .nodes)) (here .1) b (here .2) e
+
+  pub walk-end : (lent now : List ℕ) (m : ℕ) → length (r .sheet .nodes) ≤ k → ((ns : List ClockedNode) → clockings 0 (r .sheet .nodes) ≡ accepted ns → Recorded lent (firstFaultsFrom r 0 (take k ns)) m now) → Walks r lent now (Walked.Faulty m)
+  unfolding Walks Deeply
+  walk-end lent now m past f =
+      let n = ahead-end k (drop k (r .sheet .nodes)) (clockings 0 (r .sheet .nodes)) ahead (drop-of-length-le (r .sheet .nodes) {i = k} past) in
+      (n .0, n .1, first-end r (n .0) (n .1) lent k m now past (f (n .0) (n .1)))
+
+-- ---- what was found, recorded in one list and copied over another
+module _ (w : Walked) where
+  pub walks-deep : (r : Input) (first kept lent now : List ℕ) (k : ℕ) → w ≡ Walked.Deep k → Walks r first kept w → Walks r lent now (Walked.Deep k)
+  unfolding Walks
+  walks-deep r first kept lent now k e h = rw e at h
+
+  pub walks-copied : (r : Input) (first kept lent now : List ℕ) (m : ℕ) → w ≡ Walked.Faulty m → Walks r first kept w → ((lent′ : List ℕ) (l : List FaultRecord) → Recorded lent′ l m kept → Recorded lent l m now) → Walks r lent now (Walked.Faulty m)
+  unfolding Walks
+  walks-copied r first kept lent now m e h copy =
+      let x : Walks r first kept (Walked.Faulty m) = rw e at h in
+      (x .0, x .1, copy first (firstFaultsFrom r 0 (x .0)) (x .2))
+
+-- which of the two it is
+pub deep-uncounted : (k m : ℕ) → Walked.Deep k ≡ Walked.Faulty m → m ≤ 16
+deep-uncounted k m e = let z : _≡_ {A = ℕ} 0 1 = cc in absurd (omega arith)
+
+pub faulty-counted : (n : ℕ) → n ≤ 16 → (m : ℕ) → Walked.Faulty n ≡ Walked.Faulty m → m ≤ 16
+faulty-counted n h m e = let x : n ≡ m = cc in omega arith
+
+pub not-deep : {A : Type 0} (m k : ℕ) → Walked.Faulty m ≡ Walked.Deep k → A
+not-deep m k e = let z : _≡_ {A = ℕ} 0 1 = cc in absurd (omega arith)

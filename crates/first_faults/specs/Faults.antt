@@ -5,18 +5,22 @@ use mathlib.Core.List.{List, map}
 use mathlib.Core.Option.{Option, none, some}
 use lib.ListN.{length, getElem?}
 use Rattle.definitions.specs.declared.FaultRecord.{FaultRecord}
+use Rattle.definitions.specs.declared.Refusal.{Refusal}
 use Rattle.definitions.specs.Lists.{choose}
 use Rattle.definitions.specs.Bytes.{tokens}
 use Rattle.definitions.specs.InferClocks.{NodeFault}
 use Rattle.definitions.specs.Output.{condactId, ClockedNode, nodeFaults}
-use Rattle.definitions.specs.Answer.{Input}
+use Rattle.definitions.specs.Refusals.{accepted, refused}
+use Rattle.definitions.specs.Answer.{Input, clockings}
 use Rattle.fault.specs.Value.{faultOf}
 use Rattle.typedefs.specs.Table.{Table}
 use Rattle.defaults.specs.Has.{Has}
 use Rattle.callees.specs.Callees.{Standing}
+use Rattle.stateless.specs.Sheets.{firstFaultsFrom}
 use Rattle.query.specs.Words.{recordWords, entriesOver}
 use Rattle.first_faults.specs.declared.Tables.{Tables}
 use Rattle.first_faults.specs.declared.FaultFound.{FaultFound}
+use Rattle.first_faults.specs.declared.Walked.{Walked}
 
 -- the sheet r in its tables: its nodes and its types' definitions stand where these say, which of the definitions have a default, and
 -- the id of `condact` among its names
@@ -39,3 +43,9 @@ faultIn r (some n) j = getElem? (nodeFaults (r .names) (r .sheet) n) j
 pub record Recorded (lent : List ℕ) (fs : List FaultRecord) (m : ℕ) (now : List ℕ) : Type 0 where
   pub counted : m ≡ length fs
   pub written : now ≡ entriesOver 3 (map recordWords fs) lent
+
+-- what was found over all nodes: the first in which too deep a clock is formed; or how many are faulty, and each one's first fault is
+-- recorded over a lent list
+unfoldable pub Walks : Input → List ℕ → List ℕ → Walked → Type 0
+Walks r lent now (Walked.Deep k) = clockings 0 (r .sheet .nodes) ≡ refused (Refusal.Deep k)
+Walks r lent now (Walked.Faulty m) = (ns : List ClockedNode) × (clockings 0 (r .sheet .nodes) ≡ accepted ns) × Recorded lent (firstFaultsFrom r 0 ns) m now

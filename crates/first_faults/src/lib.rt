@@ -1,4 +1,5 @@
-// The faults of an accepted sheet's nodes, whose clocks are all formed: fault j of node k, and each faulty node's first fault.
+// The faults of an accepted sheet's nodes: fault j of node k, where all clocks are formed; and each faulty node's first fault, or the
+// first node in which too deep a clock is formed.
 // `tags` and `values` are as long as each other. `env` and `table` are the tables that clocks and findings stand in.
 use fault::Fault;
 use infer_clocks::NodeClocked;
@@ -7,10 +8,10 @@ use rewriting_faults::FirstFault;
 use rewriting_faults::Scope;
 ghost use mathlib.Core.Path.{_≡_};
 ghost use mathlib.Core.List.{List, [], _∷_, _++_};
-ghost use mathlib.Core.Bool.{true};
-ghost use mathlib.Core.Option.{none};
+ghost use mathlib.Core.Bool.{true, false};
+ghost use mathlib.Core.Option.{none, some};
 ghost use Prim.Native.Nat.{ℕ, _+_, _≤_, _<_};
-ghost use lib.ListN.{length, getElem?};
+ghost use lib.ListN.{length, take, getElem?};
 ghost use Rattle.definitions.specs.declared.FaultRecord.{FaultRecord};
 ghost use Rattle.definitions.specs.Bytes.{tokens};
 ghost use Rattle.definitions.specs.Tree.{Node};
@@ -24,12 +25,11 @@ ghost use Rattle.environment.specs.Environment.{Agrees};
 ghost use Rattle.spelling.specs.Writing.{overAt};
 ghost use Rattle.findings.specs.Findings.{findingsIn};
 ghost use Rattle.layout.specs.Laid.{Laid};
-ghost use Rattle.infer_clocks.specs.Clocked.{Tells};
+ghost use Rattle.infer_clocks.specs.Clocked.{isDeep, Tells, Sole};
 ghost use Rattle.stateless.specs.Faults.{oldFault};
-ghost use Rattle.stateless.specs.Sheets.{firstFaultsFrom};
 ghost use Rattle.rewriting_faults.specs.Met.{toldOf};
 ghost use Rattle.query.specs.Standing.{Roomy};
-ghost use Rattle.first_faults.specs.Faults.{Tabled, foundOf, faultIn, Recorded};
+ghost use Rattle.first_faults.specs.Faults.{Tabled, foundOf, faultIn, Recorded, Walks};
 
 // A sheet: how many names it has and the id of `condact` among them, how many nodes and types' definitions; where each of these
 // stands, and for each definition 1 if it has a default.
@@ -50,6 +50,18 @@ pub struct FaultFound {
     pub fault: Fault,
 }
 
+// A node: whether too deep a clock is formed in it, and else a fault of it.
+pub struct NodeFound {
+    pub deep: bool,
+    pub fault: FaultFound,
+}
+
+// A sheet: the first node in which too deep a clock is formed, or how many nodes are faulty.
+pub enum Walked {
+    Deep(usize),
+    Faulty(usize),
+}
+
 fn wide(x: u32) -> usize
     ensures { λ r. ⌜ r ≡ x ⌝ }
 {
@@ -59,6 +71,7 @@ fn wide(x: u32) -> usize
 // A number up to the most that there can be.
 fn at_most(x: usize, most: usize) -> usize
     ensures { λ r. ⌜ (r ≤ most) × (x ≤ most → r ≡ x) ⌝ }
+    ensures { λ r. ⌜ (r ≤ x) × (most ≤ x → r ≡ most) ⌝ }
 {
     if x <= most { x } else { most }
 }
@@ -84,7 +97,7 @@ pub fn tables_of(tags: &[u8], values: &[u32], names: u32, condact: u32) -> Table
     let n = whole.nodes;
     let types = at_most(wide(t.count), 32);
     let nodes = at_most(wide(n.count), 16);
-    let defs = typedefs::definition_places(tags, values, names, types, t.at);
+    let defs = layout::definition_places(tags, values, names, types, t.at);
     let has = defaults::has_defaults(tags, values, names, &defs, types);
     let places = layout::node_places(tags, values, names, nodes, n.at);
     Tables {
@@ -108,6 +121,14 @@ fn no_fault() -> FaultFound
         equation: 0,
         fault: any,
     }
+}
+
+// No such fault, and no clock that is too deep.
+fn nothing_found() -> NodeFound
+    ensures { λ r. ⌜ (r .deep ≡ false) × (foundOf (r .fault) ≡ none) ⌝ }
+{
+    let fault = no_fault();
+    NodeFound { deep: false, fault }
 }
 
 // Clock fault j by n findings, among which there are m faults.
@@ -186,8 +207,8 @@ fn clocked_fault(
     rewriting_fault(tags, values, t, l, env)
 }
 
-// Fault j of a node with this layout that uses clocks.
-fn laid_fault(
+// A node with this layout that uses clocks: whether too deep a clock is formed, else its fault j.
+fn laid_found(
     tags: &[u8],
     values: &[u32],
     t: Tables,
@@ -195,10 +216,12 @@ fn laid_fault(
     j: usize,
     env: &mut [u32],
     table: &mut [u32],
-) -> FaultFound
+) -> NodeFound
     requires { ⌜ length (now values) ≡ length (now tags) ⌝ }
     requires { ⌜ (t .nodes ≤ 16) × (t .types ≤ 32) ⌝ }
-    ensures { λ r. ⌜ ((i : Input) (node : Node) (q : ℕ) (k : Clocking) → Tabled (now (tags .entry)) (now (values .entry)) t i → Laid (t .names) (tokens (now (tags .entry)) (now (values .entry))) node q l → usesClocks node ≡ true → clocking node ≡ formed k → Roomy (t .names) (length (now (tags .entry))) (now (env .entry)) (now (table .entry)) → foundOf r ≡ getElem? (nodeFaults (i .names) (i .sheet) (record { node = node; clocking = k })) j) ⌝ }
+    ensures { λ r. ⌜ ((node : Node) (q : ℕ) → Laid (t .names) (tokens (now (tags .entry)) (now (values .entry))) node q l → Roomy (t .names) (length (now (tags .entry))) (now (env .entry)) (now (table .entry)) → r .deep ≡ isDeep (clocking node)) ⌝ }
+    ensures { λ r. ⌜ ((i : Input) (node : Node) (q : ℕ) (k : Clocking) → Tabled (now (tags .entry)) (now (values .entry)) t i → Laid (t .names) (tokens (now (tags .entry)) (now (values .entry))) node q l → usesClocks node ≡ true → clocking node ≡ formed k → Roomy (t .names) (length (now (tags .entry))) (now (env .entry)) (now (table .entry)) → foundOf (r .fault) ≡ getElem? (nodeFaults (i .names) (i .sheet) (record { node = node; clocking = k })) j) ⌝ }
+    ensures { λ _. ⌜ ((node : Node) (q : ℕ) (k : Clocking) → Laid (t .names) (tokens (now (tags .entry)) (now (values .entry))) node q l → clocking node ≡ formed k → Roomy (t .names) (length (now (tags .entry))) (now (env .entry)) (now (table .entry)) → Agrees (now (env .exit)) (t .names) (k .names)) ⌝ }
 {
     let mut marks = [0u8; 1024];
     let mut ports = [0u32; 1024];
@@ -213,12 +236,47 @@ fn laid_fault(
         table,
     );
     match clocked {
-        NodeClocked::Deep => no_fault(),
-        NodeClocked::Clocked(_, n) => clocked_fault(tags, values, t, l, env, table, n, j),
+        NodeClocked::Deep => {
+            let fault = no_fault();
+            NodeFound { deep: true, fault }
+        }
+        NodeClocked::Clocked(_, n) => {
+            let fault = clocked_fault(tags, values, t, l, env, table, n, j);
+            NodeFound { deep: false, fault }
+        }
     }
 }
 
-// Fault j of node k: a node that uses no clocks has none, so its clocks are not inferred.
+// Node k: a node that uses no clocks has no fault and no clock that is too deep, so its clocks are not inferred.
+fn node_found(
+    tags: &[u8],
+    values: &[u32],
+    t: Tables,
+    k: usize,
+    j: usize,
+    env: &mut [u32],
+    table: &mut [u32],
+) -> NodeFound
+    requires { ⌜ length (now values) ≡ length (now tags) ⌝ }
+    requires { ⌜ (t .nodes ≤ 16) × (t .types ≤ 32) ⌝ }
+    ensures { λ r. ⌜ ((i : Input) (n : Node) → Tabled (now (tags .entry)) (now (values .entry)) t i → getElem? (i .sheet .nodes) k ≡ some n → Roomy (t .names) (length (now (tags .entry))) (now (env .entry)) (now (table .entry)) → r .deep ≡ isDeep (clocking n)) ⌝ }
+    ensures { λ r. ⌜ ((i : Input) (ns : List ClockedNode) → Tabled (now (tags .entry)) (now (values .entry)) t i → clockings 0 (i .sheet .nodes) ≡ accepted ns → Roomy (t .names) (length (now (tags .entry))) (now (env .entry)) (now (table .entry)) → foundOf (r .fault) ≡ faultIn i (getElem? ns k) j) ⌝ }
+    ensures { λ _. ⌜ ((i : Input) (n : Node) (c : Clocking) → Tabled (now (tags .entry)) (now (values .entry)) t i → getElem? (i .sheet .nodes) k ≡ some n → clocking n ≡ formed c → usesClocks n ≡ true → Roomy (t .names) (length (now (tags .entry))) (now (env .entry)) (now (table .entry)) → Agrees (now (env .exit)) (t .names) (c .names)) ⌝ }
+{
+    if t.nodes <= k {
+        return nothing_found();
+    }
+    let places = t.places;
+    let at = places[k];
+    let l = layout::node_at(tags, values, t.names, at);
+    let e = l.equations;
+    if extents::equations_use_clocks(tags, values, e.count, e.at) {
+        return laid_found(tags, values, t, l, j, env, table);
+    }
+    nothing_found()
+}
+
+// Fault j of node k.
 pub fn fault_at(
     tags: &[u8],
     values: &[u32],
@@ -232,17 +290,8 @@ pub fn fault_at(
     requires { ⌜ (t .nodes ≤ 16) × (t .types ≤ 32) ⌝ }
     ensures { λ r. ⌜ ((i : Input) (ns : List ClockedNode) → Tabled (now (tags .entry)) (now (values .entry)) t i → clockings 0 (i .sheet .nodes) ≡ accepted ns → Roomy (t .names) (length (now (tags .entry))) (now (env .entry)) (now (table .entry)) → foundOf r ≡ faultIn i (getElem? ns k) j) ⌝ }
 {
-    if t.nodes <= k {
-        return no_fault();
-    }
-    let places = t.places;
-    let at = places[k];
-    let l = layout::node_at(tags, values, t.names, at);
-    let e = l.equations;
-    if extents::equations_use_clocks(tags, values, e.count, e.at) {
-        return laid_fault(tags, values, t, l, j, env, table);
-    }
-    no_fault()
+    let n = node_found(tags, values, t, k, j, env, table);
+    n.fault
 }
 
 // A fault record in the three words from b on.
@@ -274,7 +323,61 @@ fn add_fault(list: &mut [u32], m: usize, node: u32, f: FaultFound) -> usize
     m
 }
 
-// Each faulty node's first fault, in order, as far as the list reaches in whole entries: how many nodes are faulty.
+// Each faulty node's first fault, in order, as far as the list reaches in whole entries; up to the first node in which too deep a clock
+// is formed.
+fn walk_nodes(
+    tags: &[u8],
+    values: &[u32],
+    t: Tables,
+    env: &mut [u32],
+    table: &mut [u32],
+    list: &mut [u32],
+) -> Walked
+    requires { ⌜ length (now values) ≡ length (now tags) ⌝ }
+    requires { ⌜ (t .nodes ≤ 16) × (t .types ≤ 32) ⌝ }
+    ensures { λ r. ⌜ ((m : ℕ) → r ≡ Walked.Faulty m → m ≤ 16) ⌝ }
+    ensures { λ r. ⌜ ((i : Input) → Tabled (now (tags .entry)) (now (values .entry)) t i → Roomy (t .names) (length (now (tags .entry))) (now (env .entry)) (now (table .entry)) → Walks i (now (list .entry)) (now (list .exit)) r) ⌝ }
+    ensures { λ _. ⌜ ((i : Input) → Tabled (now (tags .entry)) (now (values .entry)) t i → Roomy (t .names) (length (now (tags .entry))) (now (env .entry)) (now (table .entry)) → Sole (now (env .exit)) (t .names) (i .sheet .nodes)) ⌝ }
+{
+    let mut m: usize = 0;
+    let mut k: usize = 0;
+    while k < t.nodes {
+        let f = node_found(tags, values, t, k, 0, env, table);
+        if f.deep {
+            return Walked::Deep(k);
+        }
+        let fault = f.fault;
+        let node = word_below(k, 16);
+        m = add_fault(list, m, node, fault);
+        k += 1;
+    }
+    Walked::Faulty(m)
+}
+
+// The first n words over the front of a list.
+fn copy_words(from: &[u32], n: usize, list: &mut [u32])
+    requires { ⌜ (n ≤ length (now from)) × (n ≤ length (now list)) ⌝ }
+    ensures { λ _. ⌜ now (list .exit) ≡ overAt 0 (take n (now (from .entry))) (now (list .entry)) ⌝ }
+{
+    let mut i: usize = 0;
+    while i < n {
+        list[i] = from[i];
+        i += 1;
+    }
+}
+
+// Records that were put elsewhere, over the front of a list, as far as it reaches in whole entries.
+fn copy_records(kept: &[u32], m: usize, list: &mut [u32])
+    requires { ⌜ (m ≤ 16) × (length (now kept) ≡ 48) ⌝ }
+    ensures { λ _. ⌜ ((lent : List ℕ) (l : List FaultRecord) → Recorded lent l m (now (kept .entry)) → Recorded (now (list .entry)) l m (now (list .exit))) ⌝ }
+{
+    let most = list.len() / 3;
+    let n = at_most(m, most);
+    copy_words(kept, 3 * n, list);
+}
+
+// Each faulty node's first fault, in order, as far as the list reaches in whole entries, and how many nodes are faulty; or the first node
+// in which too deep a clock is formed, and the list stays as it is. Of a sheet with one node, `env` has the clocks then.
 pub fn write_first_faults(
     tags: &[u8],
     values: &[u32],
@@ -282,18 +385,21 @@ pub fn write_first_faults(
     env: &mut [u32],
     table: &mut [u32],
     list: &mut [u32],
-) -> usize
+) -> Walked
     requires { ⌜ length (now values) ≡ length (now tags) ⌝ }
     requires { ⌜ (t .nodes ≤ 16) × (t .types ≤ 32) ⌝ }
-    ensures { λ r. ⌜ ((i : Input) (ns : List ClockedNode) → Tabled (now (tags .entry)) (now (values .entry)) t i → clockings 0 (i .sheet .nodes) ≡ accepted ns → Roomy (t .names) (length (now (tags .entry))) (now (env .entry)) (now (table .entry)) → Recorded (now (list .entry)) (firstFaultsFrom i 0 ns) r (now (list .exit))) ⌝ }
+    ensures { λ r. ⌜ ((k : ℕ) → r ≡ Walked.Deep k → now (list .exit) ≡ now (list .entry)) ⌝ }
+    ensures { λ r. ⌜ ((i : Input) → Tabled (now (tags .entry)) (now (values .entry)) t i → Roomy (t .names) (length (now (tags .entry))) (now (env .entry)) (now (table .entry)) → Walks i (now (list .entry)) (now (list .exit)) r) ⌝ }
+    ensures { λ _. ⌜ ((i : Input) → Tabled (now (tags .entry)) (now (values .entry)) t i → Roomy (t .names) (length (now (tags .entry))) (now (env .entry)) (now (table .entry)) → Sole (now (env .exit)) (t .names) (i .sheet .nodes)) ⌝ }
 {
-    let mut m: usize = 0;
-    let mut k: usize = 0;
-    while k < t.nodes {
-        let f = fault_at(tags, values, t, k, 0, env, table);
-        let node = word_below(k, 16);
-        m = add_fault(list, m, node, f);
-        k += 1;
+    // a node after faulty ones may be the deep one, and then the lent list keeps its words
+    let mut kept = [0u32; 48];
+    let w = walk_nodes(tags, values, t, env, table, &mut kept);
+    match w {
+        Walked::Deep(k) => Walked::Deep(k),
+        Walked::Faulty(m) => {
+            copy_records(&kept, m, list);
+            Walked::Faulty(m)
+        }
     }
-    m
 }

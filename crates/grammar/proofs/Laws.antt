@@ -346,3 +346,12 @@ module _ (M : ℕ) (ts : List TagValue) (p : ℕ) where
     pub expr-deep : (d q : ℕ) (h : ExprToken) → r ≡ ExprHead.Token h q → d ≡ 0 → Read.Refused (Refusal.Limit p) ≡ outcome (expr M d ts p)
     unfolding expr limited
     expr-deep d q h e z = rw (z, expr-head-got (token (exprTokenOf M) ts p) r h q i e)
+
+-- a name that stands there is the whole expression
+pub var-whole : (M : ℕ) (ts : List TagValue) (p d : ℕ) (r : Step) (tag v q : ℕ) → r ≡ stepAt ts p → r ≡ Step.Token tag v q → (d ≡ 0 → ⊥) → tag ≡ 54 → v < M → Read.Next q ≡ outcome (expr M d ts p)
+unfolding expr form exprTokenOf
+var-whole M ts p zero r tag v q e g z t l = absurd (z refl)
+var-whole M ts p (suc d) r tag v q e g z t l =
+    let k : exprTokenOf M tag v ≡ some (ExprToken.Var v) = rw (t, lt-ltb v M l) in
+    let a = step-got (exprTokenOf M) ts p r e tag v q g (ExprToken.Var v) k in
+    rw a

@@ -275,11 +275,35 @@ pub fn shape_of(t: ExprToken) -> Shape
     }
 }
 
+// A name that stands there, in an expression that may be so deep, is read by one look: the place after it; else that place itself.
+fn var_end(tags: &[u8], values: &[u32], names: u32, depth: u32, at: usize) -> usize
+    requires { ⌜ length (now values) ≡ length (now tags) ⌝ }
+    ensures { λ r. ⌜ (at < r → Read.Next r ≡ outcome (expr names depth (tokens (now (tags .entry)) (now (values .entry))) at)) ⌝ }
+{
+    if depth == 0 {
+        return at;
+    }
+    let step = reader::token_at(tags, values, at);
+    match step {
+        Step::Token(tag, value, next) => {
+            if tag != 54 {
+                return at;
+            }
+            if value < names { next } else { at }
+        }
+        Step::End => at,
+    }
+}
+
 // An expression at most `depth` deep.
 pub fn read_expr(tags: &[u8], values: &[u32], names: u32, depth: u32, at: usize) -> Read
     requires { ⌜ length (now values) ≡ length (now tags) ⌝ }
     ensures { λ r. ⌜ r ≡ outcome (expr names depth (tokens (now (tags .entry)) (now (values .entry))) at) ⌝ }
 {
+    let end = var_end(tags, values, names, depth, at);
+    if at < end {
+        return Read::Next(end);
+    }
     let head = expr_head(tags, values, names, at);
     match head {
         ExprHead::Refused(r) => Read::Refused(r),

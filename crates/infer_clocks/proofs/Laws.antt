@@ -345,24 +345,6 @@ names-formed M n env (Inference.Passes p) k e i = go (clockedBy (i .0 .clocks) (
     go (formed cs) u = told cs (any isTooDeep (join (numbered (checkEquation n (i .0 .clocks)) 0 cs))) refl (sym (node-said n (i .0) (i .1) (formed cs) u) ∙ e)
 
 -- ---- the nodes
--- the nodes left, from node i on, tell what v is
-pub record Nodes (M : ℕ) (ts : List TagValue) (left i place q : ℕ) (v : Answer (List ClockedNode)) : Type 0 where
-  pub rest : List Node
-  pub items : times left (node M) ts place ≡ got rest q
-  pub sunk : (j : ℕ) → clockings i rest ≡ refused (Refusal.Deep j) → v ≡ refused (Refusal.Deep j)
-  pub fine : (l : List ClockedNode) → clockings i rest ≡ accepted l → (k : List ClockedNode) × (v ≡ accepted k)
-
-pub nodes-start : (M : ℕ) (ts : List TagValue) (count at q : ℕ) (ns : List Node) → times count (node M) ts at ≡ got ns q → Nodes M ts (count - 0) 0 at q (clockings 0 ns)
-nodes-start M ts count at q ns g =
-    let k : count - 0 ≡ count = omega arith in
-    record { rest = ns; items = rw k g; sunk = λ j e. e; fine = λ l e. (l, e) }
-
-pub nodes-end : (M : ℕ) (ts : List TagValue) (left i place q : ℕ) (v : Answer (List ClockedNode)) → left ≡ 0 → Nodes M ts left i place q v → Deeply Deepest.Nowhere v
-unfolding Deeply clockings
-nodes-end M ts left i place q v z h =
-    let e = times-nil (node M) ts left place (h .rest) q z (h .items) in
-    h .fine [] (rw (e .0))
-
 -- a node whose clocks are formed, before others
 next-sunk : (i j : ℕ) (n : Node) (k : Clocking) (ns : List Node) → clocking n ≡ formed k → clockings (suc i) ns ≡ refused (Refusal.Deep j) → clockings i (n ∷ ns) ≡ refused (Refusal.Deep j)
 unfolding clockings
@@ -384,6 +366,46 @@ module _ (i : ℕ) (n : Node) (k : Clocking) (all ns : List Node) (r : all ≡ n
   rest-fine : (l : List ClockedNode) → clockings (i + 1) ns ≡ accepted l → clockings i all ≡ accepted (record { node = n; clocking = k } ∷ l)
   rest-fine l e = ap (clockings i) r ∙ next-fine i n k ns l h (ap (λ (x : ℕ). clockings x ns) (sym (add-one i)) ∙ e)
 
+-- what v is, by the nodes left from node i on
+pub record Ahead (i : ℕ) (rest : List Node) (v : Answer (List ClockedNode)) : Type 0 where
+  pub sunk : (j : ℕ) → clockings i rest ≡ refused (Refusal.Deep j) → v ≡ refused (Refusal.Deep j)
+  pub fine : (l : List ClockedNode) → clockings i rest ≡ accepted l → (k : List ClockedNode) × (v ≡ accepted k)
+
+pub ahead-start : (ns : List Node) → Ahead 0 ns (clockings 0 ns)
+ahead-start ns = record { sunk = λ j e. e; fine = λ l e. (l, e) }
+
+module _ (i : ℕ) (rest : List Node) (v : Answer (List ClockedNode)) (h : Ahead i rest v) where
+  pub ahead-end : rest ≡ [] → Deeply Deepest.Nowhere v
+  unfolding Deeply clockings
+  ahead-end e = h .fine [] (rw e)
+
+  module _ (n : Node) (ns : List Node) (r : rest ≡ n ∷ ns) (b : Bool) (d : b ≡ isDeep (clocking n)) where
+    pub ahead-step : b ≡ false → Ahead (i + 1) ns v
+    ahead-step j =
+        let x = not-deep (clocking n) (sym d ∙ j) in
+        record {
+          sunk = λ k e. h .sunk k (rest-sunk i n (x .0) rest ns r (x .1) k e);
+          fine = λ k e. h .fine (record { node = n; clocking = x .0 } ∷ k) (rest-fine i n (x .0) rest ns r (x .1) k e);
+        }
+
+    pub ahead-deep : b ≡ true → Deeply (Deepest.At i) v
+    unfolding Deeply
+    ahead-deep j = h .sunk i (ap (clockings i) r ∙ here-sunk i n ns (is-deep (clocking n) (sym d ∙ j)))
+
+-- the nodes left stand there, and tell what v is
+pub record Nodes (M : ℕ) (ts : List TagValue) (left i place q : ℕ) (v : Answer (List ClockedNode)) : Type 0 where
+  pub rest : List Node
+  pub items : times left (node M) ts place ≡ got rest q
+  pub ahead : Ahead i rest v
+
+pub nodes-start : (M : ℕ) (ts : List TagValue) (count at q : ℕ) (ns : List Node) → times count (node M) ts at ≡ got ns q → Nodes M ts (count - 0) 0 at q (clockings 0 ns)
+nodes-start M ts count at q ns g =
+    let k : count - 0 ≡ count = omega arith in
+    record { rest = ns; items = rw k g; ahead = ahead-start ns }
+
+pub nodes-end : (M : ℕ) (ts : List TagValue) (left i place q : ℕ) (v : Answer (List ClockedNode)) → left ≡ 0 → Nodes M ts left i place q v → Deeply Deepest.Nowhere v
+nodes-end M ts left i place q v z h = ahead-end i (h .rest) v (h .ahead) (times-nil (node M) ts left place (h .rest) q z (h .items) .0)
+
 module _ (M : ℕ) (ts : List TagValue) (count i place q : ℕ) (v : Answer (List ClockedNode)) (l : NodeLayout) (b : Bool) (z : i < count)
     (L : (n : Node) (q : ℕ) → node M ts place ≡ got n q → Laid M ts n q l)
     (E : (n : Node) (q : ℕ) → Laid M ts n q l → b ≡ isDeep (clocking n))
@@ -392,22 +414,13 @@ module _ (M : ℕ) (ts : List TagValue) (count i place q : ℕ) (v : Answer (Lis
   nodes-step j =
       let c = times-cons (node M) ts (count - i) place (h .rest) q (λ y. omega (arith, y)) (h .items) in
       let d = L (c .0) (c .1) (c .3) in
-      let x = not-deep (clocking (c .0)) (sym (E (c .0) (c .1) d) ∙ j) in
       let u : count - (i + 1) ≡ count - i - 1 = omega arith in
-      record {
-        rest = c .2;
-        items = rw (d .ends, u) (c .4);
-        sunk = λ k e. h .sunk k (rest-sunk i (c .0) (x .0) (h .rest) (c .2) (c .5) (x .1) k e);
-        fine = λ k e. h .fine (record { node = c .0; clocking = x .0 } ∷ k) (rest-fine i (c .0) (x .0) (h .rest) (c .2) (c .5) (x .1) k e);
-      }
+      record { rest = c .2; items = rw (d .ends, u) (c .4); ahead = ahead-step i (h .rest) v (h .ahead) (c .0) (c .2) (c .5) b (E (c .0) (c .1) d) j }
 
   pub nodes-deep : b ≡ true → Deeply (Deepest.At i) v
-  unfolding Deeply
   nodes-deep j =
       let c = times-cons (node M) ts (count - i) place (h .rest) q (λ y. omega (arith, y)) (h .items) in
-      let d = L (c .0) (c .1) (c .3) in
-      let x = is-deep (clocking (c .0)) (sym (E (c .0) (c .1) d) ∙ j) in
-      h .sunk i (ap (clockings i) (c .5) ∙ here-sunk i (c .0) (c .2) x)
+      ahead-deep i (h .rest) v (h .ahead) (c .0) (c .2) (c .5) b (E (c .0) (c .1) (L (c .0) (c .1) (c .3))) j
 
 -- ---- the chains
 few-sites : (l : List Finding) → length (sites l) ≤ length l

@@ -7,7 +7,7 @@ use lib.ListN.{length}
 use Rattle.definitions.specs.declared.Refusal.{Refusal}
 use Rattle.definitions.specs.Tree.{Equation, Node}
 use Rattle.definitions.specs.Refusals.{Answer, accepted, refused}
-use Rattle.definitions.specs.InferClocks.{Formed, deep, formed, _>>=_, Clocks, Finding, Clocking, natural, orBase, checkEquation}
+use Rattle.definitions.specs.InferClocks.{Formed, deep, formed, _>>=_, Clocks, Finding, Clocking, clocking, usesClocks, natural, orBase, checkEquation}
 use Rattle.definitions.specs.Output.{ClockedNode}
 use Rattle.environment.specs.Environment.{Agrees}
 use Rattle.findings.specs.Findings.{findingsIn, Holds}
@@ -47,6 +47,10 @@ pub record Tells (env t : List ℕ) (m passes n : ℕ) (k : Clocking) : Type 0 w
   pub named : Agrees env m (k .names)
   pub room : 38 * n ≤ length t
   pub all : findingsIn t n ≡ k .findings
+
+-- of a sheet with one node, the names' clocks in a table, if that node uses clocks
+pub record Sole (env : List ℕ) (m : ℕ) (nodes : List Node) : Type 0 where
+  pub known : (n : Node) (k : Clocking) → nodes ≡ n ∷ [] → clocking n ≡ formed k → usesClocks n ≡ true → Agrees env m (k .names)
 
 unfoldable pub Clocked : List ℕ → List ℕ → ℕ → NodeClocked → Formed Clocking → Type 0
 Clocked env t m NodeClocked.Deep v = v ≡ deep

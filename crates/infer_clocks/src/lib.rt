@@ -8,6 +8,7 @@ use layout::NodeLayout;
 use passes::Inference;
 ghost use mathlib.Core.Path.{_≡_};
 ghost use mathlib.Core.List.{List};
+ghost use mathlib.Core.Bool.{true};
 ghost use mathlib.Core.Option.{Option};
 ghost use Prim.Native.Nat.{ℕ, _*_, _≤_, _<_};
 ghost use lib.ListN.{length, getD};
@@ -203,11 +204,22 @@ pub fn clock_laid(
     }
 }
 
-// The clocks of the names of a node with this layout, whose clocks are all formed.
-pub fn name_clocks(tags: &[u8], values: &[u32], names: u32, l: NodeLayout, env: &mut [u32])
+// The clocks of the names of a node with this layout, whose clocks are all formed: inferred, unless they are held already.
+pub fn name_clocks(
+    tags: &[u8],
+    values: &[u32],
+    names: u32,
+    l: NodeLayout,
+    env: &mut [u32],
+    held: bool,
+)
     requires { ⌜ length (now values) ≡ length (now tags) ⌝ }
-    ensures { λ _. ⌜ ((n : Node) (q : ℕ) (k : Clocking) → Laid names (tokens (now (tags .entry)) (now (values .entry))) n q l → 17 * names ≤ length (now (env .entry)) → names ≤ 1024 → clocking n ≡ formed k → Agrees (now (env .exit)) names (k .names)) ⌝ }
+    ensures { λ _. ⌜ (held ≡ true → now (env .exit) ≡ now (env .entry)) ⌝ }
+    ensures { λ _. ⌜ ((n : Node) (q : ℕ) (k : Clocking) → Laid names (tokens (now (tags .entry)) (now (values .entry))) n q l → 17 * names ≤ length (now (env .entry)) → names ≤ 1024 → clocking n ≡ formed k → (held ≡ true → Agrees (now (env .entry)) names (k .names)) → Agrees (now (env .exit)) names (k .names)) ⌝ }
 {
+    if held {
+        return;
+    }
     let mut marks = [0u8; 1024];
     passes::infer(tags, values, names, l, env, &mut marks);
 }

@@ -122,7 +122,7 @@ fn put_types(
     if 32 < n {
         return at;
     }
-    let places = typedefs::definition_places(tags, values, names, n, types.at);
+    let places = layout::definition_places(tags, values, names, n, types.at);
     let mut next = at;
     let mut i: usize = 0;
     while i < n {

@@ -1,17 +1,17 @@
 // Where the parts of an accepted sheet stand among its tokens: its types and nodes, a node's names, equations and probes.
 // `tags` and `values` are as long as each other; `names` is the number of names. Where nothing was read, an answer says nothing.
 use definitions::NodeKind;
-use grammar::Read;
 use tokens::FoundKind;
 ghost use mathlib.Core.Path.{_≡_};
 ghost use mathlib.Core.List.{List};
 ghost use Prim.Native.Nat.{ℕ, _≤_};
 ghost use lib.ListN.{length};
 ghost use Rattle.definitions.specs.Bytes.{tokens};
-ghost use Rattle.definitions.specs.Tree.{Equation, Node, Sheet};
+ghost use Rattle.definitions.specs.Tree.{TypeDef, Equation, Node, Sheet};
 ghost use Rattle.definitions.specs.Reading.{got, times};
 ghost use Rattle.definitions.specs.Grammar.{name, declaration, equation, probe, node, sheet, typeDef};
-ghost use Rattle.layout.specs.Spans.{pastIn, kindIn, endOf, Spanned};
+ghost use Rattle.typedefs.specs.Table.{Table};
+ghost use Rattle.layout.specs.Spans.{pastIn, kindIn, Spanned};
 ghost use Rattle.layout.specs.Laid.{Laid, LaidEquation, LaidSheet, Places};
 
 // A list behind its count: where its first item stands, how many there are, and the place after the last.
@@ -61,16 +61,6 @@ fn kind_of(value: u32) -> NodeKind
     match found {
         FoundKind::Kind(k) => k,
         FoundKind::Nothing => NodeKind::Function,
-    }
-}
-
-// The place after what was read; `at`, where it was refused.
-fn ended(read: Read, at: usize) -> usize
-    ensures { λ r. ⌜ r ≡ endOf read at ⌝ }
-{
-    match read {
-        Read::Next(next) => next,
-        Read::Refused(_) => at,
     }
 }
 
@@ -141,8 +131,7 @@ pub fn types_at(tags: &[u8], values: &[u32], names: u32, at: usize) -> Span
 {
     let count = typedefs::value_at(values, at);
     let first = past(tags, at);
-    let read = grammar::read_definitions(tags, values, names, count, first);
-    let end = ended(read, at);
+    let end = extents::definitions_end(tags, values, names, count, first);
     Span {
         at: first,
         count,
@@ -214,6 +203,29 @@ pub fn node_places(tags: &[u8], values: &[u32], names: u32, n: usize, at: usize)
         places[i] = place;
         let l = node_at(tags, values, names, place);
         place = l.end;
+        i += 1;
+    }
+    places
+}
+
+// The places of n definitions, of which the first stands at `at`.
+pub fn definition_places(
+    tags: &[u8],
+    values: &[u32],
+    names: u32,
+    n: usize,
+    at: usize,
+) -> [usize; 32]
+    requires { ⌜ length (now values) ≡ length (now tags) ⌝ }
+    requires { ⌜ n ≤ 32 ⌝ }
+    ensures { λ r. ⌜ ((types : List TypeDef) (q : ℕ) → times n (typeDef names) (tokens (now (tags .entry)) (now (values .entry))) at ≡ got types q → Table names (tokens (now (tags .entry)) (now (values .entry))) r n types) ⌝ }
+{
+    let mut places = [0usize; 32];
+    let mut place = at;
+    let mut i: usize = 0;
+    while i < n {
+        places[i] = place;
+        place = extents::definition_end(tags, values, names, place);
         i += 1;
     }
     places

@@ -2,3 +2,4 @@
 pub mod Low
 pub mod Laws
 pub mod Leaf
+pub mod Scan

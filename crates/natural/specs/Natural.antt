@@ -1,12 +1,18 @@
 -- What the walk finds: a natural clock, with the place behind what has none.
-use Prim.Native.Nat.{ℕ}
+use Prim.Native.Nat.{ℕ, _*_}
 use mathlib.Core.Path.{_≡_}
-use mathlib.Core.Bool.{Bool, true, false}
+use mathlib.Core.List.{List}
+use mathlib.Core.Bool.{Bool, true, false, not}
 use mathlib.Core.Option.{none, some}
+use lib.Dec.{eqb}
+use lib.ListN.{getD}
+use Rattle.definitions.specs.Lists.{choose}
 use Rattle.definitions.specs.Tree.{Exprs}
 use Rattle.definitions.specs.InferClocks.{Natural, Clocks, deep, formed, _or_, parentOf, natural}
 use Rattle.clock.specs.Value.{naturalOf}
+use Rattle.environment.specs.Environment.{envAt}
 use Rattle.natural.specs.declared.Found.{Found}
+use Rattle.natural.specs.declared.Told.{Told}
 
 -- is there no clock?
 abbrev pub isFree : Natural → Bool
@@ -29,3 +35,17 @@ unfoldable pub firstOf : Clocks → Bool → Exprs → Natural
 unfolding natural
 firstOf clocks up Exprs.end = formed none
 firstOf clocks up (Exprs.and e es) = lifted up (natural clocks e) or firstOf clocks up es
+
+-- does a name have a clock in the table?
+abbrev pub listed : List ℕ → ℕ → Bool
+listed env x = not (eqb (getD env (17 * x) 0) 0)
+
+-- what the first token that gives a clock tells: "54 name(id)" is the first that has one
+abbrev pub toldBy : ℕ → ℕ → Told
+toldBy tag v = choose (eqb tag 54) (Told.Name v) Told.Open
+
+-- what is told is so of the natural clock n of an expression that ends at q
+abbrev pub Tells : Told → List ℕ → Natural → ℕ → Type 0
+Tells (Told.Free end) env n q = (n ≡ formed none) × (end ≡ q)
+Tells (Told.Name x) env n q = (n ≡ formed (envAt env x)) × (isFree n ≡ false)
+Tells Told.Open env n q = Unit {0}

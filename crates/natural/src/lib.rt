@@ -19,12 +19,20 @@ ghost use Rattle.definitions.specs.InferClocks.{Clocks, formed, natural, _or_, 
 ghost use Rattle.clock.specs.Value.{naturalOf};
 ghost use Rattle.environment.specs.Environment.{envAt, Agrees};
 ghost use Rattle.operands.specs.Spread.{tree, spread};
-ghost use Rattle.natural.specs.Natural.{isFree, Finds, lifted, firstOf};
+ghost use Rattle.extents.specs.Marks.{markOf, there};
+ghost use Rattle.natural.specs.Natural.{isFree, Finds, lifted, firstOf, listed, toldBy, Tells};
 
 // A natural clock, and where what has none ends.
 pub struct Found {
     pub natural: Natural,
     pub end: usize,
+}
+
+// What tokens tell of a natural clock: there is none, and where the expression ends; it is a name's; or no more.
+enum Told {
+    Free(usize),
+    Name(u32),
+    Open,
 }
 
 // Is there no clock?
@@ -106,8 +114,8 @@ fn free_leaf(tags: &[u8], values: &[u32], env: &[u32], at: usize) -> usize
     }
 }
 
-// The natural clock of the expression that stands there.
-pub fn natural_clock(tags: &[u8], values: &[u32], names: u32, env: &[u32], at: usize) -> Found
+// The natural clock of the expression that stands there, by its operands.
+fn found_at(tags: &[u8], values: &[u32], names: u32, env: &[u32], at: usize) -> Found
     requires { ⌜ length (now values) ≡ length (now tags) ⌝ }
     ensures { λ r. ⌜ ((e : Expr) (q : ℕ) (clocks : Clocks) → tree names (tokens (now (tags .entry)) (now (values .entry))) at ≡ got e q → Agrees (now (env .entry)) names clocks → Finds r (natural clocks e) q) ⌝ }
 {
@@ -157,7 +165,7 @@ pub fn operand_clock(
     requires { ⌜ length (now values) ≡ length (now tags) ⌝ }
     ensures { λ r. ⌜ ((e : Expr) (q : ℕ) (clocks : Clocks) → tree names (tokens (now (tags .entry)) (now (values .entry))) at ≡ got e q → Agrees (now (env .entry)) names clocks → Finds r (lifted up (natural clocks e)) q) ⌝ }
 {
-    let f = natural_clock(tags, values, names, env, at);
+    let f = found_at(tags, values, names, env, at);
     if up {
         return above(tags, values, names, f, at);
     }
@@ -205,4 +213,71 @@ pub fn first_found(
         return first_found(tags, values, names, env, up, later, count - 1, next);
     }
     f
+}
+
+// Can a token give a clock? A when or a merge does, and a name that has one.
+fn gives(env: &[u32], tag: u8, value: u32) -> bool
+    ensures { λ r. ⌜ r ≡ there (markOf (listed (now (env .entry))) tag value) ⌝ }
+{
+    if tag == 54 {
+        let w = flat::word_at(env, 17 * (value as usize));
+        return w != 0;
+    }
+    extents::is_sample(tag)
+}
+
+// What the first token that gives a clock tells.
+fn told_by(tag: u8, value: u32) -> Told
+    ensures { λ r. ⌜ r ≡ toldBy tag value ⌝ }
+{
+    if tag == 54 {
+        return Told::Name(value);
+    }
+    Told::Open
+}
+
+// What the tokens of the expression that stands there tell, up to the first that gives a clock.
+fn scanned(tags: &[u8], values: &[u32], env: &[u32], at: usize) -> Told
+    requires { ⌜ length (now values) ≡ length (now tags) ⌝ }
+    ensures { λ r. ⌜ ((M : ℕ) (e : Expr) (q : ℕ) (clocks : Clocks) → tree M (tokens (now (tags .entry)) (now (values .entry))) at ≡ got e q → Agrees (now (env .entry)) M clocks → Tells r (now (env .entry)) (natural clocks e) q) ⌝ }
+{
+    let table = extents::parts_table();
+    let mut owed: usize = 1;
+    let mut place = at;
+    while 0 < owed {
+        if tags.len() <= place {
+            return Told::Open;
+        }
+        if tags.len() < owed {
+            return Told::Open;
+        }
+        let tag = tags[place];
+        let value = values[place];
+        if gives(env, tag, value) {
+            return told_by(tag, value);
+        }
+        let more = extents::follow(&table, tag, value);
+        owed = owed - 1 + (more as usize);
+        place += 1;
+    }
+    Told::Free(place)
+}
+
+// The natural clock of the expression that stands there. Its tokens tell most, since a walk of its operands costs much more.
+pub fn natural_clock(tags: &[u8], values: &[u32], names: u32, env: &[u32], at: usize) -> Found
+    requires { ⌜ length (now values) ≡ length (now tags) ⌝ }
+    ensures { λ r. ⌜ ((e : Expr) (q : ℕ) (clocks : Clocks) → tree names (tokens (now (tags .entry)) (now (values .entry))) at ≡ got e q → Agrees (now (env .entry)) names clocks → Finds r (natural clocks e) q) ⌝ }
+{
+    let told = scanned(tags, values, env, at);
+    match told {
+        Told::Free(end) => nothing(end),
+        Told::Name(x) => {
+            let n = environment::lookup(env, x);
+            Found {
+                natural: n,
+                end: at,
+            }
+        }
+        Told::Open => found_at(tags, values, names, env, at),
+    }
 }

@@ -5,3 +5,4 @@ pub mod Laws
 pub mod Roles
 pub mod Apart
 pub mod Leaves
+pub mod Simple

@@ -11,7 +11,9 @@ use Rattle.definitions.specs.Reading.{Got, got, rejected}
 use Rattle.definitions.specs.Grammar.{counted, ty, mostCounted, deepestType}
 use Rattle.grammar.specs.declared.Shape.{Shape}
 use Rattle.operands.specs.declared.Gap.{Gap}
+use Rattle.operands.specs.declared.Role.{Role}
 use Rattle.operands.specs.declared.Operands.{Operands}
+use Rattle.operands.specs.declared.View.{View}
 use Rattle.operands.specs.Spread.{tree, pastIn}
 
 -- the place after an expression at p, where there is one
@@ -22,6 +24,10 @@ skipped p (rejected r) = p
 -- operands with nothing between them
 abbrev pub plainAt : ℕ → ℕ → Operands
 plainAt p n = record { first = p; count = n; gap = Gap.Nothing }
+
+-- an expression that does r, whose operands stand so
+abbrev pub simpleView : Role → ℕ → ℕ → View
+simpleView r p n = record { role = r; first = p; count = n; gap = Gap.Nothing }
 
 -- operands behind their count, a start value and its operands, an operand behind a type
 abbrev pub behindCount : Gap → ℕ → Got ℕ → Operands

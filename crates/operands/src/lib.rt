@@ -19,7 +19,7 @@ ghost use Rattle.operands.specs.Spread.{tree, spread, later, pastIn, ope
 ghost use Rattle.definitions.specs.Grammar.{counted};
 ghost use Rattle.grammar.specs.Shape.{following};
 ghost use Rattle.operands.specs.Leaf.{leafAt};
-ghost use Rattle.operands.specs.Laid.{plainAt, behindCount, behindStart, operandsAt};
+ghost use Rattle.operands.specs.Laid.{plainAt, simpleView, behindCount, behindStart, operandsAt};
 ghost use Rattle.operands.specs.Viewed.{Laid, Viewed, Stepped};
 
 // What an expression does.
@@ -264,8 +264,8 @@ pub fn operands_of(tags: &[u8], values: &[u32], names: u32, t: ExprToken, next: 
     laid(tags, values, names, shape, next)
 }
 
-// The expression that stands there.
-pub fn view_at(tags: &[u8], values: &[u32], names: u32, at: usize) -> View
+// The expression that stands there, by its whole token.
+fn whole_view(tags: &[u8], values: &[u32], names: u32, at: usize) -> View
     requires { ⌜ length (now values) ≡ length (now tags) ⌝ }
     ensures { λ r. ⌜ Viewed names (tokens (now (tags .entry)) (now (values .entry))) at r ⌝ }
 {
@@ -290,6 +290,53 @@ pub fn view_at(tags: &[u8], values: &[u32], names: u32, at: usize) -> View
             count: 0,
             gap: Gap::Nothing,
         },
+    }
+}
+
+// An expression whose operands follow its token, with nothing between them.
+fn simple_view(role: Role, first: usize, count: u32) -> View
+    ensures { λ r. ⌜ r ≡ simpleView role first count ⌝ }
+{
+    View {
+        role: role,
+        first: first,
+        count: count,
+        gap: Gap::Nothing,
+    }
+}
+
+// An expression that samples by a condition on this name.
+fn sample_view(name: u32, test: Test, first: usize) -> View
+    ensures { λ r. ⌜ r ≡ simpleView (Role.Sample (record { name = name; test = test })) first 1 ⌝ }
+{
+    let condition = Condition {
+        name: name,
+        test: test,
+    };
+    simple_view(Role::Sample(condition), first, 1)
+}
+
+// The expression that stands there: most are known by their tag.
+pub fn view_at(tags: &[u8], values: &[u32], names: u32, at: usize) -> View
+    requires { ⌜ length (now values) ≡ length (now tags) ⌝ }
+    ensures { λ r. ⌜ Viewed names (tokens (now (tags .entry)) (now (values .entry))) at r ⌝ }
+{
+    if tags.len() <= at {
+        return whole_view(tags, values, names, at);
+    }
+    let tag = tags[at];
+    match tag {
+        55 => simple_view(Role::Compute, at + 1, 1),
+        56 => simple_view(Role::Compute, at + 1, 2),
+        57 => simple_view(Role::Compute, at + 1, 3),
+        58 => simple_view(Role::Previous, at + 1, 1),
+        59 => simple_view(Role::Follow, at + 1, 2),
+        61 => simple_view(Role::Compute, at + 1, 1),
+        62 => simple_view(Role::Index, at + 1, 2),
+        67 => sample_view(values[at], Test::On, at + 1),
+        68 => sample_view(values[at], Test::Not, at + 1),
+        69 => simple_view(Role::Join(values[at]), at + 1, 2),
+        _ => whole_view(tags, values, names, at),
     }
 }
 

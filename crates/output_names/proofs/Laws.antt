@@ -1,11 +1,12 @@
 -- The output's names, node by node.
 -- Assumes nothing.
-use Prim.Native.Nat.{ℕ, _+_, _≤_, _<_}
+use Prim.Native.Nat.{ℕ, zero, suc, _+_, _≤_, _<_}
 use mathlib.Core.Path.{_≡_, sym, ap, _∙_, subst}
-use mathlib.Core.List.{List, [], List·Memᴰ, Memᴰ·map}
+use mathlib.Core.List.{List, [], _∷_, List·Memᴰ, Memᴰ·map}
 use mathlib.Core.Bool.{Bool, true, false, true≢false}
+use mathlib.Core.Option.{some, Option·some-injective, Option·none-ne-some}
 use native.Mathlib.Omega.{arith}
-use lib.ListN.{length, getD, take}
+use lib.ListN.{length, getD, getElem?, take}
 use borrow.Author.Tests.{lt-leb}
 use Rattle.definitions.specs.Lists.{sum, Letters, bytes}
 use Rattle.definitions.specs.Bytes.{cut, tokens}
@@ -28,6 +29,7 @@ use Rattle.fresh.proofs.Places.{cut-length}
 use Rattle.layout.specs.declared.SheetLayout.{SheetLayout}
 use Rattle.layout.specs.Laid.{LaidSheet, Places}
 use Rattle.callees.specs.Callees.{Standing}
+use Rattle.infer_clocks.specs.Clocked.{Sole}
 use Rattle.needs.specs.Need.{Needs}
 use Rattle.stateless.specs.Whole.{noNeeds, oldNeeds}
 use Rattle.stateless.specs.Rewritten.{namesBy}
@@ -89,6 +91,21 @@ module _ {starts letters tags values places : List ℕ} {M many condact : ℕ} {
 pub condact-few : (given letters : List ℕ) {r : ℕ} → length given ≤ 1024 → r ≡ condactId (cut given letters) → r ≤ 1024
 condact-few given letters h e = omega (arith, e, id-most (cut given letters) (bytes "condact"), cut-length given letters)
 
+-- ---- the clocks of an only node, which are there already
+only-one : {A : Type 0} (l : List A) (i : ℕ) (a : A) → length l ≤ 1 → getElem? l i ≡ some a → l ≡ a ∷ []
+only-one [] i a h e = absurd (Option·none-ne-some a e)
+only-one {A} (b ∷ []) zero a h e = ap (λ (x : A). x ∷ []) (Option·some-injective b a e)
+only-one (b ∷ []) (suc i) a h e = absurd (Option·none-ne-some a e)
+only-one (b ∷ c ∷ l) i a h e = absurd (omega arith)
+
+module _ {env env₀ : List ℕ} {M n : ℕ} {nodes : List Node} (sole : Sole env₀ M nodes) (many : length nodes ≡ n) (same : n ≤ 1 → env ≡ env₀) where
+  -- they are still there
+  pub sole-still : Sole env M nodes
+  sole-still = record { known = λ x k e f u. let one = same (omega (arith, many, ap length e)) in rw one (sole .known x k e f u) }
+
+  pub sole-here : {ns : List ClockedNode} {i : ℕ} (h : NodeHere nodes ns i) → n ≤ 1 → usesClocks (h .clocked .node) ≡ true → Agrees env M (h .clocked .clocking .names)
+  sole-here {i} h few u = sole-still .known (h .clocked .node) (h .clocked .clocking) (only-one nodes i (h .clocked .node) (omega (arith, many)) (h .node-here)) (h .forms) u
+
 -- ---- the nodes one by one
 module _ {starts letters tags values : List ℕ} {M : ℕ} {bytes : List ℕ} {r : Input} {ns : List ClockedNode} (f : Faultless starts letters tags values M bytes r ns) where
   -- before the first node
@@ -131,10 +148,10 @@ module _ {starts letters tags values : List ℕ} {M : ℕ} {bytes : List ℕ} {r
           below = facts .below .nodes (here .clocked .node) (subst (λ (l : List Node). List·Memᴰ (here .clocked .node) l) (clockings-form 0 (r .sheet .nodes) ns (f .clocked) .same-nodes) (Memᴰ·map (λ x. x .node) (here .member))) .equations;
         }
 
-    pub names-more : {lens text lens₁ text₁ : List ℕ} {c c₁ : Counts} (at : ℕ) → at ≡ getD places i 0
-        → ((old : List Letters) (s : Sheet) (n₁ : ClockedNode) (q : ℕ) (all : List Letters) → Ready starts letters tags values places M n condact old s n₁ → node M (tokens tags values) at ≡ got (n₁ .node) q → Holds lens text c all → Holds lens₁ text₁ c₁ (withNewNames old s all n₁))
+    pub names-more : {env env₀ lens text lens₁ text₁ : List ℕ} {c c₁ : Counts} → Sole env₀ M (r .sheet .nodes) → (n ≤ 1 → env ≡ env₀) → (at : ℕ) → at ≡ getD places i 0
+        → ((old : List Letters) (s : Sheet) (n₁ : ClockedNode) (q : ℕ) (all : List Letters) → Ready starts letters tags values places M n condact old s n₁ → node M (tokens tags values) at ≡ got (n₁ .node) q → (n ≤ 1 → usesClocks (n₁ .node) ≡ true → Agrees env M (n₁ .clocking .names)) → Holds lens text c all → Holds lens₁ text₁ c₁ (withNewNames old s all n₁))
         → Holds lens text c (outputNames (r .names) (r .sheet) (r .names) (take i ns)) → Holds lens₁ text₁ c₁ (outputNames (r .names) (r .sheet) (r .names) (take (i + 1) ns))
-    names-more {lens₁} {text₁} {c₁} at e add h =
+    names-more {lens₁} {text₁} {c₁} sole same at e add h =
         let p = stands .each .stands i (here .clocked .node) (here .node-here) in
         let g : node M (tokens tags values) at ≡ got (here .clocked .node) (p .0) = ap (node M (tokens tags values)) e ∙ p .1 in
-        subst (λ (l : List Letters). Holds lens₁ text₁ c₁ l) (sym (names-front (r .names) (r .sheet) here (r .names))) (add (r .names) (r .sheet) (here .clocked) (p .0) (outputNames (r .names) (r .sheet) (r .names) (take i ns)) ready-here g h)
+        subst (λ (l : List Letters). Holds lens₁ text₁ c₁ l) (sym (names-front (r .names) (r .sheet) here (r .names))) (add (r .names) (r .sheet) (here .clocked) (p .0) (outputNames (r .names) (r .sheet) (r .names) (take i ns)) ready-here g (sole-here sole (stands .count) same here) h)

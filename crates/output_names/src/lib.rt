@@ -7,6 +7,7 @@ use layout::NodeLayout;
 use node_tables::Tables;
 ghost use mathlib.Core.Path.{_≡_};
 ghost use mathlib.Core.List.{List};
+ghost use mathlib.Core.Bool.{true};
 ghost use Prim.Native.Nat.{ℕ, _≤_, _<_};
 ghost use lib.ListN.{length};
 ghost use Rattle.definitions.specs.Lists.{sum, Letters};
@@ -14,11 +15,13 @@ ghost use Rattle.definitions.specs.Bytes.{cut, tokens};
 ghost use Rattle.definitions.specs.Tree.{Node, Sheet};
 ghost use Rattle.definitions.specs.Reading.{got};
 ghost use Rattle.definitions.specs.Grammar.{node};
+ghost use Rattle.definitions.specs.InferClocks.{usesClocks};
 ghost use Rattle.definitions.specs.Output.{ClockedNode, withNewNames, namesOut};
 ghost use Rattle.definitions.specs.Answer.{Input};
 ghost use Rattle.environment.specs.Environment.{Agrees};
 ghost use Rattle.fresh.specs.Table.{Sound, Holds};
 ghost use Rattle.layout.specs.Laid.{Laid};
+ghost use Rattle.infer_clocks.specs.Clocked.{Sole};
 ghost use Rattle.needs.specs.Need.{Needs};
 ghost use Rattle.stateless.specs.Rewritten.{namesBy};
 ghost use Rattle.many_names.specs.Many.{TooMany};
@@ -167,12 +170,15 @@ fn add_node(
     requires { ⌜ nodes ≤ 16 ⌝ }
     requires { ⌜ Sound (now lengths) (now text) c ⌝ }
     ensures { λ r. ⌜ Sound (now (lengths .exit)) (now (text .exit)) r ⌝ }
-    ensures { λ r. ⌜ ((old : List Letters) (s : Sheet) (n : ClockedNode) (q : ℕ) (all : List Letters) → Ready (now (starts .entry)) (now (letters .entry)) (now (tags .entry)) (now (values .entry)) (now (places .entry)) names nodes condact old s n → node names (tokens (now (tags .entry)) (now (values .entry))) at ≡ got (n .node) q → Holds (now (lengths .entry)) (now (text .entry)) c all → Holds (now (lengths .exit)) (now (text .exit)) r (withNewNames old s all n)) ⌝ }
+    ensures { λ _. ⌜ (nodes ≤ 1 → now (env .exit) ≡ now (env .entry)) ⌝ }
+    ensures { λ r. ⌜ ((old : List Letters) (s : Sheet) (n : ClockedNode) (q : ℕ) (all : List Letters) → Ready (now (starts .entry)) (now (letters .entry)) (now (tags .entry)) (now (values .entry)) (now (places .entry)) names nodes condact old s n → node names (tokens (now (tags .entry)) (now (values .entry))) at ≡ got (n .node) q → (nodes ≤ 1 → usesClocks (n .node) ≡ true → Agrees (now (env .entry)) names (n .clocking .names)) → Holds (now (lengths .entry)) (now (text .entry)) c all → Holds (now (lengths .exit)) (now (text .exit)) r (withNewNames old s all n)) ⌝ }
 {
     let uses = sheet::node_uses_clocks(tags, values, names, at);
     if uses {
         let l = layout::node_at(tags, values, names, at);
-        infer_clocks::name_clocks(tags, values, names, l, env);
+        // an only node's clocks are there already
+        let held = nodes <= 1;
+        infer_clocks::name_clocks(tags, values, names, l, env, held);
         return add_clocked(
             lengths,
             text,
@@ -194,7 +200,7 @@ fn add_node(
     c
 }
 
-// The output's names, in a table: the input's, of these lengths, then those that each node adds.
+// The output's names, in a table: the input's, of these lengths, then those that each node adds. `env` has the clocks of an only node.
 pub fn sheet_names(
     given: &[u8],
     starts: &[u32],
@@ -213,7 +219,8 @@ pub fn sheet_names(
     requires { ⌜ length (now given) ≤ 1024 ⌝ }
     requires { ⌜ length (now letters) ≤ 16384 ⌝ }
     ensures { λ c. ⌜ Sound (now (lengths .exit)) (now (text .exit)) c ⌝ }
-    ensures { λ c. ⌜ ((bytes : List ℕ) (r : Input) (ns : List ClockedNode) → Faultless (now (starts .entry)) (now (letters .entry)) (now (tags .entry)) (now (values .entry)) names bytes r ns → r .names ≡ cut (now (given .entry)) (now (letters .entry)) → Holds (now (lengths .exit)) (now (text .exit)) c (namesOut (r .names) (r .sheet) ns)) ⌝ }
+    ensures { λ c. ⌜ ((bytes : List ℕ) (r : Input) (ns : List ClockedNode) → Faultless (now (starts .entry)) (now (letters .entry)) (now (tags .entry)) (now (values .entry)) names bytes r ns → r .names ≡ cut (now (given .entry)) (now (letters .entry)) → Sole (now (env .entry)) names (r .sheet .nodes) → Holds (now (lengths .exit)) (now (text .exit)) c (namesOut (r .names) (r .sheet) ns)) ⌝ }
+    ensures { λ _. ⌜ ((bytes : List ℕ) (r : Input) (ns : List ClockedNode) → Faultless (now (starts .entry)) (now (letters .entry)) (now (tags .entry)) (now (values .entry)) names bytes r ns → Sole (now (env .entry)) names (r .sheet .nodes) → Sole (now (env .exit)) names (r .sheet .nodes)) ⌝ }
 {
     let mut c = fresh::copy_names(given, letters, lengths, text);
     let condact = narrow(fresh::find_condact(given, letters));

@@ -149,11 +149,26 @@ fn rewrite_lent(sheet: &[u8], out: &mut [u8], lent: usize) {
 }
 
 // 65,536 bytes are enough for any rewritten sheet.
-fn answer(lent: usize) {
-    let mut sheet = io::large_buffer();
-    let n = io::read_full(STDIN_FILENO, &mut sheet);
+fn answer_sheet(sheet: &[u8], lent: usize) {
     let mut out = io::large_buffer();
-    rewrite_lent(&sheet[..n], &mut out, lent);
+    rewrite_lent(sheet, &mut out, lent);
+}
+
+// A sheet of which these bytes are read.
+fn answer_long(start: &[u8; 4096], lent: usize) {
+    let mut sheet = io::large_buffer();
+    let n = arguments::read_on(start, &mut sheet);
+    answer_sheet(&sheet[..n], lent);
+}
+
+fn answer(lent: usize) {
+    let mut start = io::buffer();
+    let n = io::read_full(STDIN_FILENO, &mut start);
+    if n < 4096 {
+        answer_sheet(&start[..n], lent);
+        return;
+    }
+    answer_long(&start, lent);
 }
 
 // What the one word says.

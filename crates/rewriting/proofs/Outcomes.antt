@@ -1,6 +1,6 @@
 -- What rewriting a sheet answers, by what the working tables say: one law for each outcome, in checking order.
 use Prim.Native.Nat.{ℕ, zero, suc, _/_, _≤_, _<_}
-use mathlib.Core.Path.{_≡_, refl, sym, ap, ap₂, _∙_}
+use mathlib.Core.Path.{_≡_, refl, sym, ap, ap₂, _∙_, subst}
 use mathlib.Core.List.{List, [], _∷_, map}
 use mathlib.Core.Bool.{Bool, true, false, _&&_, not}
 use native.Mathlib.Omega.{arith}
@@ -11,6 +11,7 @@ use Rattle.definitions.specs.declared.Refusal.{Refusal}
 use Rattle.definitions.specs.declared.FaultRecord.{FaultRecord}
 use Rattle.definitions.specs.Lists.{choose, join, over, bytes}
 use Rattle.definitions.specs.Tokens.{codeOf}
+use Rattle.definitions.specs.Tree.{Node}
 use Rattle.definitions.specs.Bytes.{cut, tokens}
 use Rattle.definitions.specs.Refusals.{Answer, accepted, refused, faulty}
 use Rattle.definitions.specs.Output.{condactId, ClockedNode, sheetTokens, sheetBytes, withinLimits, written}
@@ -21,11 +22,12 @@ use Rattle.fresh.proofs.Places.{cut-length}
 use Rattle.fresh.proofs.Table.{id-most, holds-limits}
 use Rattle.emit.specs.Out.{out, emits}
 use Rattle.emit.proofs.Laws.{emits-long, emits-whole}
-use Rattle.infer_clocks.specs.declared.Deepest.{Deepest}
-use Rattle.infer_clocks.specs.Clocked.{Deeply}
+use Rattle.infer_clocks.specs.Clocked.{Sole}
 use Rattle.stateless.specs.Sheets.{firstFaultsFrom}
 use Rattle.stateless.proofs.Nodes.{many-tokens}
 use Rattle.stateless.proofs.Answers.{allNames, outSheet, rewrite-deep, rewrite-faulty, rewrite-large, rewrite-lent, rewrite-accepted}
+use Rattle.first_faults.specs.declared.Walked.{Walked}
+use Rattle.first_faults.specs.Faults.{Recorded, Walks}
 use Rattle.writing.specs.declared.Written.{Written}
 use Rattle.writing.specs.Bytes.{writtenAnswer, writtenBytes}
 use Rattle.output_names.specs.Faultless.{Faultless}
@@ -50,7 +52,7 @@ module _ (v : Answer (List ℕ)) (lent list : List ℕ) where
   given-written bytes n lent′ e f g = rw e (record { answer = ap RewriteAnswer.Written f; bytes = g; faults = refl })
 
 -- no entries leave a lent list as it is
-pub none-over : (fs : List FaultRecord) (list : List ℕ) → fs ≡ [] → entriesOver 3 (map recordWords fs) list ≡ list
+none-over : (fs : List FaultRecord) (list : List ℕ) → fs ≡ [] → entriesOver 3 (map recordWords fs) list ≡ list
 unfolding entriesOver
 none-over fs list e = ap (λ (l : List FaultRecord). over (join (take (length list / 3) (map recordWords l))) list) e ∙ ap (λ (l : List (List ℕ)). over (join l) list) (take-nil (length list / 3))
   where
@@ -59,7 +61,7 @@ none-over fs list e = ap (λ (l : List FaultRecord). over (join (take (length li
     take-nil (suc n) = refl
 
 -- where none is counted there is none
-pub no-items : (fs : List FaultRecord) (m : ℕ) → m ≡ length fs → m ≤ 0 → fs ≡ []
+no-items : (fs : List FaultRecord) (m : ℕ) → m ≡ length fs → m ≤ 0 → fs ≡ []
 no-items [] m e h = refl
 no-items (f ∷ fs) m e h = absurd (omega arith)
 
@@ -67,10 +69,21 @@ no-items (f ∷ fs) m e h = absurd (omega arith)
 pub same-list : (v : Answer (List ℕ)) (lent lent′ list list′ : List ℕ) (a : RewriteAnswer) → list′ ≡ list → RewriteGiven v lent list′ lent′ list′ a → RewriteGiven v lent list lent′ list′ a
 same-list v lent lent′ list list′ a e g = record { answer = g .answer; bytes = g .bytes; faults = g .faults ∙ ap (faultWordsAfter v) e }
 
--- no clock is too deep: each node has its clocks
-pub nowhere-deep : (d : Deepest) (v : Answer (List ClockedNode)) → Deeply d v → d ≡ Deepest.Nowhere → (ns : List ClockedNode) × (v ≡ accepted ns)
-unfolding Deeply
-nowhere-deep d v h e = rw e at h
+-- no clock is too deep: each node has its clocks, and each faulty one's first fault is recorded
+pub none-deep : (r : Input) (w : Walked) (list list′ : List ℕ) (m : ℕ) → Walks r list list′ w → w ≡ Walked.Faulty m → (ns : List ClockedNode) × (clockings 0 (r .sheet .nodes) ≡ accepted ns) × Recorded list (firstFaultsFrom r 0 ns) m list′
+unfolding Walks
+none-deep r w list list′ m h e = rw e at h
+
+-- where none is counted there is none, and the list is as it was
+pub none-recorded : (r : Input) (w : Walked) (list list′ : List ℕ) (m : ℕ) → Walks r list list′ w → w ≡ Walked.Faulty m → m ≤ 0 → (ns : List ClockedNode) × (clockings 0 (r .sheet .nodes) ≡ accepted ns) × (firstFaultsFrom r 0 ns ≡ []) × (list′ ≡ list)
+none-recorded r w list list′ m h e z =
+    let n = none-deep r w list list′ m h e in
+    let x = no-items (firstFaultsFrom r 0 (n .0)) m (n .2 .counted) z in
+    (n .0, n .1, x, n .2 .written ∙ none-over (firstFaultsFrom r 0 (n .0)) list x)
+
+-- the clocks of an only node, by the same number of names
+pub sole-named : {env : List ℕ} {m n : ℕ} {nodes : List Node} → m ≡ n → Sole env m nodes → Sole env n nodes
+sole-named {env} {nodes} e s = subst (λ (i : ℕ). Sole env i nodes) e s
 
 -- a sheet without faults
 pub faultless-read : {given starts letters tags values : List ℕ} {M : ℕ} {bytes : List ℕ} {r : Input} → Read given starts letters tags values M bytes r → (ns : List ClockedNode)
@@ -88,11 +101,12 @@ faultless-read h ns clocks none = record {
 
 module _ (bytes : List ℕ) (r : Input) (reading : input bytes ≡ accepted r) (lent list : List ℕ) where
   -- 9
-  pub deep-given : (d : Deepest) (i w : ℕ) → Deeply d (clockings 0 (r .sheet .nodes)) → d ≡ Deepest.At i → w ≡ i
-      → RewriteGiven (rewriteAnswer bytes (length lent)) lent list lent list (RewriteAnswer.Refused (Refusal.Deep w))
-  unfolding Deeply
-  deep-given d i w h e f =
+  pub deep-given : (w : Walked) (i : ℕ) (list′ : List ℕ) → Walks r list list′ w → w ≡ Walked.Deep i → ((k : ℕ) → w ≡ Walked.Deep k → list′ ≡ list)
+      → RewriteGiven (rewriteAnswer bytes (length lent)) lent list lent list′ (RewriteAnswer.Refused (Refusal.Deep i))
+  unfolding Walks
+  deep-given w i list′ h e kept =
       let x : clockings 0 (r .sheet .nodes) ≡ refused (Refusal.Deep i) = rw e at h in
+      let f = kept i e in
       rw f (given-refused (rewriteAnswer bytes (length lent)) lent list (Refusal.Deep i) (rewrite-deep bytes (length lent) r reading (Refusal.Deep i) x))
 
   module _ (ns : List ClockedNode) (clocks : clockings 0 (r .sheet .nodes) ≡ accepted ns) where

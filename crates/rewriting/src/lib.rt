@@ -2,8 +2,8 @@
 // `given` has the lengths of the sheet's names and `letters` their letters, `starts` where each name's letters start, `names` is how
 // many there are; `tags` and `values` are the sheet's tokens, as long as each other.
 use definitions::Refusal;
+use first_faults::Walked;
 use fresh::Counts;
-use infer_clocks::Deepest;
 use writing::Written;
 ghost use mathlib.Core.Path.{_≡_};
 ghost use mathlib.Core.List.{List};
@@ -14,15 +14,14 @@ ghost use Rattle.definitions.specs.Lists.{sum};
 ghost use Rattle.definitions.specs.Bytes.{cut, tokens};
 ghost use Rattle.definitions.specs.Reading.{got};
 ghost use Rattle.definitions.specs.Grammar.{sheet};
-ghost use Rattle.definitions.specs.Refusals.{accepted};
 ghost use Rattle.definitions.specs.Output.{ClockedNode, sheetTokens, namesOut, sheetOut};
-ghost use Rattle.definitions.specs.Answer.{Input, clockings, rewriteAnswer};
+ghost use Rattle.definitions.specs.Answer.{Input, rewriteAnswer};
 ghost use Rattle.emit.specs.Out as emit;
 ghost use Rattle.emit.specs.Out.{emits};
 ghost use Rattle.fresh.specs.Table.{Sound, Holds};
+ghost use Rattle.infer_clocks.specs.Clocked.{Sole};
 ghost use Rattle.query.specs.Standing.{Roomy};
-ghost use Rattle.stateless.specs.Sheets.{firstFaultsFrom};
-ghost use Rattle.first_faults.specs.Faults.{Recorded};
+ghost use Rattle.first_faults.specs.Faults.{Walks};
 ghost use Rattle.output_names.specs.Faultless.{Faultless};
 ghost use Rattle.rewriting.specs.Given.{RewriteGiven, Read, Clean};
 
@@ -32,12 +31,6 @@ pub enum RewriteAnswer {
     Refused(Refusal),
 }
 
-fn wide(x: u32) -> usize
-    ensures { λ r. ⌜ r ≡ x ⌝ }
-{
-    x as usize
-}
-
 fn narrow(x: usize) -> u32
     requires { ⌜ x ≤ 1024 ⌝ }
     ensures { λ r. ⌜ r ≡ x ⌝ }
@@ -45,7 +38,8 @@ fn narrow(x: usize) -> u32
     x as u32
 }
 
-// Each faulty node's first fault over the front of the lent list, as far as it reaches: how many nodes are faulty.
+// Each faulty node's first fault over the front of the lent list, as far as it reaches, and how many nodes are faulty; or the first node
+// in which too deep a clock is formed, and the list stays as it is. Of a sheet with one node, `env` has the clocks then.
 fn list_faults(
     given: &[u8],
     letters: &[u8],
@@ -55,10 +49,11 @@ fn list_faults(
     env: &mut [u32],
     table: &mut [u32],
     faults: &mut [u32],
-) -> usize
+) -> Walked
     requires { ⌜ length (now values) ≡ length (now tags) ⌝ }
     requires { ⌜ (sum (now given) ≡ length (now letters)) × (length (now given) ≤ 1024) ⌝ }
-    ensures { λ n. ⌜ ((r : Input) (ns : List ClockedNode) (q : ℕ) → sheet names (tokens (now (tags .entry)) (now (values .entry))) 0 ≡ got (r .sheet) q → r .names ≡ cut (now (given .entry)) (now (letters .entry)) → Roomy names (length (now (tags .entry))) (now (env .entry)) (now (table .entry)) → clockings 0 (r .sheet .nodes) ≡ accepted ns → Recorded (now (faults .entry)) (firstFaultsFrom r 0 ns) n (now (faults .exit))) ⌝ }
+    ensures { λ w. ⌜ ((k : ℕ) → w ≡ Walked.Deep k → now (faults .exit) ≡ now (faults .entry)) ⌝ }
+    ensures { λ w. ⌜ ((r : Input) (q : ℕ) → sheet names (tokens (now (tags .entry)) (now (values .entry))) 0 ≡ got (r .sheet) q → r .names ≡ cut (now (given .entry)) (now (letters .entry)) → Roomy names (length (now (tags .entry))) (now (env .entry)) (now (table .entry)) → Walks r (now (faults .entry)) (now (faults .exit)) w × Sole (now (env .exit)) names (r .sheet .nodes)) ⌝ }
 {
     let condact = narrow(fresh::find_condact(given, letters));
     let t = first_faults::tables_of(tags, values, names, condact);
@@ -112,7 +107,7 @@ fn write_arrays(
     write_output(lengths, text, c, tags, values, n, out)
 }
 
-// The output of a sheet without faults: its names, its tokens, and their bytes.
+// The output of a sheet without faults: its names, its tokens, and their bytes. `env` has the clocks of an only node.
 fn rewrite_faultless(
     given: &[u8],
     starts: &[u32],
@@ -125,7 +120,7 @@ fn rewrite_faultless(
 ) -> RewriteAnswer
     requires { ⌜ length (now values) ≡ length (now tags) ⌝ }
     requires { ⌜ (sum (now given) ≡ length (now letters)) × (length (now given) ≤ 1024) × (length (now letters) ≤ 16384) ⌝ }
-    ensures { λ a. ⌜ ((bytes : List ℕ) (r : Input) (ns : List ClockedNode) (list : List ℕ) → Faultless (now (starts .entry)) (now (letters .entry)) (now (tags .entry)) (now (values .entry)) names bytes r ns → r .names ≡ cut (now (given .entry)) (now (letters .entry)) → RewriteGiven (rewriteAnswer bytes (length (now (out .entry)))) (now (out .entry)) list (now (out .exit)) list a) ⌝ }
+    ensures { λ a. ⌜ ((bytes : List ℕ) (r : Input) (ns : List ClockedNode) (list : List ℕ) → Faultless (now (starts .entry)) (now (letters .entry)) (now (tags .entry)) (now (values .entry)) names bytes r ns → r .names ≡ cut (now (given .entry)) (now (letters .entry)) → Sole (now (env .entry)) names (r .sheet .nodes) → RewriteGiven (rewriteAnswer bytes (length (now (out .entry)))) (now (out .entry)) list (now (out .exit)) list a) ⌝ }
 {
     let mut lengths = [0u8; 1024];
     let mut text = [0u8; 16384];
@@ -181,15 +176,16 @@ fn rewrite_in(
     requires { ⌜ (sum (now given) ≡ length (now letters)) × (length (now given) ≤ 1024) × (length (now letters) ≤ 16384) ⌝ }
     ensures { λ a. ⌜ ((bytes : List ℕ) (r : Input) → Read (now (given .entry)) (now (starts .entry)) (now (letters .entry)) (now (tags .entry)) (now (values .entry)) names bytes r → 38 * length (now (tags .entry)) ≤ length (now (table .entry)) → RewriteGiven (rewriteAnswer bytes (length (now (out .entry)))) (now (out .entry)) (now (faults .entry)) (now (out .exit)) (now (faults .exit)) a) ⌝ }
 {
-    let deep = query::first_deep(tags, values, names, env, table);
-    if let Deepest::At(i) = deep {
-        return RewriteAnswer::Refused(Refusal::Deep(wide(i)));
+    let walked = list_faults(given, letters, tags, values, names, env, table, faults);
+    match walked {
+        Walked::Deep(i) => RewriteAnswer::Refused(Refusal::Deep(i)),
+        Walked::Faulty(faulty) => {
+            if 0 < faulty {
+                return RewriteAnswer::Refused(Refusal::Faulty(faulty));
+            }
+            rewrite_faultless(given, starts, letters, tags, values, names, env, out)
+        }
     }
-    let faulty = list_faults(given, letters, tags, values, names, env, table, faults);
-    if 0 < faulty {
-        return RewriteAnswer::Refused(Refusal::Faulty(faulty));
-    }
-    rewrite_faultless(given, starts, letters, tags, values, names, env, out)
 }
 
 // The same of at most 256 tokens, which find little: a small table is made sooner.

@@ -67,7 +67,7 @@ fn check_types(tags: &[u8], values: &[u32], names: u32) -> Checked
     if 32 < n {
         return Checked::Fine;
     }
-    let places = typedefs::definition_places(tags, values, names, n, types.at);
+    let places = layout::definition_places(tags, values, names, n, types.at);
     let cycle = cycles::first_cycle(tags, values, names, &places, n);
     if cycle == n {
         Checked::Fine

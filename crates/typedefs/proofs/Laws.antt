@@ -86,21 +86,6 @@ module _ {A : Type 0} (R : Reader A) (ts : List TagValue) where
       let m : following (R ts place) place ≡ next = ap (λ (x : Got A). following x place) r ∙ sym (e (getD l i d) (a .0) r) in
       (rw (add-one i) (sym m ∙ ap (λ (x : ℕ). following (R ts x) x) (f .0)), filled-more (placeAt p) places i place b (f .1) (f .0))
 
-  module _ (p i place : ℕ) (here : place ≡ placeAt p i) (r : Read) (read : r ≡ outcome (R ts place)) where
-    -- one more place is in the table
-    pub placed-more : (places : List ℕ) (next : ℕ) → i < length places → ((k : ℕ) → k < i → getD places k 0 ≡ placeAt p k) → r ≡ Read.Next next →
-        (next ≡ placeAt p (i + 1)) × ((k : ℕ) → k < i + 1 → getD (set places i place) k 0 ≡ placeAt p k)
-    unfolding placeAt
-    placed-more places next h filled e =
-        let g = next-got (R ts place) r next read e in
-        let f : following (R ts place) place ≡ next = ap (λ (x : Got A). following x place) (g .1) in
-        let n : next ≡ placeAt p (i + 1) = rw (add-one i) (sym f ∙ ap (λ (x : ℕ). following (R ts x) x) here) in
-        (n, filled-more (placeAt p) places i place h filled here)
-
-    -- an item that is refused is none of those read
-    pub placed-refused : (n : ℕ) (t : Refusal) (l : List A) (q : ℕ) (d : A) → i < n → r ≡ Read.Refused t → times n R ts p ≡ got l q → ⊥
-    placed-refused n t l q d h e g = let a = item n i p l q d g h in no (R ts place) (getD l i d) (a .0) r t (ap (R ts) here ∙ a .1) read e
-
 -- a table that is filled
 pub placed : (M : ℕ) (ts : List TagValue) (places : List ℕ) (n p : ℕ) (types : List TypeDef) (q : ℕ) → ((k : ℕ) → k < n → getD places k 0 ≡ placeAt (typeDef M) ts p k) →
     times n (typeDef M) ts p ≡ got types q → Table M ts places n types

@@ -3,16 +3,15 @@
 use definitions::DefinitionToken;
 use grammar::Counted;
 use grammar::DefinitionHead;
-use grammar::Read;
 ghost use mathlib.Core.Path.{_≡_};
 ghost use mathlib.Core.List.{List};
 ghost use Prim.Native.Nat.{ℕ, _≤_};
 ghost use lib.ListN.{length, getD};
 ghost use Rattle.definitions.specs.Bytes.{tokens};
 ghost use Rattle.definitions.specs.Tree.{TypeDef};
-ghost use Rattle.definitions.specs.Reading.{got, times};
+ghost use Rattle.definitions.specs.Reading.{got};
 ghost use Rattle.definitions.specs.Grammar.{typeDef};
-ghost use Rattle.typedefs.specs.Table.{Table, Named, Described, firstOf};
+ghost use Rattle.typedefs.specs.Table.{Named, Described, firstOf};
 
 // A definition: its name, how many variants or fields it has and the first's place; or its name and its type's place.
 pub enum Defined {
@@ -27,37 +26,6 @@ pub fn value_at(values: &[u32], at: usize) -> u32
     ensures { λ r. ⌜ r ≡ getD (now (values .entry)) at 0 ⌝ }
 {
     if at < values.len() { values[at] } else { 0 }
-}
-
-// The places of n definitions, of which the first stands at `at`.
-pub fn definition_places(
-    tags: &[u8],
-    values: &[u32],
-    names: u32,
-    n: usize,
-    at: usize,
-) -> [usize; 32]
-    requires { ⌜ length (now values) ≡ length (now tags) ⌝ }
-    requires { ⌜ n ≤ 32 ⌝ }
-    ensures { λ r. ⌜ ((types : List TypeDef) (q : ℕ) → times n (typeDef names) (tokens (now (tags .entry)) (now (values .entry))) at ≡ got types q → Table names (tokens (now (tags .entry)) (now (values .entry))) r n types) ⌝ }
-{
-    let mut places = [0usize; 32];
-    let mut place = at;
-    let mut i: usize = 0;
-    while i < n {
-        places[i] = place;
-        let item = grammar::read_definition(tags, values, names, place);
-        match item {
-            Read::Next(next) => {
-                place = next;
-                i += 1;
-            }
-            Read::Refused(_) => {
-                return places;
-            }
-        }
-    }
-    places
 }
 
 // The place of the first definition of a name among n; n, where there is none.

@@ -1,48 +1,46 @@
--- `cycles::edges` meets its contract: the bytes so far are those of their edges. The measure is what is left of the table.
+-- `cycles::edges` meets its contract: the rows so far are right. The measure is the number of rows left.
 -- Assumes nothing.
 use mathlib.Core.Path.{_≡_, refl, _∙_}
 use mathlib.Core.List.{List}
-use Prim.Native.Nat.{ℕ, _+_, _-_, _*_, _/_, _%_, _≤_, _<_}
+use Prim.Native.Nat.{ℕ, _+_, _-_, _*_, _≤_, _<_}
 use native.Mathlib.Omega.{arith}
-use lib.ListN.{length, getD, length-set}
+use lib.ListN.{length, getD}
 use Rattle.definitions.specs.Bytes.{tokens}
 use Rattle.definitions.specs.Lists.{among}
 use Rattle.definitions.specs.Tree.{TypeDef}
 use Rattle.definitions.specs.Types.{goesOn}
 use Rattle.typedefs.specs.Table.{Table, nameAt}
-use Rattle.typedefs.proofs.Laws.{filled-such}
+use Rattle.typedefs.proofs.Laws.{named}
 use Rattle.cycles.specs.Edges.{bit}
-use Rattle.cycles.proofs.Laws.{edge-at}
+use Rattle.cycles.proofs.Laws.{rows-more}
 use borrow.Author.Needs.{needs}
 use Rattle.cycles.proofs.edges.Statement.{statement}
 use Rattle.cycles.proofs.edges.Tie as tie
 
--- the byte at m is right
-abbrev Right : List ℕ → List ℕ → ℕ → List ℕ → ℕ → ℕ → ℕ → Type 0
-Right tags values names places n m x =
-    (types : List TypeDef) → Table names (tokens tags values) places n types → m / 32 < n → m % 32 < n → x ≡ bit (among (nameAt types (m % 32)) (goesOn types (nameAt types (m / 32))))
-
 abbrev Inv-loop : tie.InvT-loop
-Inv-loop tags values names places n most go₀ k₀ go k =
-    (k ≤ 32 * n) × (length go ≡ 1024) × ((m : ℕ) → m < k → Right tags values names places n m (getD go m 0))
+Inv-loop tags values names places n called go₀ i₀ go i =
+    (i ≤ n) × (length go ≡ 1024) × ((types : List TypeDef) → Table names (tokens tags values) places n types → (a j : ℕ) → a < i → j < n → getD go (32 * a + j) 0 ≡ bit (among (nameAt types j) (goesOn types (nameAt types a))))
 
 abbrev μ-loop : tie.MeasureT-loop
-μ-loop tags values names places n most go₀ k₀ go k = 32 * n - k
+μ-loop tags values names places n called go₀ i₀ go i = n - i
 
-mul-most : tie.Need-mul-most Inv-loop μ-loop
-mul-most c = search needs
+names-of-requires : tie.Need-names-of-requires Inv-loop μ-loop
+names-of-requires c κs = search needs
 
 loop-holds : tie.Need-loop-holds Inv-loop μ-loop
-loop-holds c = (omega arith, refl, λ m h. absurd (omega arith))
+loop-holds c = (omega arith, refl, λ types t a j h. absurd (omega arith))
 
-edge-requires : tie.Need-edge-requires Inv-loop μ-loop
-edge-requires c κs = search needs
+goes-on-requires : tie.Need-goes-on-requires Inv-loop μ-loop
+goes-on-requires c κs = search needs
 
-array-write-go : tie.Need-array-write-go Inv-loop μ-loop
-array-write-go c = search needs
+slice-aggregate-put-row : tie.Need-slice-aggregate-put-row Inv-loop μ-loop
+slice-aggregate-put-row c = search needs
 
-add-k : tie.Need-add-k Inv-loop μ-loop
-add-k c = search needs
+put-row-requires : tie.Need-put-row-requires Inv-loop μ-loop
+put-row-requires c κs = (c .before .before .before .before .before .before .before .before .before .pre .1, omega (arith, c .before .before .before .before .before .loop .inv .1, c .before .before .before .before .loop-test .taken, c .before .before .before .before .before .before .before .before .before .pre .1))
+
+add-i : tie.Need-add-i Inv-loop μ-loop
+add-i c = search needs
 
 loop-less : tie.Need-loop-less Inv-loop μ-loop
 loop-less c = search needs
@@ -50,15 +48,13 @@ loop-less c = search needs
 loop-again : tie.Need-loop-again Inv-loop μ-loop
 loop-again c = (
   omega arith,
-  length-set (c .before .before .loop .go) _ _ ∙ c .before .before .loop .inv .1,
-  filled-such (Right (c .before .before .before .before .before .args .tags .now) (c .before .before .before .before .before .args .values .now) (c .before .before .before .before .before .args .names) (c .before .before .before .before .before .args .places .now) (c .before .before .before .before .before .args .n)) (c .before .before .loop .go) _ _ (omega arith) (c .before .before .loop .inv .2) (c .edge .ensures),
+  c .before .put-row .ensures .0 ∙ c .before .before .before .before .before .before .before .loop .inv .1,
+  λ types t. let m = named _ _ _ (c .before .before .before .before .before .before .before .before .before .before .before .pre .0) _ _ types t in
+      rows-more (c .before .before .before .before .before .before .before .loop .go) (c .before .put-row .last .0) _ _ _ (c .before .put-row .ensures .1 .0) (c .before .put-row .ensures .1 .1) types (c .before .before .before .before .before .before .before .before .before .before .before .pre .1) (c .before .before .before .before .before .before .before .loop .inv .2 types t) (c .before .before .before .before .goes-on .ensures types t (record { are = λ j h. c .before .before .before .before .before .before .before .before .names-of .ensures j h ∙ m .same j h })),
 )
 
 returns : tie.Need-returns Inv-loop μ-loop
-returns c = λ types t i j h l.
-    let e : (32 * i + j) / 32 ≡ i = omega arith in
-    let f : (32 * i + j) % 32 ≡ j = omega arith in
-    edge-at (λ a b. bit (among (nameAt types b) (goesOn types (nameAt types a)))) (c .before .loop .go) (32 * i + j) i j e f (c .before .loop .inv .2 (32 * i + j) (omega arith) types t (omega arith) (omega arith))
+returns c = λ types t i j h l. c .before .loop .inv .2 types t i j (omega (arith, h, c .loop-test .left)) l
 
 pub edges-spec : {M : Type 1} → statement M
 edges-spec =
@@ -66,11 +62,12 @@ edges-spec =
     (tie.spec
     Inv-loop
     μ-loop
-    mul-most
+    names-of-requires
     loop-holds
-    edge-requires
-    array-write-go
-    add-k
+    goes-on-requires
+    slice-aggregate-put-row
+    put-row-requires
+    add-i
     loop-less
     loop-again
     returns)

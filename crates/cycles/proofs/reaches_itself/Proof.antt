@@ -30,7 +30,7 @@ loop-holds : tie.Need-loop-holds Inv-loop μ-loop
 loop-holds c = (
   omega arith,
   λ types m e. let f : c .before .args .n ≡ c .before .args .n - 0 = omega arith in
-      (goesOn types (nameAt types (c .before .args .i)), (λ j h. c .row .ensures j h ∙ e _ j (c .before .pre .1) h), ap (λ (x : ℕ). reached types x (goesOn types (nameAt types (c .before .args .i)))) f),
+      (goesOn types (nameAt types (c .before .args .i)), record { says = λ j h. c .row .ensures j h ∙ e _ j (c .before .pre .1) h }, ap (λ (x : ℕ). reached types x (goesOn types (nameAt types (c .before .args .i)))) f),
 )
 
 step-requires : tie.Need-step-requires Inv-loop μ-loop
@@ -54,7 +54,7 @@ array-read-result c = search needs
 
 returns : tie.Need-returns Inv-loop μ-loop
 returns c = λ types m e. let a = c .before .loop .inv .1 types m e in
-    ap (λ (x : ℕ). eqb x 1) (a .1 (c .before .before .before .args .i) (c .before .before .before .pre .1)) ∙ bit-test _ ∙ ap (among (nameAt types (c .before .before .before .args .i))) (sym (reached-end types _ (a .0) _ _ (a .2) (c .loop-test .left)))
+    ap (λ (x : ℕ). eqb x 1) (a .1 .says (c .before .before .before .args .i) (c .before .before .before .pre .1)) ∙ bit-test _ ∙ ap (among (nameAt types (c .before .before .before .args .i))) (sym (reached-end types _ (a .0) _ _ (a .2) (c .loop-test .left)))
 
 pub reaches-itself-spec : {M : Type 1} → statement M
 reaches-itself-spec =

@@ -1,5 +1,5 @@
--- `declock_sheet::declock_sheet` meets its contract: the tokens of the nodes so far are written. The measure is the number of nodes left.
--- Assumes nothing.
+-- `declock_sheet::declock_sheet` meets its contract: the tokens of the nodes so far are written, and an only node's clocks stay. The
+-- measure is the number of nodes left. Assumes nothing.
 use Prim.Native.Nat.{ℕ, _-_, _≤_}
 use mathlib.Core.Path.{_≡_, refl, sym, ap, _∙_}
 use mathlib.Core.List.{List}
@@ -8,6 +8,7 @@ use native.Mathlib.Omega.{arith}
 use Rattle.definitions.specs.Output.{condactId, ClockedNode, namesOut}
 use Rattle.definitions.specs.Answer.{Input}
 use Rattle.fresh.specs.Table.{Holds}
+use Rattle.infer_clocks.specs.Clocked.{Sole}
 use Rattle.emit.specs.Out.{out, emits}
 use Rattle.output_names.specs.Faultless.{Faultless}
 use Rattle.output_names.proofs.Laws.{nodes-stand}
@@ -18,7 +19,7 @@ use Rattle.declock_sheet.proofs.declock_sheet.Tie as tie
 
 abbrev Inv-loop : tie.InvT-loop
 Inv-loop starts letters tags values names lengths text c env₀ flags₀ firsts₀ otags₀ ovalues₀ n m places type-places condact k w₀ i₀ env flags firsts otags ovalues w i =
-    (i ≤ n) × ((bytes : List ℕ) (r : Input) (ns : List ClockedNode) (f : Faultless starts letters tags values names bytes r ns) → Holds lengths text c (namesOut (r .names) (r .sheet) ns) → c .full ≡ false → out otags ovalues w ≡ emits (out otags₀ ovalues₀ w₀) (sofar f i))
+    (i ≤ n) × (n ≤ 1 → env ≡ env₀) × ((bytes : List ℕ) (r : Input) (ns : List ClockedNode) (f : Faultless starts letters tags values names bytes r ns) → Sole env₀ names (r .sheet .nodes) → Holds lengths text c (namesOut (r .names) (r .sheet) ns) → c .full ≡ false → out otags ovalues w ≡ emits (out otags₀ ovalues₀ w₀) (sofar f i))
 
 abbrev μ-loop : tie.MeasureT-loop
 μ-loop starts letters tags values names lengths text c env₀ flags₀ firsts₀ otags₀ ovalues₀ n m places type-places condact k w₀ i₀ env flags firsts otags ovalues w i = n - i
@@ -33,10 +34,10 @@ wide-requires-2 : tie.Need-wide-requires-2 Inv-loop μ-loop
 wide-requires-2 c κs = search needs
 
 returns : tie.Need-returns Inv-loop μ-loop
-returns c = λ bytes r ns f holds kept. let laid = c .before .before .before .before .before .sheet-at .ensures (r .sheet) _ (f .tree) in absurd (omega (arith, laid .few-nodes, c .before .before .wide .ensures, c .if1 .taken))
+returns c = λ bytes r ns f sole holds kept. let laid = c .before .before .before .before .before .sheet-at .ensures (r .sheet) _ (f .tree) in absurd (omega (arith, laid .few-nodes, c .before .before .wide .ensures, c .if1 .taken))
 
 returns-2 : tie.Need-returns-2 Inv-loop μ-loop
-returns-2 c = λ bytes r ns f holds kept. let laid = c .before .before .before .before .before .before .sheet-at .ensures (r .sheet) _ (f .tree) in absurd (omega (arith, laid .few-types, c .before .before .wide2 .ensures, c .if2 .taken))
+returns-2 c = λ bytes r ns f sole holds kept. let laid = c .before .before .before .before .before .before .sheet-at .ensures (r .sheet) _ (f .tree) in absurd (omega (arith, laid .few-types, c .before .before .wide2 .ensures, c .if2 .taken))
 
 node-places-requires : tie.Need-node-places-requires Inv-loop μ-loop
 node-places-requires c κs = search needs
@@ -51,7 +52,7 @@ put-types-requires : tie.Need-put-types-requires Inv-loop μ-loop
 put-types-requires c κs = search needs
 
 loop-holds : tie.Need-loop-holds Inv-loop μ-loop
-loop-holds c = (omega arith, λ bytes r ns f holds kept. tokens-start f _)
+loop-holds c = (omega arith, λ few. refl, λ bytes r ns f sole holds kept. tokens-start f _)
 
 mul-at : tie.Need-mul-at Inv-loop μ-loop
 mul-at c = search needs
@@ -72,19 +73,20 @@ loop-again : tie.Need-loop-again Inv-loop μ-loop
 loop-again c =
     let l = c .before .before .before .before .before .before .before .before .before .loop in (
       omega (arith, c .before .before .before .before .before .before .before .before .loop-test .taken),
-      λ bytes r ns f holds kept.
+      λ few. c .put-node .ensures .0 few ∙ l .inv .1 few,
+      λ bytes r ns f sole holds kept.
           let laid = c .before .before .before .before .before .before .before .before .before .before .before .before .before .before .before .before .before .before .before .before .before .before .before .before .sheet-at .ensures (r .sheet) _ (f .tree) in
           let stands = nodes-stand f laid (c .before .before .before .before .before .before .before .before .before .before .before .before .before .before .before .before .before .before .before .before .before .wide .ensures) (c .before .before .before .before .before .before .before .before .before .before .before .before .before .before .before .before .before .node-places .ensures) in
           let table = types-stand f laid (c .before .before .before .before .before .before .before .before .before .before .before .before .before .before .before .before .before .before .before .before .wide2 .ensures) (c .before .before .before .before .before .before .before .before .before .before .before .before .before .before .before .before .definition-places .ensures) in
           let gate = c .before .before .before .before .before .before .before .before .before .before .before .before .before .condact-id .ensures ∙ ap condactId (sym (holds .kept kept)) in
-          tokens-more f (omega (arith, c .before .before .before .before .before .before .before .before .before .before .before .before .before .before .before .condact-id-arg .given)) (omega (arith, c .before .before .before .before .before .before .before .before .before .before .before .before .before .before .condact-id-arg2 .given)) holds kept stands table gate (l .i) (c .before .before .before .before .before .before .before .before .loop-test .taken) _ refl _ _ _ (c .put-node .ensures) (l .inv .1 bytes r ns f holds kept),
+          tokens-more f (omega (arith, c .before .before .before .before .before .before .before .before .before .before .before .before .before .before .before .condact-id-arg .given)) (omega (arith, c .before .before .before .before .before .before .before .before .before .before .before .before .before .before .condact-id-arg2 .given)) holds kept stands table gate (l .i) (c .before .before .before .before .before .before .before .before .loop-test .taken) sole (l .inv .1) _ refl _ _ _ (c .put-node .ensures .1) (l .inv .2 bytes r ns f sole holds kept),
     )
 
 returns-3 : tie.Need-returns-3 Inv-loop μ-loop
 returns-3 c =
-    λ bytes r ns f holds kept.
+    λ bytes r ns f sole holds kept.
     let laid = c .before .before .before .before .before .before .before .before .before .before .before .before .before .before .before .before .sheet-at .ensures (r .sheet) _ (f .tree) in
-    tokens-all f (c .before .loop .i) (omega (arith, laid .nodes .many, c .before .before .before .before .before .before .before .before .before .before .before .before .before .wide .ensures, c .loop-test .left)) _ _ _ (c .before .before .put-types .ensures _ (r .sheet) laid) (c .before .loop .inv .1 bytes r ns f holds kept)
+    tokens-all f (c .before .loop .i) (omega (arith, laid .nodes .many, c .before .before .before .before .before .before .before .before .before .before .before .before .before .wide .ensures, c .loop-test .left)) _ _ _ (c .before .before .put-types .ensures _ (r .sheet) laid) (c .before .loop .inv .2 bytes r ns f sole holds kept)
 
 pub declock-sheet-spec : {M : Type 1} → statement M
 declock-sheet-spec =

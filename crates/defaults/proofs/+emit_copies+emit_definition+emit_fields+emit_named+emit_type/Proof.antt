@@ -11,7 +11,7 @@ use Rattle.typedefs.specs.Table.{defAt}
 use Rattle.typedefs.proofs.Laws.{named, name-value, type-not-refused, type-is-basic, type-is-named, type-is-array, FirstField, field-read, field-not-refused, field-next, field-typed}
 use Rattle.emit.proofs.Laws.{emits-stuck}
 use Rattle.defaults.proofs.Laws.{has-nothing}
-use Rattle.defaults.proofs.Written.{wrote-basic, element-default, wrote-array, wrote-none, wrote-one, wrote-halves, no-fuel, named-default, not-unnamed, definition-default, wrote-variant, fields-default, alias-default, field-default, wrote-no-field, wrote-record, wrote-field}
+use Rattle.defaults.proofs.Written.{wrote-basic, element-default, wrote-array, wrote-plain, plain-default, wrote-none, wrote-one, wrote-halves, no-fuel, named-default, not-unnamed, definition-default, wrote-variant, fields-default, alias-default, field-default, wrote-no-field, wrote-record, wrote-field}
 use borrow.Author.Needs.{needs}
 use Prim.Native.Nat.{ℕ, _<_}
 use borrow.Fn.Kinds.{In}
@@ -33,7 +33,9 @@ use Rattle.defaults.proofs.emit_type.Kinds as emit-type-kinds
 use Rattle.defaults.proofs.+emit_copies+emit_definition+emit_fields+emit_named+emit_type.Lts-emit_type as emit-type-lts
 use Rattle.defaults.proofs.default_literal.Reads as default-literal-reads
 use Rattle.defaults.proofs.emit_literal.Reads as emit-literal-reads
+use Rattle.defaults.proofs.emit_literals.Reads as emit-literals-reads
 use Rattle.defaults.proofs.emit_two.Reads as emit-two-reads
+use Rattle.defaults.proofs.literal_at.Reads as literal-at-reads
 use Rattle.emit.proofs.emit.Reads as emit-reads
 use Rattle.grammar.proofs.read_name.Reads as read-name-reads
 use Rattle.grammar.proofs.read_type.Reads as read-type-reads
@@ -123,7 +125,7 @@ abbrev emit-named-uses : ℕ → emit-named-lts.Claims
 emit-named-uses t = (find-definition-reads.Asked, find-definition-reads.Learnt, emit-definition-below t, emit-definition.Post)
 
 abbrev emit-type-uses : ℕ → emit-type-lts.Claims
-emit-type-uses t = (type-head-reads.Asked, type-head-reads.Learnt, default-literal-reads.Asked, default-literal-reads.Learnt, emit-literal-reads.Asked, emit-literal-reads.Learnt, emit-named-below t, emit-named.Post, emit-two-reads.Asked, emit-two-reads.Learnt, emit-copies-below t, emit-copies.Post)
+emit-type-uses t = (type-head-reads.Asked, type-head-reads.Learnt, default-literal-reads.Asked, default-literal-reads.Learnt, emit-literal-reads.Asked, emit-literal-reads.Learnt, emit-named-below t, emit-named.Post, emit-two-reads.Asked, emit-two-reads.Learnt, literal-at-reads.Asked, literal-at-reads.Learnt, emit-literals-reads.Asked, emit-literals-reads.Learnt, emit-copies-below t, emit-copies.Post)
 
 emit-copies-returns : (t : ℕ) → emit-copies-lts.Need-returns (emit-copies-uses t) (emit-copies-at t) emit-copies.Post
 emit-copies-returns t c = λ types y q e s g d. sym (emits-stuck _ _ (c .if1 .taken))
@@ -294,6 +296,18 @@ emit-type-enum-known-t-3 t c = search needs
 emit-type-emit-two-requires : (t : ℕ) → emit-type-lts.Need-emit-two-requires (emit-type-uses t) (emit-type-at t) emit-type.Post
 emit-type-emit-two-requires t c κs = search needs
 
+emit-type-literal-at-requires : (t : ℕ) → emit-type-lts.Need-literal-at-requires (emit-type-uses t) (emit-type-at t) emit-type.Post
+emit-type-literal-at-requires t c κs = search needs
+
+emit-type-enum-known-element : (t : ℕ) → emit-type-lts.Need-enum-known-element (emit-type-uses t) (emit-type-at t) emit-type.Post
+emit-type-enum-known-element t c = search needs
+
+emit-type-emit-literals-requires : (t : ℕ) → emit-type-lts.Need-emit-literals-requires (emit-type-uses t) (emit-type-at t) emit-type.Post
+emit-type-emit-literals-requires t c κs = search needs
+
+emit-type-enum-told-2 : (t : ℕ) → emit-type-lts.Need-enum-told-2 (emit-type-uses t) (emit-type-at t) emit-type.Post
+emit-type-enum-told-2 t c = search needs
+
 emit-type-sub-emit-copies : (t : ℕ) → emit-type-lts.Need-sub-emit-copies (emit-type-uses t) (emit-type-at t) emit-type.Post
 emit-type-sub-emit-copies t c = search needs
 
@@ -316,7 +330,10 @@ emit-type-returns-6 : (t : ℕ) → emit-type-lts.Need-returns-6 (emit-type-uses
 emit-type-returns-6 t c = λ types y q e s g d. absurd (type-is-array _ _ _ _ (c .before .before .before .before .before .before .before .type-head .ensures) _ y q g _ _ (c .before .before .before .before .before .head .given .1) _ (c .before .before .t3 .given .1) .1 (c .if3 .taken))
 
 emit-type-returns-7 : (t : ℕ) → emit-type-lts.Need-returns-7 (emit-type-uses t) (emit-type-at t) emit-type.Post
-emit-type-returns-7 t c = λ types y q e s g d. let a = type-is-array _ _ _ _ (c .before .before .before .before .before .before .before .before .before .before .before .before .before .type-head .ensures) _ y q g _ _ (c .before .before .before .before .before .before .before .before .before .before .before .head .given .1) _ (c .before .before .before .before .before .before .before .before .t3 .given .1) in let b = element-default (defaultNamed types _) y e d (a .0) _ (a .4) in wrote-array e (b .0) _ _ _ _ (b .2) (c .before .before .before .emit-two .ensures) (c .emit-copies .ensures types (a .0) q (b .0) s (a .3) (b .1))
+emit-type-returns-7 t c = λ types y q e s g d. let a = type-is-array _ _ _ _ (c .before .before .before .before .before .before .before .before .before .before .before .before .before .before .before .before .before .type-head .ensures) _ y q g _ _ (c .before .before .before .before .before .before .before .before .before .before .before .before .before .before .before .head .given .1) _ (c .before .before .before .before .before .before .before .before .before .before .before .before .t3 .given .1) in let b = element-default (defaultNamed types _) y e d (a .0) _ (a .4) in wrote-plain e (b .0) _ _ _ _ _ (b .2) (plain-default (defaultNamed types _) _ _ (a .0) (b .0) (c .before .before .before .before .before .before .literal-at .ensures _ (a .0) q (a .3)) (c .before .before .before .before .element .given .1) (b .1)) (c .before .before .before .before .before .before .before .emit-two .ensures) (c .emit-literals .ensures)
+
+emit-type-returns-8 : (t : ℕ) → emit-type-lts.Need-returns-8 (emit-type-uses t) (emit-type-at t) emit-type.Post
+emit-type-returns-8 t c = λ types y q e s g d. let a = type-is-array _ _ _ _ (c .before .before .before .before .before .before .before .before .before .before .before .before .before .before .before .before .type-head .ensures) _ y q g _ _ (c .before .before .before .before .before .before .before .before .before .before .before .before .before .before .head .given .1) _ (c .before .before .before .before .before .before .before .before .before .before .before .t3 .given .1) in let b = element-default (defaultNamed types _) y e d (a .0) _ (a .4) in wrote-array e (b .0) _ _ _ _ (b .2) (c .before .before .before .before .before .before .emit-two .ensures) (c .emit-copies .ensures types (a .0) q (b .0) s (a .3) (b .1))
 
 pub +emit-copies+emit-definition+emit-fields+emit-named+emit-type-spec : {M : Type 1} → statement M
 +emit-copies+emit-definition+emit-fields+emit-named+emit-type-spec =
@@ -397,6 +414,10 @@ pub +emit-copies+emit-definition+emit-fields+emit-named+emit-type-spec : {M : Ty
     (emit-type-emit-named-requires t)
     (emit-type-enum-known-t-3 t)
     (emit-type-emit-two-requires t)
+    (emit-type-literal-at-requires t)
+    (emit-type-enum-known-element t)
+    (emit-type-emit-literals-requires t)
+    (emit-type-enum-told-2 t)
     (emit-type-sub-emit-copies t)
     (emit-type-emit-copies-requires t)
     (emit-type-returns-2 t)
@@ -405,3 +426,4 @@ pub +emit-copies+emit-definition+emit-fields+emit-named+emit-type-spec : {M : Ty
     (emit-type-returns-5 t)
     (emit-type-returns-6 t)
     (emit-type-returns-7 t)
+    (emit-type-returns-8 t)

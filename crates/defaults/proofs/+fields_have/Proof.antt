@@ -1,6 +1,5 @@
 -- `defaults::fields_have` meets its contract, field by field. The measure is the number left.
 -- Assumes nothing.
-use Rattle.definitions.specs.Types.{defaultNamed}
 use Rattle.typedefs.proofs.Laws.{FirstField, field-read, field-not-refused, field-next, field-typed}
 use Rattle.defaults.proofs.Laws.{have-none, have-not, have-more}
 use borrow.Author.Needs.{needs}
@@ -31,7 +30,7 @@ abbrev fields-have-uses : ℕ → fields-have-lts.Claims
 fields-have-uses t = (read-name-reads.Asked, read-name-reads.Learnt, type-has-reads.Asked, type-has-reads.Learnt, read-type-reads.Asked, read-type-reads.Learnt, fields-have-below t, fields-have.Post)
 
 fields-have-returns : (t : ℕ) → fields-have-lts.Need-returns (fields-have-uses t) (fields-have-at t) fields-have.Post
-fields-have-returns t c = λ types k fs q s h g. have-none (defaultNamed types k) _ _ _ _ fs q (c .if1 .taken) g
+fields-have-returns t c = λ types G fs q s h g. have-none G _ _ _ _ fs q (c .if1 .taken) g
 
 fields-have-read-name-requires : (t : ℕ) → fields-have-lts.Need-read-name-requires (fields-have-uses t) (fields-have-at t) fields-have.Post
 fields-have-read-name-requires t c κs = search needs
@@ -61,16 +60,16 @@ fields-have-fields-have-requires : (t : ℕ) → fields-have-lts.Need-fields-hav
 fields-have-fields-have-requires t c κs = search needs
 
 fields-have-returns-2 : (t : ℕ) → fields-have-lts.Need-returns-2 (fields-have-uses t) (fields-have-at t) fields-have.Post
-fields-have-returns-2 t c = λ types k fs q s h g. absurd (field-not-refused _ _ _ _ fs q (c .before .before .before .if1 .left) g _ (c .before .before .read-name .ensures) _ (c .enum-told .given .1))
+fields-have-returns-2 t c = λ types G fs q s h g. absurd (field-not-refused _ _ _ _ fs q (c .before .before .before .if1 .left) g _ (c .before .before .read-name .ensures) _ (c .enum-told .given .1))
 
 fields-have-returns-3 : (t : ℕ) → fields-have-lts.Need-returns-3 (fields-have-uses t) (fields-have-at t) fields-have.Post
-fields-have-returns-3 t c = λ types k fs q s h g. let f = field-read _ _ _ _ fs q (c .before .before .before .before .before .before .before .before .before .if1 .left) g _ (c .before .before .before .before .before .before .before .before .read-name .ensures) _ (c .before .before .before .before .before .before .label .given .1) in absurd (field-typed _ _ _ _ _ fs q f _ (c .before .before .read-type .ensures) _ (c .enum-told2 .given .1))
+fields-have-returns-3 t c = λ types G fs q s h g. let f = field-read _ _ _ _ fs q (c .before .before .before .before .before .before .before .before .before .if1 .left) g _ (c .before .before .before .before .before .before .before .before .read-name .ensures) _ (c .before .before .before .before .before .before .label .given .1) in absurd (field-typed _ _ _ _ _ fs q f _ (c .before .before .read-type .ensures) _ (c .enum-told2 .given .1))
 
 fields-have-returns-4 : (t : ℕ) → fields-have-lts.Need-returns-4 (fields-have-uses t) (fields-have-at t) fields-have.Post
-fields-have-returns-4 t c = λ types k fs q s h g. let f = field-read _ _ _ _ fs q (c .before .before .before .before .before .before .before .before .before .before .before .if1 .left) g _ (c .before .before .before .before .before .before .before .before .before .before .read-name .ensures) _ (c .before .before .before .before .before .before .before .before .label .given .1) in have-more (defaultNamed types k) fs _ (f .rest) (f .whole) _ (c .before .before .before .before .before .before .type-has .ensures types k (f .type) (f .next) s h (f .typed)) _ (c .before .before .before .before .before .if2 .taken) (c .fields-have .ensures types k (f .rest) q s h (field-next _ _ _ _ _ fs q f _ (c .before .before .before .before .read-type .ensures) _ (c .before .before .rest .given .1)))
+fields-have-returns-4 t c = λ types G fs q s h g. let f = field-read _ _ _ _ fs q (c .before .before .before .before .before .before .before .before .before .before .before .if1 .left) g _ (c .before .before .before .before .before .before .before .before .before .before .read-name .ensures) _ (c .before .before .before .before .before .before .before .before .label .given .1) in have-more G fs _ (f .rest) (f .whole) _ (c .before .before .before .before .before .before .type-has .ensures types G (f .type) (f .next) s h (f .typed)) _ (c .before .before .before .before .before .if2 .taken) (c .fields-have .ensures types G (f .rest) q s h (field-next _ _ _ _ _ fs q f _ (c .before .before .before .before .read-type .ensures) _ (c .before .before .rest .given .1)))
 
 fields-have-returns-5 : (t : ℕ) → fields-have-lts.Need-returns-5 (fields-have-uses t) (fields-have-at t) fields-have.Post
-fields-have-returns-5 t c = λ types k fs q s h g. let f = field-read _ _ _ _ fs q (c .before .before .before .before .before .before .if1 .left) g _ (c .before .before .before .before .before .read-name .ensures) _ (c .before .before .before .label .given .1) in have-not (defaultNamed types k) fs _ (f .rest) (f .whole) _ (c .before .type-has .ensures types k (f .type) (f .next) s h (f .typed)) (c .if2 .left)
+fields-have-returns-5 t c = λ types G fs q s h g. let f = field-read _ _ _ _ fs q (c .before .before .before .before .before .before .if1 .left) g _ (c .before .before .before .before .before .read-name .ensures) _ (c .before .before .before .label .given .1) in have-not G fs _ (f .rest) (f .whole) _ (c .before .type-has .ensures types G (f .type) (f .next) s h (f .typed)) (c .if2 .left)
 
 pub +fields-have-spec : {M : Type 1} → statement M
 +fields-have-spec = close μ-fields-have λ t. fields-have-lts.spec (fields-have-uses t)

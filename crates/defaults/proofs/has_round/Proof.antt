@@ -1,32 +1,23 @@
 -- `defaults::has_round` meets its contract: the bytes so far are those of the next round. The measure is what is left of n.
 -- Assumes nothing.
 use mathlib.Core.Path.{_≡_, refl, _∙_}
-use mathlib.Core.List.{List}
-use Prim.Native.Nat.{ℕ, suc, _-_, _≤_, _<_}
+use mathlib.Core.Bool.{_&&_}
+use Prim.Native.Nat.{ℕ, _-_, _≤_, _<_}
 use native.Mathlib.Omega.{arith}
+use lib.Dec.{eqb}
 use lib.ListN.{length, getD, length-set}
-use Rattle.definitions.specs.Bytes.{tokens}
-use Rattle.definitions.specs.Tree.{TypeDef}
-use Rattle.definitions.specs.Types.{defaultNamed}
-use Rattle.typedefs.specs.Table.{Table, nameAt}
-use Rattle.typedefs.proofs.Laws.{filled-such}
-use Rattle.cycles.specs.Edges.{bit}
-use Rattle.defaults.specs.Has.{isSome, Has}
+use Rattle.typedefs.proofs.Laws.{filled-more}
+use Rattle.cycles.specs.Edges.{bit, inside}
 use borrow.Author.Needs.{needs}
 use Rattle.defaults.proofs.has_round.Statement.{statement}
 use Rattle.defaults.proofs.has_round.Tie as tie
 
--- the byte at m is right
-abbrev Right : List ℕ → List ℕ → ℕ → List ℕ → ℕ → List ℕ → ℕ → ℕ → Type 0
-Right tags values names places n has m x =
-    (types : List TypeDef) (k : ℕ) → Table names (tokens tags values) places n types → Has types n k has → x ≡ bit (isSome (defaultNamed types (suc k) (nameAt types m)))
-
 abbrev Inv-loop : tie.InvT-loop
-Inv-loop tags values names places n has more₀ i₀ more i =
-    (i ≤ n) × (length more ≡ 32) × ((m : ℕ) → m < i → Right tags values names places n has m (getD more m 0))
+Inv-loop go own n has more₀ i₀ more i =
+    (i ≤ n) × (length more ≡ 32) × ((m : ℕ) → m < i → getD more m 0 ≡ bit (eqb (getD own m 0) 1 && inside go has m n))
 
 abbrev μ-loop : tie.MeasureT-loop
-μ-loop tags values names places n has more₀ i₀ more i = n - i
+μ-loop go own n has more₀ i₀ more i = n - i
 
 loop-holds : tie.Need-loop-holds Inv-loop μ-loop
 loop-holds c = (omega arith, refl, λ m h. absurd (omega arith))
@@ -44,14 +35,10 @@ loop-less : tie.Need-loop-less Inv-loop μ-loop
 loop-less c = search needs
 
 loop-again : tie.Need-loop-again Inv-loop μ-loop
-loop-again c = (
-  omega arith,
-  length-set (c .before .before .loop .more) _ _ ∙ c .before .before .loop .inv .1,
-  filled-such (Right (c .before .before .before .before .before .args .tags .now) (c .before .before .before .before .before .args .values .now) (c .before .before .before .before .before .args .names) (c .before .before .before .before .before .args .places .now) (c .before .before .before .before .before .args .n) (c .before .before .before .before .before .args .has .now)) (c .before .before .loop .more) _ _ (omega arith) (c .before .before .loop .inv .2) (c .has-byte .ensures),
-)
+loop-again c = (omega arith, length-set (c .before .before .loop .more) _ _ ∙ c .before .before .loop .inv .1, filled-more (λ m. bit (eqb (getD (c .before .before .before .args .own .now) m 0) 1 && inside (c .before .before .before .args .go .now) (c .before .before .before .args .has .now) m (c .before .before .before .args .n))) (c .before .before .loop .more) _ _ (omega arith) (c .before .before .loop .inv .2) (c .has-byte .ensures))
 
 returns : tie.Need-returns Inv-loop μ-loop
-returns c = λ types k s h m l. c .before .loop .inv .2 m (omega (arith, l, c .loop-test .left)) types k s h
+returns c = λ m l. c .before .loop .inv .2 m (omega (arith, l, c .loop-test .left))
 
 pub has-round-spec : {M : Type 1} → statement M
 has-round-spec =

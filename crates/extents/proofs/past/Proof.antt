@@ -1,6 +1,6 @@
 -- `extents::past` meets its contract: what is owed from here ends where all of it does. The measure is what is left of the tokens.
 -- Assumes nothing.
-use mathlib.Core.Path.{_≡_}
+use mathlib.Core.Path.{_≡_, refl}
 use Prim.Native.Nat.{ℕ, _-_}
 use native.Mathlib.Omega.{arith}
 use lib.ListN.{length}
@@ -11,10 +11,10 @@ use Rattle.extents.proofs.past.Statement.{statement}
 use Rattle.extents.proofs.past.Tie as tie
 
 abbrev Inv-loop : tie.InvT-loop
-Inv-loop tags values many at owed₀ place₀ owed place = (q : ℕ) → Owed tags values at many q → Owed tags values place owed q
+Inv-loop tags values many at table owed₀ place₀ owed place = (q : ℕ) → Owed tags values at many q → Owed tags values place owed q
 
 abbrev μ-loop : tie.MeasureT-loop
-μ-loop tags values many at owed₀ place₀ owed place = length tags - place
+μ-loop tags values many at table owed₀ place₀ owed place = length tags - place
 
 loop-holds : tie.Need-loop-holds Inv-loop μ-loop
 loop-holds c = λ q h. h
@@ -35,7 +35,7 @@ shared-slice-read-follow-2 : tie.Need-shared-slice-read-follow-2 Inv-loop μ-loo
 shared-slice-read-follow-2 c = search needs
 
 follow-requires : tie.Need-follow-requires Inv-loop μ-loop
-follow-requires c κs = search needs
+follow-requires c κs = refl
 
 sub-owed : tie.Need-sub-owed Inv-loop μ-loop
 sub-owed c = search needs
@@ -53,7 +53,7 @@ loop-less : tie.Need-loop-less Inv-loop μ-loop
 loop-less c = search needs
 
 loop-again : tie.Need-loop-again Inv-loop μ-loop
-loop-again c = λ q h. rw (c .follow .ensures) (owed-step (c .before .before .before .before .before .before .loop .inv q h) (c .before .before .before .before .before .loop-test .taken) .1)
+loop-again c = λ q h. rw (c .follow .ensures) (owed-step (c .before .before .before .before .before .before .before .loop .inv q h) (c .before .before .before .before .before .before .loop-test .taken) .1)
 
 returns-3 : tie.Need-returns-3 Inv-loop μ-loop
 returns-3 c = λ q h. owed-none (c .before .loop .inv q h) (omega (arith, c .loop-test .left))

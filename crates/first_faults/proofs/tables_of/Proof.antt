@@ -30,7 +30,7 @@ node-places-requires : tie.Need-node-places-requires
 node-places-requires c κs = search needs
 
 returns : tie.Need-returns
-returns c = ((refl, c .before .before .before .before .at-most2 .ensures .0, c .before .before .before .before .before .before .at-most .ensures .0), λ i q g e. tabled _ _ _ _ _ _ _ _ _ _ _ (c .before .before .before .before .before .before .before .before .before .before .sheet-at .result) i (c .before .before .before .before .before .before .before .before .before .before .sheet-at .ensures (i .sheet) q g) (c .before .before .before .before .before .before .before .wide .ensures) (c .before .before .before .before .before .before .at-most .ensures) (c .before .before .before .before .before .wide2 .ensures) (c .before .before .before .before .at-most2 .ensures) (c .before .before .before .definition-places .ensures) (c .before .has-defaults .ensures) (c .node-places .ensures) e)
+returns c = ((refl, c .before .before .before .before .at-most2 .ensures .0 .0, c .before .before .before .before .before .before .at-most .ensures .0 .0), λ i q g e. tabled _ _ _ _ _ _ _ _ _ _ _ (c .before .before .before .before .before .before .before .before .before .before .sheet-at .result) i (c .before .before .before .before .before .before .before .before .before .before .sheet-at .ensures (i .sheet) q g) (c .before .before .before .before .before .before .before .wide .ensures) (c .before .before .before .before .before .before .at-most .ensures .0) (c .before .before .before .before .before .wide2 .ensures) (c .before .before .before .before .at-most2 .ensures .0) (c .before .before .before .definition-places .ensures) (c .before .has-defaults .ensures) (c .node-places .ensures) e)
 
 pub tables-of-spec : {M : Type 1} → statement M
 tables-of-spec =

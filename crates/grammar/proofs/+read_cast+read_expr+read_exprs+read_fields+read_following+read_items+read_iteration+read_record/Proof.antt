@@ -34,6 +34,7 @@ use Rattle.grammar.proofs.+read_cast+read_expr+read_exprs+read_fields+r
 use Rattle.grammar.proofs.read_record.Reads as read-record
 use Rattle.grammar.proofs.read_record.Kinds as read-record-kinds
 use Rattle.grammar.proofs.+read_cast+read_expr+read_exprs+read_fields+read_following+read_items+read_iteration+read_record.Lts-read_record as read-record-lts
+use Rattle.grammar.proofs.var_end.Reads as var-end-reads
 use Rattle.grammar.proofs.expr_head.Reads as expr-head-reads
 use Rattle.grammar.proofs.read_count.Reads as read-count-reads
 use Rattle.grammar.proofs.read_high.Reads as read-high-reads
@@ -153,7 +154,7 @@ abbrev read-cast-uses : ℕ → read-cast-lts.Claims
 read-cast-uses t = (read-type-reads.Asked, read-type-reads.Learnt, read-exprs-below t, read-exprs.Post)
 
 abbrev read-expr-uses : ℕ → read-expr-lts.Claims
-read-expr-uses t = (expr-head-reads.Asked, expr-head-reads.Learnt, shape-of-reads.Asked, shape-of-reads.Learnt, read-following-below t, read-following.Post)
+read-expr-uses t = (var-end-reads.Asked, var-end-reads.Learnt, expr-head-reads.Asked, expr-head-reads.Learnt, shape-of-reads.Asked, shape-of-reads.Learnt, read-following-below t, read-following.Post)
 
 abbrev read-exprs-uses : ℕ → read-exprs-lts.Claims
 read-exprs-uses t = (read-expr-below t, read-expr.Post, read-exprs-below t, read-exprs.Post)
@@ -191,6 +192,12 @@ read-cast-returns t c = cast-more _ _ _ _ _ (c .before .before .before .before .
 read-cast-returns-2 : (t : ℕ) → read-cast-lts.Need-returns-2 (read-cast-uses t) (read-cast-at t) read-cast.Post
 read-cast-returns-2 t c = cast-stop _ _ _ _ _ (c .before .before .before .read-type .ensures) _ (c .before .first2 .given .1)
 
+read-expr-var-end-requires : (t : ℕ) → read-expr-lts.Need-var-end-requires (read-expr-uses t) (read-expr-at t) read-expr.Post
+read-expr-var-end-requires t c κs = search needs
+
+read-expr-returns : (t : ℕ) → read-expr-lts.Need-returns (read-expr-uses t) (read-expr-at t) read-expr.Post
+read-expr-returns t c = c .before .var-end .ensures (c .if1 .taken)
+
 read-expr-expr-head-requires : (t : ℕ) → read-expr-lts.Need-expr-head-requires (read-expr-uses t) (read-expr-at t) read-expr.Post
 read-expr-expr-head-requires t c κs = search needs
 
@@ -207,16 +214,16 @@ read-expr-sub-read-following : (t : ℕ) → read-expr-lts.Need-sub-read-followi
 read-expr-sub-read-following t c = search needs
 
 read-expr-read-following-requires : (t : ℕ) → read-expr-lts.Need-read-following-requires (read-expr-uses t) (read-expr-at t) read-expr.Post
-read-expr-read-following-requires t c κs = let g = head-grown (now (c .before .before .before .before .before .before .before .before .args .tags)) (now (c .before .before .before .before .before .before .before .before .args .values)) (c .before .before .before .before .before .before .before .before .pre .1) _ _ _ _ _ (c .before .before .before .before .before .expr-head .ensures) (c .before .before .before .head2 .given .1) in (omega arith, c .before .before .before .before .before .before .before .before .pre .1)
-
-read-expr-returns : (t : ℕ) → read-expr-lts.Need-returns (read-expr-uses t) (read-expr-at t) read-expr.Post
-read-expr-returns t c = expr-stop _ _ _ _ (c .before .before .before .expr-head .ensures) _ _ (c .before .head .given .1)
+read-expr-read-following-requires t c κs = let g = head-grown (now (c .before .before .before .before .before .before .before .before .before .before .args .tags)) (now (c .before .before .before .before .before .before .before .before .before .before .args .values)) (c .before .before .before .before .before .before .before .before .before .before .pre .1) _ _ _ _ _ (c .before .before .before .before .before .expr-head .ensures) (c .before .before .before .head2 .given .1) in (omega arith, c .before .before .before .before .before .before .before .before .before .before .pre .1)
 
 read-expr-returns-2 : (t : ℕ) → read-expr-lts.Need-returns-2 (read-expr-uses t) (read-expr-at t) read-expr.Post
-read-expr-returns-2 t c = expr-deep _ _ _ _ (c .before .before .before .before .expr-head .ensures) _ _ _ (c .before .before .head2 .given .1) (c .if1 .taken)
+read-expr-returns-2 t c = expr-stop _ _ _ _ (c .before .before .before .expr-head .ensures) _ _ (c .before .head .given .1)
 
 read-expr-returns-3 : (t : ℕ) → read-expr-lts.Need-returns-3 (read-expr-uses t) (read-expr-at t) read-expr.Post
-read-expr-returns-3 t c = expr-follows _ _ _ _ (c .before .before .before .before .before .before .expr-head .ensures) _ _ _ (c .before .before .before .before .head2 .given .1) (c .before .before .if1 .left) _ (c .before .shape-of .ensures) _ (c .read-following .ensures)
+read-expr-returns-3 t c = expr-deep _ _ _ _ (c .before .before .before .before .expr-head .ensures) _ _ _ (c .before .before .head2 .given .1) (c .if2 .taken)
+
+read-expr-returns-4 : (t : ℕ) → read-expr-lts.Need-returns-4 (read-expr-uses t) (read-expr-at t) read-expr.Post
+read-expr-returns-4 t c = expr-follows _ _ _ _ (c .before .before .before .before .before .before .expr-head .ensures) _ _ _ (c .before .before .before .before .head2 .given .1) (c .before .before .if2 .left) _ (c .before .shape-of .ensures) _ (c .read-following .ensures)
 
 read-exprs-returns : (t : ℕ) → read-exprs-lts.Need-returns (read-exprs-uses t) (read-exprs-at t) read-exprs.Post
 read-exprs-returns t c = exprs-none _ _ _ _ (c .if1 .taken)
@@ -422,15 +429,17 @@ pub +read-cast+read-expr+read-exprs+read-fields+read-following+read-items+read-i
     (λ t. read-expr-lts.spec (read-expr-uses t)
     (read-expr-at t)
     read-expr.Post
+    (read-expr-var-end-requires t)
+    (read-expr-returns t)
     (read-expr-expr-head-requires t)
     (read-expr-enum-known-head t)
     (read-expr-enum-known-head-2 t)
     (read-expr-shape-of-requires t)
     (read-expr-sub-read-following t)
     (read-expr-read-following-requires t)
-    (read-expr-returns t)
     (read-expr-returns-2 t)
-    (read-expr-returns-3 t))
+    (read-expr-returns-3 t)
+    (read-expr-returns-4 t))
     (λ t. read-exprs-lts.spec (read-exprs-uses t)
     (read-exprs-at t)
     read-exprs.Post

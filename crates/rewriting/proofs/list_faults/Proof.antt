@@ -2,7 +2,7 @@
 use mathlib.Core.Path.{sym, _∙_, ap}
 use native.Mathlib.Omega.{arith}
 use Rattle.definitions.specs.Output.{condactId}
-use Rattle.rewriting.proofs.Outcomes.{condact-few}
+use Rattle.rewriting.proofs.Outcomes.{condact-few, sole-named}
 use borrow.Author.Needs.{needs}
 use Rattle.rewriting.proofs.list_faults.Statement.{statement}
 use Rattle.rewriting.proofs.list_faults.Tie as tie
@@ -29,10 +29,14 @@ same-length-3 : tie.Need-same-length-3
 same-length-3 c = search needs
 
 returns : tie.Need-returns
-returns c = λ r ns q tree named room clocks.
-    let gate = c .before .before .before .before .before .before .before .before .before .before .before .narrow .ensures ∙ (c .before .before .before .before .before .before .before .before .before .before .before .before .find-condact .ensures ∙ ap condactId (sym named)) in
-    let t = c .before .before .before .before .before .before .before .before .before .before .tables-of .ensures in
-    c .before .before .before .before .before .before .write-first-faults .ensures r ns (t .1 r q tree gate) clocks (rw (t .0 .0) room)
+returns c =
+    let w = c .before .before .before .before .before .before .write-first-faults .ensures in
+    let t = c .before .before .before .before .before .before .before .before .before .before .tables-of .ensures in (
+      w .0,
+      λ r q tree named room.
+          let gate = c .before .before .before .before .before .before .before .before .before .before .before .narrow .ensures ∙ (c .before .before .before .before .before .before .before .before .before .before .before .before .find-condact .ensures ∙ ap condactId (sym named)) in
+          (w .1 .0 r (t .1 r q tree gate) (rw (t .0 .0) room), sole-named (t .0 .0) (w .1 .1 r (t .1 r q tree gate) (rw (t .0 .0) room))),
+    )
 
 pub list-faults-spec : {M : Type 1} → statement M
 list-faults-spec = tie.close (tie.spec find-condact-requires narrow-requires tables-of-requires write-first-faults-requires same-length same-length-2 same-length-3 returns)

@@ -17,9 +17,10 @@ same-length : tie.Need-same-length
 same-length c = search needs
 
 returns : tie.Need-returns
-returns c = λ bytes r ns list f e.
-    let h = c .before .before .before .before .before .before .before .before .before .before .before .before .before .before .before .before .sheet-names .ensures .1 bytes r ns f e in
-    c .before .before .write-arrays .ensures bytes r ns list _ _ (record { reading = f .read; clocks = f .clocked; none-faulty = f .faultless }) h (c .before .before .before .before .before .before .before .before .declock-sheet .ensures bytes r ns f h) (omega arith) (omega arith)
+returns c = λ bytes r ns list f e sole.
+    let names = c .before .before .before .before .before .before .before .before .before .before .before .before .before .before .before .before .sheet-names .ensures .1 in
+    let h = names .0 bytes r ns f e sole in
+    c .before .before .write-arrays .ensures bytes r ns list _ _ (record { reading = f .read; clocks = f .clocked; none-faulty = f .faultless }) h (c .before .before .before .before .before .before .before .before .declock-sheet .ensures bytes r ns f (names .1 bytes r ns f sole) h) (omega arith) (omega arith)
 
 pub rewrite-faultless-spec : {M : Type 1} → statement M
 rewrite-faultless-spec =

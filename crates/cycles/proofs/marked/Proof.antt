@@ -1,0 +1,14 @@
+-- `cycles::marked` meets its contract: by its test.
+-- Assumes nothing.
+use borrow.Author.Tests.{eq-eqb, ne-eqb}
+use Rattle.cycles.proofs.marked.Statement.{statement}
+use Rattle.cycles.proofs.marked.Tie as tie
+
+returns : tie.Need-returns
+returns c = rw (eq-eqb _ _ (c .if1 .taken))
+
+returns-2 : tie.Need-returns-2
+returns-2 c = rw (ne-eqb _ _ (c .if1 .left))
+
+pub marked-spec : {M : Type 1} → statement M
+marked-spec = tie.close (tie.spec returns returns-2)

@@ -1,0 +1,261 @@
+-- `natural::found_at` and its walk over operands meet their contracts. The measure falls with the place, which goes forward.
+-- Assumes nothing.
+use native.Mathlib.Omega.{arith}
+use mathlib.Core.Path.{refl, sym, _∙_}
+use denote.Ref.{now}
+use lib.ListN.{length}
+use Rattle.operands.proofs.Laws.{spread-nil}
+use Rattle.operands.proofs.Roles.{arm}
+use Rattle.natural.proofs.Low.{arm-low}
+use Rattle.natural.proofs.Leaf.{leaf-past, leaf-rest}
+use Rattle.natural.proofs.Laws.{none-found, at-or-past, walk-past, walk-rest, walk-here, name-arm, spread-end, var-ends, sample-arm, join-branches, join-name, rest-arm}
+use borrow.Author.Needs.{needs}
+use Prim.Native.Nat.{ℕ, _<_, _+_, _-_, _*_, _^_}
+use borrow.Fn.Kinds.{In}
+use borrow.Fn.PlainCycle.{Measures, is, falls, and}
+use Rattle.natural.proofs.first_found.Reads as first-found
+use Rattle.natural.proofs.first_found.Kinds as first-found-kinds
+use Rattle.natural.proofs.+first_found+found_at+operand_clock.Lts-first_found as first-found-lts
+use Rattle.natural.proofs.found_at.Reads as found-at
+use Rattle.natural.proofs.found_at.Kinds as found-at-kinds
+use Rattle.natural.proofs.+first_found+found_at+operand_clock.Lts-found_at as found-at-lts
+use Rattle.natural.proofs.operand_clock.Reads as operand-clock
+use Rattle.natural.proofs.operand_clock.Kinds as operand-clock-kinds
+use Rattle.natural.proofs.+first_found+found_at+operand_clock.Lts-operand_clock as operand-clock-lts
+use Rattle.environment.proofs.lookup.Reads as lookup-reads
+use Rattle.natural.proofs.above.Reads as above-reads
+use Rattle.natural.proofs.free_leaf.Reads as free-leaf-reads
+use Rattle.natural.proofs.is_free.Reads as is-free-reads
+use Rattle.natural.proofs.nothing.Reads as nothing-reads
+use Rattle.natural.proofs.sampled.Reads as sampled-reads
+use Rattle.operands.proofs.after_operand.Reads as after-operand-reads
+use Rattle.operands.proofs.operand_at.Reads as operand-at-reads
+use Rattle.operands.proofs.view_at.Reads as view-at-reads
+use Rattle.natural.proofs.+first_found+found_at+operand_clock.{statement}
+use Rattle.natural.proofs.+first_found+found_at+operand_clock.Tie.{close}
+
+abbrev μ-first-found : Measures 3 first-found-kinds.ps ℕ
+μ-first-found κs a = 3 * (2 ^ 64 - a .1 .1 .1 .1 .1 .1 .1 .0) + 2
+
+abbrev μ-found-at : Measures 3 found-at-kinds.ps ℕ
+μ-found-at κs a = 3 * (2 ^ 64 - a .1 .1 .1 .1 .0)
+
+abbrev μ-operand-clock : Measures 3 operand-clock-kinds.ps ℕ
+μ-operand-clock κs a = 3 * (2 ^ 64 - a .1 .1 .1 .1 .1 .0) + 1
+
+abbrev first-found-at : ℕ → In 3 first-found-kinds.ps
+first-found-at t =
+    and 3 first-found-kinds.ps (is 3 first-found-kinds.ps μ-first-found t) first-found.Pre
+
+abbrev first-found-below : ℕ → In 3 first-found-kinds.ps
+first-found-below t =
+    and 3 first-found-kinds.ps (falls 3 first-found-kinds.ps _<_ μ-first-found t) first-found.Pre
+
+abbrev found-at-at : ℕ → In 3 found-at-kinds.ps
+found-at-at t =
+    and 3 found-at-kinds.ps (is 3 found-at-kinds.ps μ-found-at t) found-at.Pre
+
+abbrev found-at-below : ℕ → In 3 found-at-kinds.ps
+found-at-below t =
+    and
+    3
+    found-at-kinds.ps
+    (falls 3 found-at-kinds.ps _<_ μ-found-at t)
+    found-at.Pre
+
+abbrev operand-clock-at : ℕ → In 3 operand-clock-kinds.ps
+operand-clock-at t =
+    and 3 operand-clock-kinds.ps (is 3 operand-clock-kinds.ps μ-operand-clock t) operand-clock.Pre
+
+abbrev operand-clock-below : ℕ → In 3 operand-clock-kinds.ps
+operand-clock-below t =
+    and
+    3
+    operand-clock-kinds.ps
+    (falls 3 operand-clock-kinds.ps _<_ μ-operand-clock t)
+    operand-clock.Pre
+
+abbrev first-found-uses : ℕ → first-found-lts.Claims
+first-found-uses t = (nothing-reads.Asked, nothing-reads.Learnt, operand-at-reads.Asked, operand-at-reads.Learnt, free-leaf-reads.Asked, free-leaf-reads.Learnt, after-operand-reads.Asked, after-operand-reads.Learnt, first-found-below t, first-found.Post, operand-clock-below t, operand-clock.Post, is-free-reads.Asked, is-free-reads.Learnt)
+
+abbrev found-at-uses : ℕ → found-at-lts.Claims
+found-at-uses t = (view-at-reads.Asked, view-at-reads.Learnt, nothing-reads.Asked, nothing-reads.Learnt, lookup-reads.Asked, lookup-reads.Learnt, first-found-below t, first-found.Post, sampled-reads.Asked, sampled-reads.Learnt, is-free-reads.Asked, is-free-reads.Learnt)
+
+abbrev operand-clock-uses : ℕ → operand-clock-lts.Claims
+operand-clock-uses t = (found-at-below t, found-at.Post, above-reads.Asked, above-reads.Learnt)
+
+first-found-nothing-requires : (t : ℕ) → first-found-lts.Need-nothing-requires (first-found-uses t) (first-found-at t) first-found.Post
+first-found-nothing-requires t c κs = search needs
+
+first-found-returns : (t : ℕ) → first-found-lts.Need-returns (first-found-uses t) (first-found-at t) first-found.Post
+first-found-returns t c = λ es q clocks g a. let i = spread-nil _ _ _ _ _ _ es q (c .before .if1 .taken) g in none-found clocks _ es q _ _ (i .0) (i .1) (c .nothing .ensures)
+
+first-found-operand-at-requires : (t : ℕ) → first-found-lts.Need-operand-at-requires (first-found-uses t) (first-found-at t) first-found.Post
+first-found-operand-at-requires t c κs = search needs
+
+first-found-free-leaf-requires : (t : ℕ) → first-found-lts.Need-free-leaf-requires (first-found-uses t) (first-found-at t) first-found.Post
+first-found-free-leaf-requires t c κs = search needs
+
+first-found-after-operand-requires : (t : ℕ) → first-found-lts.Need-after-operand-requires (first-found-uses t) (first-found-at t) first-found.Post
+first-found-after-operand-requires t c κs = search needs
+
+first-found-nothing-requires-2 : (t : ℕ) → first-found-lts.Need-nothing-requires-2 (first-found-uses t) (first-found-at t) first-found.Post
+first-found-nothing-requires-2 t c κs = search needs
+
+first-found-returns-2 : (t : ℕ) → first-found-lts.Need-returns-2 (first-found-uses t) (first-found-at t) first-found.Post
+first-found-returns-2 t c = λ es q clocks g a. absurd (omega (arith, leaf-past _ (now (c .before .before .before .before .before .before .before .before .before .before .args .tags)) (now (c .before .before .before .before .before .before .before .before .before .before .args .values)) (now (c .before .before .before .before .before .before .before .before .before .before .args .env)) (c .before .before .before .before .before .before .before .before .before .before .pre .1) (c .before .before .before .before .before .before .before .before .before .before .args .up) (c .before .before .before .before .before .before .before .before .before .before .args .gap) (c .before .before .before .before .before .before .before .before .before .before .args .count) (c .before .before .before .before .before .before .before .before .before .before .args .at) (c .before .before .before .before .before .operand-at .result) (c .before .before .before .before .before .before .if1 .left) (c .before .before .before .before .before .operand-at .ensures) _ (c .before .before .before .if2 .taken) (c .before .before .before .before .free-leaf .ensures) es q clocks g a _ (c .before .before .after-operand .ensures .0), c .before .if3 .taken))
+
+first-found-sub-first-found : (t : ℕ) → first-found-lts.Need-sub-first-found (first-found-uses t) (first-found-at t) first-found.Post
+first-found-sub-first-found t c = search needs
+
+first-found-first-found-requires : (t : ℕ) → first-found-lts.Need-first-found-requires (first-found-uses t) (first-found-at t) first-found.Post
+first-found-first-found-requires t c κs = search needs
+
+first-found-returns-3 : (t : ℕ) → first-found-lts.Need-returns-3 (first-found-uses t) (first-found-at t) first-found.Post
+first-found-returns-3 t c = λ es q clocks g a. leaf-rest _ (now (c .before .before .before .before .before .before .before .before .before .before .args .tags)) (now (c .before .before .before .before .before .before .before .before .before .before .args .values)) (now (c .before .before .before .before .before .before .before .before .before .before .args .env)) (c .before .before .before .before .before .before .before .before .before .before .pre .1) (c .before .before .before .before .before .before .before .before .before .before .args .up) (c .before .before .before .before .before .before .before .before .before .before .args .gap) (c .before .before .before .before .before .before .before .before .before .before .args .count) (c .before .before .before .before .before .before .before .before .before .before .args .at) (c .before .before .before .before .before .operand-at .result) (c .before .before .before .before .before .before .if1 .left) (c .before .before .before .before .before .operand-at .ensures) _ (c .before .before .before .if2 .taken) (c .before .before .before .before .free-leaf .ensures) es q clocks g a _ (c .before .before .after-operand .ensures .0) _ _ (c .before .before .after-operand .ensures .1) (c .first-found .ensures)
+
+first-found-operand-clock-requires : (t : ℕ) → first-found-lts.Need-operand-clock-requires (first-found-uses t) (first-found-at t) first-found.Post
+first-found-operand-clock-requires t c κs = let l = at-or-past (length (now (c .before .before .before .before .before .before .before .args .tags))) (c .before .before .before .before .before .before .before .args .gap) (c .before .before .before .before .before .before .before .args .at) (c .before .before .operand-at .result) (c .before .before .operand-at .ensures) in (omega arith, c .before .before .before .before .before .before .before .pre .1)
+
+first-found-is-free-requires : (t : ℕ) → first-found-lts.Need-is-free-requires (first-found-uses t) (first-found-at t) first-found.Post
+first-found-is-free-requires t c κs = search needs
+
+first-found-after-operand-requires-2 : (t : ℕ) → first-found-lts.Need-after-operand-requires-2 (first-found-uses t) (first-found-at t) first-found.Post
+first-found-after-operand-requires-2 t c κs = search needs
+
+first-found-nothing-requires-3 : (t : ℕ) → first-found-lts.Need-nothing-requires-3 (first-found-uses t) (first-found-at t) first-found.Post
+first-found-nothing-requires-3 t c κs = search needs
+
+first-found-returns-4 : (t : ℕ) → first-found-lts.Need-returns-4 (first-found-uses t) (first-found-at t) first-found.Post
+first-found-returns-4 t c = λ es q clocks g a. absurd (omega (arith, walk-past _ (now (c .before .before .before .before .before .before .before .before .before .before .before .before .before .before .args .tags)) (now (c .before .before .before .before .before .before .before .before .before .before .before .before .before .before .args .values)) (now (c .before .before .before .before .before .before .before .before .before .before .before .before .before .before .args .env)) (c .before .before .before .before .before .before .before .before .before .before .before .before .before .before .pre .1) (c .before .before .before .before .before .before .before .before .before .before .before .before .before .before .args .up) (c .before .before .before .before .before .before .before .before .before .before .before .before .before .before .args .gap) (c .before .before .before .before .before .before .before .before .before .before .before .before .before .before .args .count) (c .before .before .before .before .before .before .before .before .before .before .before .before .before .before .args .at) (c .before .before .before .before .before .before .before .before .before .operand-at .result) (c .before .before .before .before .before .before .before .before .before .before .if1 .left) (c .before .before .before .before .before .before .before .before .before .operand-at .ensures) _ (c .before .before .before .before .before .before .operand-clock .ensures) es q clocks g a (sym (c .before .before .before .before .is-free .ensures) ∙ c .before .before .before .if4 .taken) _ (c .before .before .after-operand2 .ensures .0), c .before .if5 .taken))
+
+first-found-sub-first-found-2 : (t : ℕ) → first-found-lts.Need-sub-first-found-2 (first-found-uses t) (first-found-at t) first-found.Post
+first-found-sub-first-found-2 t c = search needs
+
+first-found-first-found-requires-2 : (t : ℕ) → first-found-lts.Need-first-found-requires-2 (first-found-uses t) (first-found-at t) first-found.Post
+first-found-first-found-requires-2 t c κs = search needs
+
+first-found-returns-5 : (t : ℕ) → first-found-lts.Need-returns-5 (first-found-uses t) (first-found-at t) first-found.Post
+first-found-returns-5 t c = λ es q clocks g a. walk-rest _ (now (c .before .before .before .before .before .before .before .before .before .before .before .before .before .before .args .tags)) (now (c .before .before .before .before .before .before .before .before .before .before .before .before .before .before .args .values)) (now (c .before .before .before .before .before .before .before .before .before .before .before .before .before .before .args .env)) (c .before .before .before .before .before .before .before .before .before .before .before .before .before .before .pre .1) (c .before .before .before .before .before .before .before .before .before .before .before .before .before .before .args .up) (c .before .before .before .before .before .before .before .before .before .before .before .before .before .before .args .gap) (c .before .before .before .before .before .before .before .before .before .before .before .before .before .before .args .count) (c .before .before .before .before .before .before .before .before .before .before .before .before .before .before .args .at) (c .before .before .before .before .before .before .before .before .before .operand-at .result) (c .before .before .before .before .before .before .before .before .before .before .if1 .left) (c .before .before .before .before .before .before .before .before .before .operand-at .ensures) _ (c .before .before .before .before .before .before .operand-clock .ensures) es q clocks g a (sym (c .before .before .before .before .is-free .ensures) ∙ c .before .before .before .if4 .taken) _ (c .before .before .after-operand2 .ensures .0) _ _ (c .before .before .after-operand2 .ensures .1) (c .first-found2 .ensures)
+
+first-found-returns-6 : (t : ℕ) → first-found-lts.Need-returns-6 (first-found-uses t) (first-found-at t) first-found.Post
+first-found-returns-6 t c = λ es q clocks g a. walk-here _ (now (c .before .before .before .before .before .before .before .before .before .before .before .args .tags)) (now (c .before .before .before .before .before .before .before .before .before .before .before .args .values)) (now (c .before .before .before .before .before .before .before .before .before .before .before .args .env)) (c .before .before .before .before .before .before .before .before .before .before .before .pre .1) (c .before .before .before .before .before .before .before .before .before .before .before .args .up) (c .before .before .before .before .before .before .before .before .before .before .before .args .gap) (c .before .before .before .before .before .before .before .before .before .before .before .args .count) (c .before .before .before .before .before .before .before .before .before .before .before .args .at) (c .before .before .before .before .before .before .operand-at .result) (c .before .before .before .before .before .before .before .if1 .left) (c .before .before .before .before .before .before .operand-at .ensures) _ (c .before .before .before .operand-clock .ensures) es q clocks g a (sym (c .before .is-free .ensures) ∙ c .if4 .left)
+
+found-at-view-at-requires : (t : ℕ) → found-at-lts.Need-view-at-requires (found-at-uses t) (found-at-at t) found-at.Post
+found-at-view-at-requires t c κs = search needs
+
+found-at-nothing-requires : (t : ℕ) → found-at-lts.Need-nothing-requires (found-at-uses t) (found-at-at t) found-at.Post
+found-at-nothing-requires t c κs = search needs
+
+found-at-returns : (t : ℕ) → found-at-lts.Need-returns (found-at-uses t) (found-at-at t) found-at.Post
+found-at-returns t c = λ e q clocks g a. absurd (omega (arith, c .before .before .view-at .ensures .past e q g, c .before .if1 .taken))
+
+found-at-enum-known-role : (t : ℕ) → found-at-lts.Need-enum-known-role (found-at-uses t) (found-at-at t) found-at.Post
+found-at-enum-known-role t c = search needs
+
+found-at-lookup-requires : (t : ℕ) → found-at-lts.Need-lookup-requires (found-at-uses t) (found-at-at t) found-at.Post
+found-at-lookup-requires t c κs = search needs
+
+found-at-enum-known-role-2 : (t : ℕ) → found-at-lts.Need-enum-known-role-2 (found-at-uses t) (found-at-at t) found-at.Post
+found-at-enum-known-role-2 t c = search needs
+
+found-at-first-found-requires : (t : ℕ) → found-at-lts.Need-first-found-requires (found-at-uses t) (found-at-at t) found-at.Post
+found-at-first-found-requires t c κs = search needs
+
+found-at-sampled-requires : (t : ℕ) → found-at-lts.Need-sampled-requires (found-at-uses t) (found-at-at t) found-at.Post
+found-at-sampled-requires t c κs = search needs
+
+found-at-enum-known-role-3 : (t : ℕ) → found-at-lts.Need-enum-known-role-3 (found-at-uses t) (found-at-at t) found-at.Post
+found-at-enum-known-role-3 t c = search needs
+
+found-at-lookup-requires-2 : (t : ℕ) → found-at-lts.Need-lookup-requires-2 (found-at-uses t) (found-at-at t) found-at.Post
+found-at-lookup-requires-2 t c κs = search needs
+
+found-at-is-free-requires : (t : ℕ) → found-at-lts.Need-is-free-requires (found-at-uses t) (found-at-at t) found-at.Post
+found-at-is-free-requires t c κs = search needs
+
+found-at-first-found-requires-2 : (t : ℕ) → found-at-lts.Need-first-found-requires-2 (found-at-uses t) (found-at-at t) found-at.Post
+found-at-first-found-requires-2 t c κs = search needs
+
+found-at-returns-2 : (t : ℕ) → found-at-lts.Need-returns-2 (found-at-uses t) (found-at-at t) found-at.Post
+found-at-returns-2 t c = λ e q clocks g a. let i = arm e _ _ (c .before .before .before .before .before .before .before .before .view-at .ensures .role e q g) (c .before .before .before .before .before .role3 .given .1) in let l = arm-low _ _ _ e q _ _ g (c .before .before .before .before .before .before .before .before .view-at .ensures .role e q g) (c .before .before .before .before .before .role3 .given .1) in join-branches _ _ clocks a e q _ (i .0) (i .1) _ _ (i .2) l (c .before .before .before .lookup2 .ensures) (sym (c .before .before .is-free .ensures) ∙ c .before .if2 .taken) (c .first-found2 .ensures _ q clocks (c .before .before .before .before .before .before .before .before .view-at .ensures .operands e q g) a)
+
+found-at-first-found-requires-3 : (t : ℕ) → found-at-lts.Need-first-found-requires-3 (found-at-uses t) (found-at-at t) found-at.Post
+found-at-first-found-requires-3 t c κs = search needs
+
+found-at-returns-3 : (t : ℕ) → found-at-lts.Need-returns-3 (found-at-uses t) (found-at-at t) found-at.Post
+found-at-returns-3 t c = λ e q clocks g a. let i = arm e _ _ (c .before .before .before .before .before .view-at .ensures .role e q g) (c .before .before .role .given .1) in let l = arm-low _ _ _ e q _ _ g (c .before .before .before .before .before .view-at .ensures .role e q g) (c .before .before .role .given .1) in name-arm _ _ clocks a e q _ _ _ i l (c .lookup .ensures) (spread-end _ _ _ _ _ _ q (var-ends e _ i) (c .before .before .before .before .before .view-at .ensures .operands e q g)) refl
+
+found-at-returns-4 : (t : ℕ) → found-at-lts.Need-returns-4 (found-at-uses t) (found-at-at t) found-at.Post
+found-at-returns-4 t c = λ e q clocks g a. let i = arm e _ _ (c .before .before .before .before .before .before .view-at .ensures .role e q g) (c .before .before .before .role2 .given .1) in let l = arm-low _ _ _ e q _ _ g (c .before .before .before .before .before .before .view-at .ensures .role e q g) (c .before .before .before .role2 .given .1) in sample-arm _ _ clocks a e q _ (i .0) _ _ (i .1) l (c .before .first-found .ensures _ q clocks (c .before .before .before .before .before .before .view-at .ensures .operands e q g) a) (c .sampled .ensures)
+
+found-at-returns-5 : (t : ℕ) → found-at-lts.Need-returns-5 (found-at-uses t) (found-at-at t) found-at.Post
+found-at-returns-5 t c = λ e q clocks g a. let i = arm e _ _ (c .before .before .before .before .before .before .before .view-at .ensures .role e q g) (c .before .before .before .before .role3 .given .1) in let l = arm-low _ _ _ e q _ _ g (c .before .before .before .before .before .before .before .view-at .ensures .role e q g) (c .before .before .before .before .role3 .given .1) in join-name _ _ clocks a e q _ (i .0) (i .1) _ (i .2) l (c .before .before .lookup2 .ensures) (sym (c .before .is-free .ensures) ∙ c .if2 .left)
+
+found-at-returns-6 : (t : ℕ) → found-at-lts.Need-returns-6 (found-at-uses t) (found-at-at t) found-at.Post
+found-at-returns-6 t c = λ e q clocks g a. rest-arm clocks e _ _ q (c .before .before .before .view-at .ensures .role e q g) (c .before .match .keys4) (c .first-found3 .ensures _ q clocks (c .before .before .before .view-at .ensures .operands e q g) a)
+
+operand-clock-found-at-requires : (t : ℕ) → operand-clock-lts.Need-found-at-requires (operand-clock-uses t) (operand-clock-at t) operand-clock.Post
+operand-clock-found-at-requires t c κs = search needs
+
+operand-clock-above-requires : (t : ℕ) → operand-clock-lts.Need-above-requires (operand-clock-uses t) (operand-clock-at t) operand-clock.Post
+operand-clock-above-requires t c κs = search needs
+
+operand-clock-returns : (t : ℕ) → operand-clock-lts.Need-returns (operand-clock-uses t) (operand-clock-at t) operand-clock.Post
+operand-clock-returns t c = λ e q clocks g a. rw (c .before .if1 .taken) (c .above .ensures e q _ g (c .before .before .found-at .ensures e q clocks g a))
+
+operand-clock-returns-2 : (t : ℕ) → operand-clock-lts.Need-returns-2 (operand-clock-uses t) (operand-clock-at t) operand-clock.Post
+operand-clock-returns-2 t c = λ e q clocks g a. rw (c .if1 .left) (c .before .found-at .ensures e q clocks g a)
+
+pub +first-found+found-at+operand-clock-spec : {M : Type 1} → statement M
++first-found+found-at+operand-clock-spec =
+    close μ-first-found μ-found-at μ-operand-clock (λ t. first-found-lts.spec (first-found-uses t)
+    (first-found-at t)
+    first-found.Post
+    (first-found-nothing-requires t)
+    (first-found-returns t)
+    (first-found-operand-at-requires t)
+    (first-found-free-leaf-requires t)
+    (first-found-after-operand-requires t)
+    (first-found-nothing-requires-2 t)
+    (first-found-returns-2 t)
+    (first-found-sub-first-found t)
+    (first-found-first-found-requires t)
+    (first-found-returns-3 t)
+    (first-found-operand-clock-requires t)
+    (first-found-is-free-requires t)
+    (first-found-after-operand-requires-2 t)
+    (first-found-nothing-requires-3 t)
+    (first-found-returns-4 t)
+    (first-found-sub-first-found-2 t)
+    (first-found-first-found-requires-2 t)
+    (first-found-returns-5 t)
+    (first-found-returns-6 t))
+    (λ t. found-at-lts.spec (found-at-uses t)
+    (found-at-at t)
+    found-at.Post
+    (found-at-view-at-requires t)
+    (found-at-nothing-requires t)
+    (found-at-returns t)
+    (found-at-enum-known-role t)
+    (found-at-lookup-requires t)
+    (found-at-enum-known-role-2 t)
+    (found-at-first-found-requires t)
+    (found-at-sampled-requires t)
+    (found-at-enum-known-role-3 t)
+    (found-at-lookup-requires-2 t)
+    (found-at-is-free-requires t)
+    (found-at-first-found-requires-2 t)
+    (found-at-returns-2 t)
+    (found-at-first-found-requires-3 t)
+    (found-at-returns-3 t)
+    (found-at-returns-4 t)
+    (found-at-returns-5 t)
+    (found-at-returns-6 t))
+    λ t. operand-clock-lts.spec (operand-clock-uses t)
+    (operand-clock-at t)
+    operand-clock.Post
+    (operand-clock-found-at-requires t)
+    (operand-clock-above-requires t)
+    (operand-clock-returns t)
+    (operand-clock-returns-2 t)

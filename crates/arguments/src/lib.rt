@@ -228,6 +228,7 @@ pub fn front(bytes: &[u8], n: usize) -> &[u8]
 pub fn read_on(start: &[u8], sheet: &mut [u8]) -> usize
     requires { ⌜ length (now start) ≤ length (now sheet) ⌝ }
     ensures { λ r. ⌜ Counts r (now (sheet .exit)) ⌝ }
+    ensures { λ r. ⌜ (length (now (start .entry)) ≤ r) × (take (length (now (start .entry))) (now (sheet .exit)) ≡ now (start .entry)) ⌝ }
 {
     let n = start.len();
     let mut i: usize = 0;

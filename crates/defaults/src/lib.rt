@@ -30,7 +30,7 @@ ghost use Rattle.defaults.specs.Has.{isSome, Has, HasBy, known, down, Ow
 ghost use Rattle.defaults.specs.Plain.{IsPlain};
 
 // A primitive type's default, or another type: many of the former are written without going down the type again.
-pub enum Plain {
+enum Plain {
     Constant(Literal),
     Other,
 }
@@ -329,7 +329,7 @@ pub fn emit_literals(
 }
 
 // The constant of a type that is primitive, or none.
-pub fn literal_at(tags: &[u8], values: &[u32], names: u32, at: usize) -> Plain
+fn literal_at(tags: &[u8], values: &[u32], names: u32, at: usize) -> Plain
     requires { ⌜ length (now values) ≡ length (now tags) ⌝ }
     ensures { λ r. ⌜ ((depth : ℕ) (t : Ty) (q : ℕ) → ty names depth (tokens (now (tags .entry)) (now (values .entry))) at ≡ got t q → IsPlain r t) ⌝ }
 {

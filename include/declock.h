@@ -37,11 +37,11 @@ extern "C" {
 /* Enough for the faults that declock_rewrite lists of any sheet: a sheet has at most 16 nodes, and each has at most one first fault. */
 #define DECLOCK_FAULTS 16
 
-/* Stack that is enough for any call, counted from the compiled functions and the limits of a sheet. A usual sheet takes 1.1 MB
- * (declock_text 0.8 MB). Finding an expression's clock calls itself for each operand, 632 bytes a call and at most 32 times 65 deep, so
- * that a sheet can ask for 1.4 MB more; the most that we measured, on 1,836 sheets built for it: declock_rewrite, declock_listing and
- * declock_listings 2.3 MB, declock_text 2.0 MB, declock_clocks 2.4 MB. */
-#define DECLOCK_STACK_BYTES 4194304
+/* Stack that is enough for any call. A usual sheet takes 1.1 MB (declock_text 0.8 MB). What calls itself goes down the levels of an
+ * expression, of which there are at most 32, and in reading the operands of each, at most 65 and 128 bytes a call. The most that we
+ * measured, on 109 sheets built for it: declock_rewrite 1.1 MB, declock_text 1.0 MB, declock_listing and declock_listings 1.3 MB,
+ * declock_clocks 1.4 MB. */
+#define DECLOCK_STACK_BYTES 2097152
 
 /* Why a sheet is turned down, in checking order: the first that applies is answered. After each, what *place is. */
 enum declock_answer {
@@ -99,11 +99,12 @@ struct declock_condition {
     uint32_t on;
 };
 
-/* A clock: the number of its conditions and one more, then the conditions from base outward; the places behind them are 0. Base, which
- * has none, is 1. It is 17 words. */
+/* A clock, in 17 words. `depth` is NOT the number of conditions but one more: 1 is base, which has none; 2 has one condition, 9 has
+ * eight. 0 is in no clock that was written, so that a list filled with zeros shows which places were. The number of conditions is
+ * depth - 1; they stand in `conditions` from base outward, and the places behind them are 0. */
 #define DECLOCK_CLOCK_WORDS 17
 struct declock_clock {
-    uint32_t depth;
+    uint32_t depth; /* the number of conditions and one more */
     struct declock_condition conditions[8];
 };
 

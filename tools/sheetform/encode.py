@@ -21,6 +21,11 @@ class TextError(Exception):
 
 def encode(sheet, limits=INPUT):
     """The bytes of a sheet."""
+    return encode_placed(sheet, limits)[0]
+
+
+def encode_placed(sheet, limits=INPUT):
+    """The bytes of a sheet, and where in the text each of its tokens stands: an answer that names a token is then told with its line."""
     writer = Writer(limits)
     for name in sheet.names:
         writer.id(name)
@@ -29,7 +34,7 @@ def encode(sheet, limits=INPUT):
     if circle is not None:
         name = sheet.types[circle].name
         raise TextError(name.at, 'type `%s` reaches itself; a type is built from others only' % name)
-    return writer.bytes()
+    return writer.bytes(), writer.places
 
 
 def used_names(sheet):
@@ -45,7 +50,7 @@ class Writer:
     def __init__(self, limits):
         self.limits = limits
         self.ids, self.letters = {}, 0
-        self.tags, self.values = [], []
+        self.tags, self.values, self.places = [], [], []
 
     def bytes(self):
         """The bytes of what was written."""
@@ -65,6 +70,7 @@ class Writer:
         self.within(len(self.tags) + 1, 'tokens', at, 'tokens in a sheet', 'shorten the sequence or split it into two sheets')
         self.tags.append(tag)
         self.values.append(value)
+        self.places.append(at)
 
     def id(self, name):
         """The id of a name, which joins the table at its first use."""

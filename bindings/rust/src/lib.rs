@@ -3,8 +3,8 @@
 //! A sheet is a list of nodes as bytes. Every function takes any bytes. Where it is done it answers how many bytes it wrote to the front
 //! of `out`; else a [`Refusal`], and no byte of `out` is written then.
 //!
-//! Nothing is allocated and nothing is kept between calls. A call on a usual sheet takes about 1 MB of stack, [`listings`] 2 MB; a sheet
-//! can ask for more, up to [`STACK_BYTES`]. A thread that is handed sheets of others needs so much: Rust gives a thread 2 MB unless
+//! Nothing is allocated and nothing is kept between calls. What a call takes of the stack is in `include/declock.h`; [`STACK_BYTES`] are
+//! enough for any. A thread that is handed sheets of others needs so much, as Rust gives a thread unless
 //! [`std::thread::Builder::stack_size`](https://doc.rust-lang.org/std/thread/struct.Builder.html#method.stack_size) says otherwise.
 #![deny(missing_docs)]
 #![no_std]
@@ -25,8 +25,8 @@ pub const TEXT_BYTES: usize = 1_024;
 /// Entries that are enough for the faults of any sheet: a sheet has at most so many nodes.
 pub const FAULTS: usize = 16;
 
-/// Stack that is enough for any call, in bytes.
-pub const STACK_BYTES: usize = 4 * 1024 * 1024;
+/// Stack that is enough for any call, in bytes: `DECLOCK_STACK_BYTES` of `include/declock.h`.
+pub const STACK_BYTES: usize = 2 * 1024 * 1024;
 
 /// A fault of a node.
 #[repr(C)]

@@ -1,2 +1,2 @@
--- What the words of a command line say, and the lines that tell a refusal.
+-- What the words of a command line say.
 pub mod Words

@@ -26,7 +26,7 @@ use Rattle.layout.specs.Spans.{pastIn, kindIn, kindOr, Spanned, Spans}
 use Rattle.layout.specs.Laid.{Places}
 use Rattle.layout.proofs.Laws.{nowhere, laid, spanned-by}
 use Rattle.callees.specs.declared.Callee.{Callee}
-use Rattle.callees.specs.Callees.{firstNamed, operatorIn, isThere, Standing, Called}
+use Rattle.callees.specs.Callees.{firstNamed, operatorIn, isThere, NodesStand, OutputsStand}
 
 -- ---- lists
 get-at : (l : List Node) (i : ℕ) → i < length l → getElem? l i ≡ some (getD l i nowhere)
@@ -66,8 +66,8 @@ module _ (f : ℕ) (l : List Node) (n : ℕ) (k : length l ≡ n) where
   unfolding operatorOutputs
   node-called i e h = rw (find-at (λ (m : Node). eqb (m .name) f) l ∙ (ap (getElem? l) (sym e) ∙ get-at l i (omega arith)), operatorOutputs)
 
-pub none-called : (M : ℕ) (ts : List TagValue) (f : ℕ) (l : List Node) (n : ℕ) → length l ≡ n → (i : ℕ) → i ≡ firstNamed f l → n ≤ i → Called M ts (operatorOutputs l f) Callee.Other
-unfolding Called
+pub none-called : (M : ℕ) (ts : List TagValue) (f : ℕ) (l : List Node) (n : ℕ) → length l ≡ n → (i : ℕ) → i ≡ firstNamed f l → n ≤ i → OutputsStand M ts (operatorOutputs l f) Callee.Other
+unfolding OutputsStand
 none-called M ts f l n k i e h = rw (nothing-called f l n k i e h) tt
 
 -- ---- the kind that a value says
@@ -88,7 +88,7 @@ module _ (M : ℕ) (gs vs : List ℕ) (same : length vs ≡ length gs) where
       let l = laid gs vs same M p _ _ refl refl _ _ _ _ _ (spanned-by gs vs same (declaration M) _) (spanned-by gs vs same (declaration M) _) (spanned-by gs vs same (declaration M) _) (spanned-by gs vs same (equation M) _) (spanned-by gs vs same (probe M) _) _ _ _ refl refl refl n q g in
       (l .named, l .kinded, λ a b i o ea eb ei eo. laid gs vs same M p a b ea eb i o _ _ _ ei eo (spanned-by gs vs same (declaration M) _) (spanned-by gs vs same (equation M) _) (spanned-by gs vs same (probe M) _) _ _ _ refl refl refl n q g .outputs)
 
-  module _ (places : List ℕ) (n : ℕ) (l : List Node) (s : Standing M gs vs places n l) (i : ℕ) (h : i < n) where
+  module _ (places : List ℕ) (n : ℕ) (l : List Node) (s : NodesStand M gs vs places n l) (i : ℕ) (h : i < n) where
     at-place : (getD vs (getD places i 0) 0 ≡ getD l i nowhere .name) × (kindIn (getD vs (pastIn (length gs) (getD places i 0)) 0) ≡ getD l i nowhere .kind)
         × ((a b : ℕ) (s o : Span) → a ≡ pastIn (length gs) (getD places i 0) → b ≡ pastIn (length gs) a → Spanned (declaration M) gs vs b s → Spanned (declaration M) gs vs (s .end) o → Spans (declaration M) (tokens gs vs) (getD l i nowhere .outputs) o)
     at-place = let a = s .each .stands i (getD l i nowhere) (get-at l i (omega (arith, s .count))) in node-says (getD places i 0) (getD l i nowhere) (a .0) (a .1)
@@ -107,10 +107,10 @@ module _ (M : ℕ) (gs vs : List ℕ) (same : length vs ≡ length gs) where
           go true j = j
           go false j = j
 
-      pub other-called : operatorIn v ≡ false → Called M (tokens gs vs) (operatorOutputs l f) Callee.Other
-      unfolding Called
+      pub other-called : operatorIn v ≡ false → OutputsStand M (tokens gs vs) (operatorOutputs l f) Callee.Other
+      unfolding OutputsStand
       other-called j = rw (outputs-are, j) tt
 
-      pub operator-called : operatorIn v ≡ true → (a b : ℕ) (s o : Span) → a ≡ pastIn (length gs) (getD places i 0) → b ≡ pastIn (length gs) a → Spanned (declaration M) gs vs b s → Spanned (declaration M) gs vs (s .end) o → Called M (tokens gs vs) (operatorOutputs l f) (Callee.Operator (o .at) (o .count))
-      unfolding Called
+      pub operator-called : operatorIn v ≡ true → (a b : ℕ) (s o : Span) → a ≡ pastIn (length gs) (getD places i 0) → b ≡ pastIn (length gs) a → Spanned (declaration M) gs vs b s → Spanned (declaration M) gs vs (s .end) o → OutputsStand M (tokens gs vs) (operatorOutputs l f) (Callee.Operator (o .at) (o .count))
+      unfolding OutputsStand
       operator-called j a b s o ea eb ei eo = rw (outputs-are, j) (_, at-place .2 a b s o ea eb ei eo .items)

@@ -31,13 +31,13 @@ isThere none = false
 isThere (some a) = true
 
 -- the nodes l, so many, are read at these places
-pub record Standing (M : ℕ) (gs vs places : List ℕ) (n : ℕ) (l : List Node) : Type 0 where
+pub record NodesStand (M : ℕ) (gs vs places : List ℕ) (n : ℕ) (l : List Node) : Type 0 where
   pub count : length l ≡ n
   pub each : Places (node M) (tokens gs vs) places l
 
 -- an operator's outputs stand where the answer says; anything else has none
-unfoldable pub Called : ℕ → List TagValue → Option (List Declared) → Callee → Type 0
-Called M ts none (Callee.Operator p k) = ⊥
-Called M ts none Callee.Other = Unit {0}
-Called M ts (some ds) (Callee.Operator p k) = (q : ℕ) × (times k (declaration M) ts p ≡ got ds q)
-Called M ts (some ds) Callee.Other = ⊥
+unfoldable pub OutputsStand : ℕ → List TagValue → Option (List Declared) → Callee → Type 0
+OutputsStand M ts none (Callee.Operator p k) = ⊥
+OutputsStand M ts none Callee.Other = Unit {0}
+OutputsStand M ts (some ds) (Callee.Operator p k) = (q : ℕ) × (times k (declaration M) ts p ≡ got ds q)
+OutputsStand M ts (some ds) Callee.Other = ⊥

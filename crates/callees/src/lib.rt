@@ -1,5 +1,6 @@
 // What a called name is in an accepted sheet: whether it is an operator, and where that operator's outputs stand.
 // `places` has the places of the sheet's nodes, `nodes` is how many there are; `names` is the number of names.
+use definitions::MOST_NODES;
 use definitions::NodeKind;
 use tokens::FoundKind;
 ghost use mathlib.Core.Path.{_≡_};
@@ -9,7 +10,7 @@ ghost use lib.ListN.{length, getD};
 ghost use Rattle.definitions.specs.Bytes.{tokens};
 ghost use Rattle.definitions.specs.Tree.{Node};
 ghost use Rattle.definitions.specs.Declock.{operatorOutputs};
-ghost use Rattle.callees.specs.Callees.{firstNamed, operatorIn, Standing, isThere, Called};
+ghost use Rattle.callees.specs.Callees.{firstNamed, operatorIn, NodesStand, isThere, OutputsStand};
 
 // What is called: an operator, with the place of its first output and how many it has; or anything else.
 pub enum Callee {
@@ -18,17 +19,17 @@ pub enum Callee {
 }
 
 // The number of the first node of a name; `nodes`, where there is none.
-pub fn node_named(
+fn node_named(
     tags: &[u8],
     values: &[u32],
     names: u32,
-    places: &[usize; 16],
+    places: &[usize; MOST_NODES],
     nodes: usize,
     f: u32,
 ) -> usize
     requires { ⌜ length (now values) ≡ length (now tags) ⌝ }
     requires { ⌜ nodes ≤ 16 ⌝ }
-    ensures { λ r. ⌜ ((l : List Node) → Standing names (now (tags .entry)) (now (values .entry)) (now (places .entry)) nodes l → r ≡ firstNamed f l) ⌝ }
+    ensures { λ r. ⌜ ((l : List Node) → NodesStand names (now (tags .entry)) (now (values .entry)) (now (places .entry)) nodes l → r ≡ firstNamed f l) ⌝ }
 {
     let mut i: usize = 0;
     while i < nodes {
@@ -60,13 +61,13 @@ pub fn is_operator(
     tags: &[u8],
     values: &[u32],
     names: u32,
-    places: &[usize; 16],
+    places: &[usize; MOST_NODES],
     nodes: usize,
     f: u32,
 ) -> bool
     requires { ⌜ length (now values) ≡ length (now tags) ⌝ }
     requires { ⌜ nodes ≤ 16 ⌝ }
-    ensures { λ r. ⌜ ((l : List Node) → Standing names (now (tags .entry)) (now (values .entry)) (now (places .entry)) nodes l → r ≡ isThere (operatorOutputs l f)) ⌝ }
+    ensures { λ r. ⌜ ((l : List Node) → NodesStand names (now (tags .entry)) (now (values .entry)) (now (places .entry)) nodes l → r ≡ isThere (operatorOutputs l f)) ⌝ }
 {
     let i = node_named(tags, values, names, places, nodes, f);
     if nodes <= i {
@@ -82,13 +83,13 @@ pub fn operator_of(
     tags: &[u8],
     values: &[u32],
     names: u32,
-    places: &[usize; 16],
+    places: &[usize; MOST_NODES],
     nodes: usize,
     f: u32,
 ) -> Callee
     requires { ⌜ length (now values) ≡ length (now tags) ⌝ }
     requires { ⌜ nodes ≤ 16 ⌝ }
-    ensures { λ r. ⌜ ((l : List Node) → Standing names (now (tags .entry)) (now (values .entry)) (now (places .entry)) nodes l → Called names (tokens (now (tags .entry)) (now (values .entry))) (operatorOutputs l f) r) ⌝ }
+    ensures { λ r. ⌜ ((l : List Node) → NodesStand names (now (tags .entry)) (now (values .entry)) (now (places .entry)) nodes l → OutputsStand names (tokens (now (tags .entry)) (now (values .entry))) (operatorOutputs l f) r) ⌝ }
 {
     let i = node_named(tags, values, names, places, nodes, f);
     if nodes <= i {

@@ -16,16 +16,16 @@ use Rattle.definitions.specs.Bytes.{tokens}
 use Rattle.definitions.specs.Tokens.{TagValue}
 use Rattle.definitions.specs.Tree.{Head, Expr, Exprs}
 use Rattle.definitions.specs.Reading.{got}
-use Rattle.definitions.specs.Clock.{Clock, base, _/_, depth, deepest, parent, isOn, isNot, sameClock, endsIn}
+use Rattle.definitions.specs.Clock.{Clock, base, _↓_, depth, deepest, parent, isOn, isNot, sameClock, endsIn}
 use Rattle.definitions.specs.InferClocks as rules
-use Rattle.definitions.specs.InferClocks.{Clocks, clockOf, deep, formed, _or_, conditionOver, natural, Fault, usedElsewhere, whenElsewhere, clockNameElsewhere, Finding, found, site, tooDeep, oneDown, onNatural, mustBeOn, check, checks}
+use Rattle.definitions.specs.InferClocks.{Clocks, clockOf, deep, formed, conditionOver, natural, Fault, usedElsewhere, whenElsewhere, clockNameElsewhere, Finding, found, site, tooDeep, oneDown, onNatural, mustBeOn, check, checks}
 use Rattle.clock.specs.declared.Presence.{Presence}
 use Rattle.clock.specs.declared.Natural.{Natural}
 use Rattle.clock.specs.Value.{valueOf, naturalAt, naturalOf}
 use Rattle.flat.specs.Flat.{clockIn}
 use Rattle.environment.specs.Environment.{envAt, Agrees}
 use Rattle.environment.proofs.Laws.{env-none, env-some}
-use Rattle.findings.specs.Findings.{Holds}
+use Rattle.findings.specs.Findings.{FindingsHeld}
 use Rattle.operands.specs.declared.Gap.{Gap}
 use Rattle.operands.specs.declared.Leaf.{Leaf}
 use Rattle.operands.specs.declared.Role.{Role}
@@ -34,21 +34,20 @@ use Rattle.operands.specs.Role.{roleOfHead, roleOfExpr, operandsOf, one, two}
 use Rattle.operands.specs.Spread.{tree, later, spread, operandAt, restAt}
 use Rattle.operands.proofs.Apart.{Apart, apart, spread-end}
 use Rattle.operands.proofs.Laws.{spread-nil}
-use Rattle.operands.proofs.Leaves.{Says, leaf-says, IsConstant}
+use Rattle.operands.proofs.Leaves.{leaf-says, IsConstant}
 use Rattle.operands.proofs.Roles.{Among}
-use Rattle.natural.specs.Natural.{firstOf}
 use Rattle.natural.proofs.Low.{Low, role-low}
-use Rattle.checking.specs.declared.Walked.{Walked}
-use Rattle.checking.specs.Walk.{isElsewhere, Plain, Known, entering, Checked}
+use Rattle.checking.specs.declared.CheckedTo.{CheckedTo}
+use Rattle.checking.specs.Walk.{isElsewhere, NotSampling, Known, entering, Checked}
 
 -- ---- tables and lists
-pub holds-nil : (t : List ℕ) (n : ℕ) (fs l : List Finding) → l ≡ [] → Holds t n fs → Holds t n (fs ++ l)
+pub holds-nil : (t : List ℕ) (n : ℕ) (fs l : List Finding) → l ≡ [] → FindingsHeld t n fs → FindingsHeld t n (fs ++ l)
 holds-nil t n fs l e h = rw (e, append-nil fs) h
 
-pub holds-by : (t : List ℕ) (n : ℕ) (fs k l : List Finding) → k ≡ l → Holds t n (fs ++ k) → Holds t n (fs ++ l)
+pub holds-by : (t : List ℕ) (n : ℕ) (fs k l : List Finding) → k ≡ l → FindingsHeld t n (fs ++ k) → FindingsHeld t n (fs ++ l)
 holds-by t n fs k l e h = rw e at h
 
-pub checked-by : (t : List ℕ) (r : Walked) (q : ℕ) (k l : List Finding) → k ≡ l → Checked t r q k → Checked t r q l
+pub checked-by : (t : List ℕ) (r : CheckedTo) (q : ℕ) (k l : List Finding) → k ≡ l → Checked t r q k → Checked t r q l
 checked-by t r q k l e h = rw e at h
 
 -- ---- a name's clock, compared in its table
@@ -99,10 +98,10 @@ module _ (env : List ℕ) (x : ℕ) (c : Clock) where
         go none m = refl
         go (some d) m = at (found (record { equation = i; fault = F d c }) ∷ []) (sameClock d c) m
 
-    pub met-other : isElsewhere c (envAt env x) ≡ true → (d e : Clock) → d ≡ clockIn env (17 * x) → e ≡ c → found (record { equation = i; fault = F d e }) ∷ [] ≡ mustBeOn clocks i c x (λ b. F b c)
-    met-other h d e j l =
+    pub met-other : isElsewhere c (envAt env x) ≡ true → (d : Clock) → d ≡ clockIn env (17 * x) → found (record { equation = i; fault = F d c }) ∷ [] ≡ mustBeOn clocks i c x (λ b. F b c)
+    met-other h d j =
         let s : envAt env x ≡ some d = some-there h ∙ ap some (sym j) in
-        ap (λ (a : Clock). found (record { equation = i; fault = F d a }) ∷ []) l ∙ (at (found (record { equation = i; fault = F d c }) ∷ []) (sameClock d c) (ap (isElsewhere c) (sym s) ∙ h) ∙ sym (said-of ∙ ap said s))
+        at (found (record { equation = i; fault = F d c }) ∷ []) (sameClock d c) (ap (isElsewhere c) (sym s) ∙ h) ∙ sym (said-of ∙ ap said s)
       where
         at : (l : List Finding) (b : Bool) → not b ≡ true → l ≡ choose b [] l
         at l true m = absurd (true≢false (sym m))
@@ -112,17 +111,17 @@ module _ (env : List ℕ) (x : ℕ) (c : Clock) where
 module _ (env t t′ : List ℕ) (n r i : ℕ) (c : Clock) (ρ : Role) where
   -- the contract of `enter`
   abbrev Enters : Type 0
-  Enters = (clocks : Clocks) (fs : List Finding) → Plain ρ → Known env clocks ρ → Holds t n fs → Holds t′ r (fs ++ entering clocks i c ρ)
+  Enters = (clocks : Clocks) (fs : List Finding) → NotSampling ρ → Known env clocks ρ → FindingsHeld t n fs → FindingsHeld t′ r (fs ++ entering clocks i c ρ)
 
-  pub enter-name : (x : ℕ) → ρ ≡ Role.Name x → ((clocks : Clocks) (fs : List Finding) → envAt env x ≡ clockOf clocks x → Holds t n fs → Holds t′ r (fs ++ mustBeOn clocks i c x (λ d. usedElsewhere x d c))) → Enters
+  pub enter-name : (x : ℕ) → ρ ≡ Role.Name x → ((clocks : Clocks) (fs : List Finding) → envAt env x ≡ clockOf clocks x → FindingsHeld t n fs → FindingsHeld t′ r (fs ++ mustBeOn clocks i c x (λ d. usedElsewhere x d c))) → Enters
   unfolding entering
   enter-name x e f = rw e (λ clocks fs p k h. f clocks fs k h)
 
-  pub enter-previous : ρ ≡ Role.Previous → ((fs : List Finding) → Holds t n fs → Holds t′ r (fs ++ (site c ∷ []))) → Enters
+  pub enter-previous : ρ ≡ Role.Previous → ((fs : List Finding) → FindingsHeld t n fs → FindingsHeld t′ r (fs ++ (site c ∷ []))) → Enters
   unfolding entering
   enter-previous e f = rw e (λ clocks fs p k h. f fs h)
 
-  pub enter-follow : ρ ≡ Role.Follow → ((fs : List Finding) → Holds t n fs → Holds t′ r (fs ++ (site c ∷ []))) → Enters
+  pub enter-follow : ρ ≡ Role.Follow → ((fs : List Finding) → FindingsHeld t n fs → FindingsHeld t′ r (fs ++ (site c ∷ []))) → Enters
   unfolding entering
   enter-follow e f = rw e (λ clocks fs p k h. f fs h)
 
@@ -130,7 +129,7 @@ module _ (clocks : Clocks) (i : ℕ) (c : Clock) where
   abbrev quiet : List ℕ
   quiet = 0 ∷ 2 ∷ 3 ∷ 6 ∷ 7 ∷ 8 ∷ []
 
-  pub enter-none : (ρ : Role) → Among quiet ρ → Plain ρ → entering clocks i c ρ ≡ []
+  pub enter-none : (ρ : Role) → Among quiet ρ → NotSampling ρ → entering clocks i c ρ ≡ []
   unfolding entering
   enter-none Role.Constant h p = refl
   enter-none (Role.Name x) h p = absurd (miss quiet 1 tt h)
@@ -145,7 +144,7 @@ module _ (clocks : Clocks) (i : ℕ) (c : Clock) where
 abbrev straight : List ℕ
 straight = 0 ∷ 1 ∷ 4 ∷ 5 ∷ 6 ∷ 7 ∷ 8 ∷ []
 
-pub plain-role : (ρ : Role) → Among straight ρ → Plain ρ
+pub plain-role : (ρ : Role) → Among straight ρ → NotSampling ρ
 plain-role Role.Constant h = tt
 plain-role (Role.Name x) h = tt
 plain-role (Role.Sample k) h = absurd (miss straight 2 tt h)
@@ -172,7 +171,7 @@ module _ (clocks : Clocks) (i : ℕ) (c : Clock) where
   op-parts (Head.map f k) es = refl
   op-parts (Head.fold f k) es = refl
 
-  by-parts : (e : Expr) → Plain (roleOfExpr e) → entering clocks i c (roleOfExpr e) ++ checks clocks i c (operandsOf e) ≡ check clocks i c e
+  by-parts : (e : Expr) → NotSampling (roleOfExpr e) → entering clocks i c (roleOfExpr e) ++ checks clocks i c (operandsOf e) ≡ check clocks i c e
   unfolding check entering roleOfExpr operandsOf
   by-parts (Expr.const l w) p = refl
   by-parts (Expr.var x) p = append-nil _
@@ -184,7 +183,7 @@ module _ (clocks : Clocks) (i : ℕ) (c : Clock) where
   by-parts (Expr.merge x a b) p = absurd p
 
   -- the same behind others, by the role that the code found
-  pub whole : (e : Expr) (ρ : Role) (fs : List Finding) → ρ ≡ roleOfExpr e → Plain ρ → (fs ++ entering clocks i c ρ) ++ checks clocks i c (operandsOf e) ≡ fs ++ check clocks i c e
+  pub whole : (e : Expr) (ρ : Role) (fs : List Finding) → ρ ≡ roleOfExpr e → NotSampling ρ → (fs ++ entering clocks i c ρ) ++ checks clocks i c (operandsOf e) ≡ fs ++ check clocks i c e
   whole e ρ fs j p = append-assoc fs _ _ ∙ ap (λ (l : List Finding). fs ++ l) (rw j (by-parts e (rw j at p)))
 
 -- the operands of a when and of a merge
@@ -228,11 +227,11 @@ module _ (M : ℕ) (gs vs : List ℕ) (same : length vs ≡ length gs) (p : ℕ)
   leaf-known env clocks a x s j = known-role env M clocks (tokens gs vs) p e q (Role.Name x) a g (rw (leaf-name x s j .0))
 
 module _ (clocks : Clocks) (i : ℕ) (c : Clock) (e : Expr) (t : List ℕ) (q s m : ℕ) (fs : List Finding) (j : q ≡ s) where
-  pub name-checked : (x : ℕ) → e ≡ Expr.var x → Holds t m (fs ++ mustBeOn clocks i c x (λ d. usedElsewhere x d c)) → Checked t (record { end = s; count = m }) q (fs ++ check clocks i c e)
+  pub name-checked : (x : ℕ) → e ≡ Expr.var x → FindingsHeld t m (fs ++ mustBeOn clocks i c x (λ d. usedElsewhere x d c)) → Checked t (record { end = s; count = m }) q (fs ++ check clocks i c e)
   unfolding check
   name-checked x k h = rw (k, j) (record { end = refl; holds = h })
 
-  pub constant-checked : (l : _) (w : ℕ) → e ≡ Expr.const l w → Holds t m fs → Checked t (record { end = s; count = m }) q (fs ++ check clocks i c e)
+  pub constant-checked : (l : _) (w : ℕ) → e ≡ Expr.const l w → FindingsHeld t m fs → Checked t (record { end = s; count = m }) q (fs ++ check clocks i c e)
   unfolding check
   constant-checked l w k h = rw (k, j, append-nil fs) (record { end = refl; holds = h })
 
@@ -241,22 +240,22 @@ module _ (n : Natural) (f : Clock → List Finding) where
   pub over-free : (c : Clock) → n .presence ≡ Presence.Free → c ≡ base → f c ≡ onNatural (naturalOf n) f
   over-free c e i = ap f i ∙ sym (ap (λ (p : Presence). onNatural (naturalAt p (valueOf (n .clock))) f) e)
 
-  pub over-on : (c : Clock) → n .presence ≡ Presence.On → c ≡ valueOf (n .clock) → f c ≡ onNatural (naturalOf n) f
-  over-on c e i = ap f i ∙ sym (ap (λ (p : Presence). onNatural (naturalAt p (valueOf (n .clock))) f) e)
+  pub over-on : n .presence ≡ Presence.On → f (valueOf (n .clock)) ≡ onNatural (naturalOf n) f
+  over-on e = sym (ap (λ (p : Presence). onNatural (naturalAt p (valueOf (n .clock))) f) e)
 
   pub over-deep : n .presence ≡ Presence.Deep → tooDeep ∷ [] ≡ onNatural (naturalOf n) f
   over-deep e = sym (ap (λ (p : Presence). onNatural (naturalAt p (valueOf (n .clock))) f) e)
 
 -- one condition down
-pub one-down : (n : rules.Natural) (c d : Clock) (k : Condition) (f : Clock → List Finding) → n ≡ conditionOver k (formed (some d)) → d ≡ c → onNatural n f ≡ oneDown c k f
-one-down n c d k f i j = rw (i, j) (go (ltb (depth c) deepest))
+pub one-down : (n : rules.Natural) (c : Clock) (k : Condition) (f : Clock → List Finding) → n ≡ conditionOver k (formed (some c)) → onNatural n f ≡ oneDown c k f
+one-down n c k f i = rw i (go (ltb (depth c) deepest))
   where
-    go : (b : Bool) → onNatural (choose b (formed (some (c / k))) deep) f ≡ elim b [ true ↦ f (c / k) | false ↦ tooDeep ∷ [] ]
+    go : (b : Bool) → onNatural (choose b (formed (some (c ↓ k))) deep) f ≡ elim b [ true ↦ f (c ↓ k) | false ↦ tooDeep ∷ [] ]
     go true = refl
     go false = refl
 
 -- ---- a when
-module _ (clocks : Clocks) (i : ℕ) (c d : Clock) (k : Condition) (e : Expr) (b : Bool) (j : b ≡ endsIn k d) (s : d ≡ c) (fs : List Finding) where
+module _ (clocks : Clocks) (i : ℕ) (c : Clock) (k : Condition) (e : Expr) (b : Bool) (j : b ≡ endsIn k c) (fs : List Finding) where
   -- by whether the condition matches
   abbrev when-by : Bool → List Finding
   when-by true = mustBeOn clocks i (parent c) (k .name) (λ a. clockNameElsewhere (k .name) a (parent c)) ++ check clocks i (parent c) e
@@ -264,7 +263,7 @@ module _ (clocks : Clocks) (i : ℕ) (c d : Clock) (k : Condition) (e : Expr) (b
 
   when-is : check clocks i c (Expr.when k e) ≡ when-by b
   unfolding check
-  when-is = go (endsIn k c) ∙ ap when-by (ap (endsIn k) (sym s) ∙ sym j)
+  when-is = go (endsIn k c) ∙ ap when-by (sym j)
     where
       go : (a : Bool) → _≡_ {A = List Finding} (elim a [
         | true ↦ mustBeOn clocks i (parent c) (k .name) (λ a. clockNameElsewhere (k .name) a (parent c)) ++ check clocks i (parent c) e
@@ -273,21 +272,15 @@ module _ (clocks : Clocks) (i : ℕ) (c d : Clock) (k : Condition) (e : Expr) (b
       go true = refl
       go false = refl
 
-  pub when-match : (u v : Clock) → b ≡ true → u ≡ v → v ≡ parent d → (fs ++ mustBeOn clocks i u (k .name) (λ a. clockNameElsewhere (k .name) a u)) ++ check clocks i u e ≡ fs ++ check clocks i c (Expr.when k e)
-  when-match u v h l m =
+  pub when-match : (u : Clock) → b ≡ true → u ≡ parent c → (fs ++ mustBeOn clocks i u (k .name) (λ a. clockNameElsewhere (k .name) a u)) ++ check clocks i u e ≡ fs ++ check clocks i c (Expr.when k e)
+  when-match u h m =
       append-assoc fs _ _
-      ∙ ap (λ (x : List Finding). fs ++ x) (ap (λ (w : Clock). mustBeOn clocks i w (k .name) (λ a. clockNameElsewhere (k .name) a w) ++ check clocks i w e) (l ∙ (m ∙ ap parent s)) ∙ sym (when-is ∙ ap when-by h))
+      ∙ ap (λ (x : List Finding). fs ++ x) (ap (λ (w : Clock). mustBeOn clocks i w (k .name) (λ a. clockNameElsewhere (k .name) a w) ++ check clocks i w e) m ∙ sym (when-is ∙ ap when-by h))
 
-  or-none : (n : rules.Natural) → n or formed none ≡ n
-  or-none deep = refl
-  or-none (formed none) = refl
-  or-none (formed (some a)) = refl
-
-  pub when-other : (n : rules.Natural) → b ≡ false → n ≡ firstOf clocks false (one e) → (fs ++ (found (record { equation = i; fault = whenElsewhere k d }) ∷ [])) ++ onNatural n (λ a. check clocks i a e) ≡ fs ++ check clocks i c (Expr.when k e)
-  unfolding firstOf
+  pub when-other : (n : rules.Natural) → b ≡ false → n ≡ natural clocks e → (fs ++ (found (record { equation = i; fault = whenElsewhere k c }) ∷ [])) ++ onNatural n (λ a. check clocks i a e) ≡ fs ++ check clocks i c (Expr.when k e)
   when-other n h l =
       append-assoc fs _ _
-      ∙ ap (λ (x : List Finding). fs ++ x) (ap (λ (a : Clock). found (record { equation = i; fault = whenElsewhere k a }) ∷ onNatural n (λ a. check clocks i a e)) s ∙ (ap (λ (m : rules.Natural). found (record { equation = i; fault = whenElsewhere k c }) ∷ onNatural m (λ a. check clocks i a e)) (l ∙ or-none (natural clocks e)) ∙ sym (when-is ∙ ap when-by h)))
+      ∙ ap (λ (x : List Finding). fs ++ x) (ap (λ (m : rules.Natural). found (record { equation = i; fault = whenElsewhere k c }) ∷ onNatural m (λ a. check clocks i a e)) l ∙ sym (when-is ∙ ap when-by h))
 
 -- ---- a merge
 pub merge-whole : (clocks : Clocks) (i : ℕ) (c : Clock) (x : ℕ) (a b : Expr) (fs : List Finding) →
@@ -297,7 +290,7 @@ merge-whole clocks i c x a b fs = append-assoc (fs ++ mustBeOn clocks i c x (λ 
 
 -- ---- places
 -- where the operands behind a walk begin
-pub checked-behind : (t : List ℕ) (w r : Walked) (end q most : ℕ) (g : Gap) (fs : List Finding) → Checked t w end fs → r .end ≡ restAt most g (w .end) → r .count ≡ w .count → restAt most g end ≡ q → Checked t r q fs
+pub checked-behind : (t : List ℕ) (w r : CheckedTo) (end q most : ℕ) (g : Gap) (fs : List Finding) → Checked t w end fs → r .end ≡ restAt most g (w .end) → r .count ≡ w .count → restAt most g end ≡ q → Checked t r q fs
 checked-behind t w r end q most g fs h i j k = record { end = i ∙ (ap (restAt most g) (h .end) ∙ k); holds = rw j (h .holds) }
 
 module _ (M : ℕ) (gs vs : List ℕ) (same : length vs ≡ length gs) where
@@ -333,10 +326,10 @@ pub record Left (M : ℕ) (ts : List TagValue) (clocks : Clocks) (i : ℕ) (c : 
   pub rest : Exprs
   pub here : spread M g n (tree M) ts p ≡ got rest q
   pub met : List Finding
-  pub holds : Holds t m met
+  pub holds : FindingsHeld t m met
   pub same : met ++ checks clocks i c rest ≡ all
 
-pub left-all : (M : ℕ) (ts : List TagValue) (clocks : Clocks) (i : ℕ) (c : Clock) (g : Gap) (n p : ℕ) (t : List ℕ) (m q : ℕ) (es : Exprs) (fs : List Finding) → spread M g n (tree M) ts p ≡ got es q → Holds t m fs → Left M ts clocks i c g n p t m q (fs ++ checks clocks i c es)
+pub left-all : (M : ℕ) (ts : List TagValue) (clocks : Clocks) (i : ℕ) (c : Clock) (g : Gap) (n p : ℕ) (t : List ℕ) (m q : ℕ) (es : Exprs) (fs : List Finding) → spread M g n (tree M) ts p ≡ got es q → FindingsHeld t m fs → Left M ts clocks i c g n p t m q (fs ++ checks clocks i c es)
 left-all M ts clocks i c g n p t m q es fs h k = record { rest = es; here = h; met = fs; holds = k; same = refl }
 
 pub left-none : (M : ℕ) (ts : List TagValue) (clocks : Clocks) (i : ℕ) (c : Clock) (g : Gap) (n p : ℕ) (t : List ℕ) (m q : ℕ) (all : List Finding) → Left M ts clocks i c g n p t m q all → n ≡ 0 → Checked t (record { end = p; count = m }) q all
@@ -348,8 +341,8 @@ left-none M ts clocks i c g n p t m q all h z =
     record { end = sym (a .1); holds = rw s at (h .holds) }
 
 -- the first of them, by what the walk answered
-module _ (M : ℕ) (gs vs : List ℕ) (same : length vs ≡ length gs) (clocks : Clocks) (i : ℕ) (c : Clock) (g : Gap) (n p place : ℕ) (t t′ : List ℕ) (m : ℕ) (w : Walked) (z : n ≡ 0 → ⊥) (j : place ≡ operandAt (length gs) g p)
-    (W : (e : Expr) (q : ℕ) (fs : List Finding) → tree M (tokens gs vs) place ≡ got e q → Holds t m fs → Checked t′ w q (fs ++ check clocks i c e)) (q : ℕ) (all : List Finding) (h : Left M (tokens gs vs) clocks i c g n p t m q all)
+module _ (M : ℕ) (gs vs : List ℕ) (same : length vs ≡ length gs) (clocks : Clocks) (i : ℕ) (c : Clock) (g : Gap) (n p place : ℕ) (t t′ : List ℕ) (m : ℕ) (w : CheckedTo) (z : n ≡ 0 → ⊥) (j : place ≡ operandAt (length gs) g p)
+    (W : (e : Expr) (q : ℕ) (fs : List Finding) → tree M (tokens gs vs) place ≡ got e q → FindingsHeld t m fs → Checked t′ w q (fs ++ check clocks i c e)) (q : ℕ) (all : List Finding) (h : Left M (tokens gs vs) clocks i c g n p t m q all)
     (next : ℕ) (k : next ≡ restAt (length gs) g (w .end)) where
   abbrev split : Apart M gs vs g n p (h .rest) q place
   split = apart M gs vs same g n p (h .rest) q place z j (h .here)

@@ -19,12 +19,12 @@ use Rattle.definitions.specs.Reading.{got, rejected, Reader, times}
 use Rattle.definitions.specs.Grammar.{counted, valueAt, tagged, name, equation, mostLeft}
 use Rattle.definitions.specs.Clock.{Clock}
 use Rattle.definitions.specs.InferClocks.{Clocks, isPort, leftElsewhere, Finding, mustBeOn, check, checkLeft, checkEquation}
-use Rattle.findings.specs.Findings.{Holds}
+use Rattle.findings.specs.Findings.{FindingsHeld}
 use Rattle.grammar.proofs.Laws.{after-got, wrap-got, tokens-length}
 use Rattle.grammar.proofs.Longer.{token-got}
 use Rattle.operands.specs.Spread.{tree}
 use Rattle.operands.proofs.Laws.{token-there}
-use Rattle.checking.specs.declared.Walked.{Walked}
+use Rattle.checking.specs.declared.CheckedTo.{CheckedTo}
 use Rattle.checking.specs.Walk.{Checked}
 
 -- no reading, and one before others
@@ -58,8 +58,8 @@ name-there M gs vs same p x s g =
     go false u h e = let z : _≡_ {A = ℕ} 0 1 = cc in absurd (omega arith)
 
 -- no left name, and one before others
-module _ (clocks : Clocks) (i : ℕ) (node : Node) (c : Clock) (t : List ℕ) (r : Walked) (q : ℕ) (fs : List Finding) (xs : List ℕ) where
-  pub left-none : (p n : ℕ) → xs ≡ [] → q ≡ p → r ≡ record { end = p; count = n } → Holds t n fs → Checked t r q (fs ++ checkLeft clocks i node c xs)
+module _ (clocks : Clocks) (i : ℕ) (node : Node) (c : Clock) (t : List ℕ) (r : CheckedTo) (q : ℕ) (fs : List Finding) (xs : List ℕ) where
+  pub left-none : (p n : ℕ) → xs ≡ [] → q ≡ p → r ≡ record { end = p; count = n } → FindingsHeld t n fs → Checked t r q (fs ++ checkLeft clocks i node c xs)
   unfolding checkLeft
   left-none p n e j k h = rw (e, append-nil fs, j, k) (record { end = refl; holds = h })
 
@@ -96,7 +96,7 @@ equation-none M ts p e q t g h =
     let z : _≡_ {A = ℕ} 0 1 = cc (a .2) in omega arith
 
 -- its left names, then its right side
-pub equation-whole : (node : Node) (clocks : Clocks) (i : ℕ) (c d : Clock) (e : Equation) (t : List ℕ) (r : Walked) (q : ℕ) (fs : List Finding) → d ≡ c
-    → Checked t r q ((fs ++ checkLeft clocks i node d (e .left)) ++ check clocks i d (e .right)) → Checked t r q (fs ++ checkEquation node clocks i (record { clock = c; equation = e }))
+pub equation-whole : (node : Node) (clocks : Clocks) (i : ℕ) (c : Clock) (e : Equation) (t : List ℕ) (r : CheckedTo) (q : ℕ) (fs : List Finding)
+    → Checked t r q ((fs ++ checkLeft clocks i node c (e .left)) ++ check clocks i c (e .right)) → Checked t r q (fs ++ checkEquation node clocks i (record { clock = c; equation = e }))
 unfolding checkEquation
-equation-whole node clocks i c d e t r q fs j h = rw (append-assoc fs (checkLeft clocks i node c (e .left)) (check clocks i c (e .right))) at (rw j at h)
+equation-whole node clocks i c e t r q fs h = rw (append-assoc fs (checkLeft clocks i node c (e .left)) (check clocks i c (e .right))) at h

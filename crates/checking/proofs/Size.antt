@@ -14,7 +14,7 @@ use Rattle.definitions.specs.Tokens.{TagValue}
 use Rattle.definitions.specs.Tree.{Expr, Exprs, Equation, Node}
 use Rattle.definitions.specs.Reading.{got, times}
 use Rattle.definitions.specs.Grammar.{name, equation}
-use Rattle.definitions.specs.Clock.{Clock, base, _/_, depth, deepest, parent, isOn, isNot, sameClock, endsIn}
+use Rattle.definitions.specs.Clock.{Clock, base, _↓_, depth, deepest, parent, isOn, isNot, sameClock, endsIn}
 use Rattle.definitions.specs.InferClocks.{isPort, leftElsewhere, usedElsewhere, clockNameElsewhere, whenElsewhere, Natural, deep, formed, Clocks, clockOf, natural, Fault, Finding, found, tooDeep, oneDown, onNatural, mustBeOn, check, checks, checkLeft, Clocked, checkEquation}
 use Rattle.operands.specs.declared.Gap.{Gap}
 use Rattle.operands.specs.Role.{operandsOf}
@@ -67,8 +67,8 @@ module _ (clocks : Clocks) (i : ℕ) where
   down-few : (c : Clock) (k : Condition) (f : Clock → List Finding) (n : ℕ) → 1 ≤ n → ((d : Clock) → length (f d) ≤ n) → length (oneDown c k f) ≤ n
   down-few c k f n l h = go (ltb (depth c) deepest)
     where
-      go : (b : Bool) → length {A = Finding} (elim b [ true ↦ f (c / k) | false ↦ tooDeep ∷ [] ]) ≤ n
-      go true = h (c / k)
+      go : (b : Bool) → length {A = Finding} (elim b [ true ↦ f (c ↓ k) | false ↦ tooDeep ∷ [] ]) ≤ n
+      go true = h (c ↓ k)
       go false = l
 
   natural-few : (m : Natural) (f : Clock → List Finding) (n : ℕ) → 1 ≤ n → ((d : Clock) → length (f d) ≤ n) → length (onNatural m f) ≤ n

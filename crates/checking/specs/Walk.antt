@@ -1,7 +1,7 @@
 -- Checking in the code's terms: what is met at an expression, before its operands.
 use Prim.Native.Nat.{ℕ, _<_}
 use mathlib.Core.Path.{_≡_}
-use mathlib.Core.List.{List, [], _∷_, _++_}
+use mathlib.Core.List.{List, [], _∷_}
 use mathlib.Core.Bool.{Bool, true, false, not}
 use mathlib.Core.Option.{Option, none, some}
 use lib.Dec.{eqb}
@@ -10,9 +10,9 @@ use Rattle.definitions.specs.Tree.{Node}
 use Rattle.definitions.specs.Clock.{Clock, parent, sameClock, endsIn}
 use Rattle.definitions.specs.InferClocks.{Clocks, clockOf, isPort, usedElsewhere, whenElsewhere, clockNameElsewhere, Finding, found, site, mustBeOn}
 use Rattle.environment.specs.Environment.{envAt}
-use Rattle.findings.specs.Findings.{Holds}
+use Rattle.findings.specs.Findings.{FindingsHeld}
 use Rattle.operands.specs.declared.Role.{Role}
-use Rattle.checking.specs.declared.Walked.{Walked}
+use Rattle.checking.specs.declared.CheckedTo.{CheckedTo}
 
 -- has it a clock other than c?
 abbrev pub isElsewhere : Clock → Option Clock → Bool
@@ -20,16 +20,16 @@ isElsewhere c none = false
 isElsewhere c (some d) = not (sameClock d c)
 
 -- a role that is no when and no merge
-abbrev pub Plain : Role → Type 0
-Plain Role.Constant = Unit
-Plain (Role.Name x) = Unit
-Plain (Role.Sample k) = ⊥
-Plain (Role.Join x) = ⊥
-Plain Role.Previous = Unit
-Plain Role.Follow = Unit
-Plain (Role.Call f) = Unit
-Plain Role.Index = Unit
-Plain Role.Compute = Unit
+abbrev pub NotSampling : Role → Type 0
+NotSampling Role.Constant = Unit
+NotSampling (Role.Name x) = Unit
+NotSampling (Role.Sample k) = ⊥
+NotSampling (Role.Join x) = ⊥
+NotSampling Role.Previous = Unit
+NotSampling Role.Follow = Unit
+NotSampling (Role.Call f) = Unit
+NotSampling Role.Index = Unit
+NotSampling Role.Compute = Unit
 
 -- the table knows the clock of a role's name
 abbrev pub Known : List ℕ → Clocks → Role → Type 0
@@ -63,10 +63,10 @@ module _ (clocks : Clocks) (i : ℕ) where
   entering c Role.Compute = []
 
 -- a walk went to q, and the table holds these findings
-pub record Checked (t : List ℕ) (r : Walked) (q : ℕ) (fs : List Finding) : Type 0 where
+pub record Checked (t : List ℕ) (r : CheckedTo) (q : ℕ) (fs : List Finding) : Type 0 where
   pub end : r .end ≡ q
-  pub holds : Holds t (r .count) fs
+  pub holds : FindingsHeld t (r .count) fs
 
 -- the words of the names below m are 1 where a name is an input or output of this node
-pub record Marks (ports : List ℕ) (m : ℕ) (n : Node) : Type 0 where
+pub record PortMarks (ports : List ℕ) (m : ℕ) (n : Node) : Type 0 where
   pub same : (x : ℕ) → x < m → eqb (getD ports x 0) 1 ≡ isPort n x

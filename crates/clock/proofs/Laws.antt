@@ -13,15 +13,12 @@ use lib.Dec.{eqb}
 use borrow.Author.Tests.{eqb-true, eq-eqb, lt-ltb}
 use Rattle.definitions.specs.declared.Test.{Test}
 use Rattle.definitions.specs.declared.Condition.{Condition}
-use Rattle.definitions.specs.Clock.{Clock, base, _/_, depth, parent, sameTest, sameCondition, sameClock, isBase}
-use Rattle.definitions.specs.InferClocks.{Natural, formed, conditionOver, parentOf}
+use Rattle.definitions.specs.Clock.{Clock, base, _↓_, depth, parent, sameTest, sameCondition, sameClock, isBase}
+use Rattle.definitions.specs.InferClocks.{formed, conditionOver, parentOf}
 use Rattle.clock.specs.declared.Clock as struct
 use Rattle.clock.specs.Value.{at, clockAt, capped, valueOf}
 
--- the smaller of a number and eight
-pub capped-low : (d : ℕ) → d ≤ 8 → capped d ≡ d
-capped-low d h = omega arith
-
+-- the smaller of a number and eight, one less
 pub capped-less : (d r : ℕ) → r ≡ capped d → capped (r - 1) ≡ capped d - 1
 capped-less d r e = rw e (omega arith)
 
@@ -40,7 +37,7 @@ unfolding clockAt
 base-at ks d z = rw z
 
 -- the last condition, over the others
-pub last-at : (ks : List Condition) (d : ℕ) → (d ≡ 0 → ⊥) → clockAt ks d ≡ clockAt ks (d - 1) / at ks (d - 1)
+pub last-at : (ks : List Condition) (d : ℕ) → (d ≡ 0 → ⊥) → clockAt ks d ≡ clockAt ks (d - 1) ↓ at ks (d - 1)
 unfolding clockAt
 last-at ks zero z = absurd (z refl)
 last-at ks (suc d) z = rw (sub-one (suc d))
@@ -55,7 +52,7 @@ clock-set ks (suc d) i k h =
     rw (getD-set-other ks i d k (record { name = 0; test = Test.On }) n, clock-set ks d i k l)
 
 -- a condition set at d is the last of the first d + 1
-pub clock-push : (ks : List Condition) (d : ℕ) (k : Condition) → d < length ks → clockAt (set ks d k) (d + 1) ≡ clockAt ks d / k
+pub clock-push : (ks : List Condition) (d : ℕ) (k : Condition) → d < length ks → clockAt (set ks d k) (d + 1) ≡ clockAt ks d ↓ k
 unfolding clockAt
 clock-push ks d k h =
     let l : d ≤ d = omega arith in
@@ -77,9 +74,9 @@ value-push ks d k n l =
 
 pub other-depth : (c d : Clock) → (depth c ≡ depth d → ⊥) → sameClock c d ≡ false
 other-depth base base h = absurd (h refl)
-other-depth base (d / l) h = refl
-other-depth (c / k) base h = refl
-other-depth (c / k) (d / l) h = rw (other-depth c d (λ e. h (ap suc e))) (&&-false (sameCondition k l))
+other-depth base (d ↓ l) h = refl
+other-depth (c ↓ k) base h = refl
+other-depth (c ↓ k) (d ↓ l) h = rw (other-depth c d (λ e. h (ap suc e))) (&&-false (sameCondition k l))
 
 pub same-test : (s t : Test) → sameTest s t ≡ true → s ≡ t
 same-test Test.On Test.On h = refl
@@ -109,9 +106,9 @@ condition-same k = rw (eq-eqb (k .name) (k .name) refl, test-same (k .test))
 -- clocks that compare the same are the same
 pub same-clock : (c d : Clock) → sameClock c d ≡ true → c ≡ d
 same-clock base base h = refl
-same-clock base (d / l) h = cc
-same-clock (c / k) base h = cc
-same-clock (c / k) (d / l) h =
+same-clock base (d ↓ l) h = cc
+same-clock (c ↓ k) base h = cc
+same-clock (c ↓ k) (d ↓ l) h =
     let b = both (sameCondition k l) (sameClock c d) h in
     let e : c ≡ d = same-clock c d (b .1) in
     let i : k ≡ l = same-condition k l (b .0) in
@@ -119,7 +116,7 @@ same-clock (c / k) (d / l) h =
 
 pub clock-same : (c : Clock) → sameClock c c ≡ true
 clock-same base = refl
-clock-same (c / k) = rw (condition-same k) (clock-same c)
+clock-same (c ↓ k) = rw (condition-same k) (clock-same c)
 
 -- ---- comparing from the last condition down
 module _ (ks ls : List Condition) (i : ℕ) where
@@ -139,8 +136,8 @@ module _ (ks ls : List Condition) (i : ℕ) where
 -- ---- parents
 pub parent-none : (c : Clock) → isBase c ≡ true → parentOf (formed (some c)) ≡ formed none
 parent-none base h = refl
-parent-none (c / k) h = absurd (let n : _≡_ {A = ℕ} 0 1 = cc in omega arith)
+parent-none (c ↓ k) h = absurd (let n : _≡_ {A = ℕ} 0 1 = cc in omega arith)
 
 pub parent-some : (c : Clock) → isBase c ≡ false → parentOf (formed (some c)) ≡ formed (some (parent c))
 parent-some base h = absurd (let n : _≡_ {A = ℕ} 0 1 = cc in omega arith)
-parent-some (c / k) h = refl
+parent-some (c ↓ k) h = refl

@@ -1,12 +1,12 @@
 -- The clock that a struct stands for.
 use Prim.Native.Nat.{ℕ, zero, suc, _-_}
 use mathlib.Core.List.{List}
-use mathlib.Core.Option.{Option, none, some}
+use mathlib.Core.Option.{none, some}
 use lib.ListN.{getD}
 use Rattle.definitions.specs.declared.Test.{Test}
 use Rattle.definitions.specs.declared.Condition.{Condition}
 use Rattle.definitions.specs.Clock as clock
-use Rattle.definitions.specs.Clock.{base, _/_}
+use Rattle.definitions.specs.Clock.{base, _↓_}
 use Rattle.definitions.specs.InferClocks as rules
 use Rattle.definitions.specs.InferClocks.{deep, formed}
 use Rattle.clock.specs.declared.Clock.{Clock}
@@ -20,7 +20,7 @@ at ks i = getD ks i (record { name = 0; test = Test.On })
 -- the clock of the first d conditions
 unfoldable pub clockAt : List Condition → ℕ → clock.Clock
 clockAt ks zero = base
-clockAt ks (suc d) = clockAt ks d / at ks d
+clockAt ks (suc d) = clockAt ks d ↓ at ks d
 
 -- the smaller of a number and eight
 abbrev pub capped : ℕ → ℕ

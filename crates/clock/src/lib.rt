@@ -8,10 +8,13 @@ ghost use Rattle.definitions.specs.Clock.{base, depth, parent, sameTest, sameCo
 ghost use Rattle.definitions.specs.InferClocks.{deep, formed, _or_, conditionOver, parentOf};
 ghost use Rattle.clock.specs.Value.{capped, valueOf, naturalOf};
 
+// The most conditions of a clock.
+pub const DEEPEST: usize = 8;
+
 // The first `depth` conditions, from base outward; a depth past eight counts as eight.
 pub struct Clock {
     pub depth: usize,
-    pub conditions: [Condition; 8],
+    pub conditions: [Condition; DEEPEST],
 }
 
 // Whether there is a clock: none, the one beside, or one of more than eight conditions.
@@ -33,7 +36,7 @@ pub fn depth_of(c: Clock) -> usize
     ensures { λ r. ⌜ r ≤ 8 ⌝ }
 {
     let d = c.depth;
-    if d <= 8 { d } else { 8 }
+    if d <= DEEPEST { d } else { DEEPEST }
 }
 
 pub fn base() -> Clock
@@ -44,7 +47,7 @@ pub fn base() -> Clock
         conditions: [Condition {
             name: 0,
             test: Test::On,
-        }; 8],
+        }; DEEPEST],
     }
 }
 
@@ -70,7 +73,7 @@ pub fn on(c: Clock) -> Natural
 }
 
 // A clock of more than eight conditions.
-pub fn deep() -> Natural
+fn deep() -> Natural
     ensures { λ r. ⌜ naturalOf r ≡ deep ⌝ }
 {
     let b = base();
@@ -104,7 +107,7 @@ pub fn push(c: Clock, k: Condition) -> Natural
     ensures { λ r. ⌜ naturalOf r ≡ conditionOver k (formed (some (valueOf c))) ⌝ }
 {
     let d = c.depth;
-    if d < 8 {
+    if d < DEEPEST {
         let mut out = c;
         out.conditions[d] = k;
         out.depth = d + 1;
@@ -180,7 +183,7 @@ pub fn same_test(a: Test, b: Test) -> bool
 }
 
 // The same name, and on or not alike.
-pub fn same_condition(k: Condition, l: Condition) -> bool
+fn same_condition(k: Condition, l: Condition) -> bool
     ensures { λ r. ⌜ r ≡ sameCondition k l ⌝ }
 {
     if k.name != l.name {

@@ -52,7 +52,7 @@ entries-said l ws e real few =
     ap (λ (n : ℕ). said (over (join (take (n / 3) (map recordWords l))) ws)) long ∙ (ap (λ (t : List (List ℕ)). said (over (join t) ws)) (take-whole 4096 (map recordWords l) most) ∙ said-again l ws e real few)
 
 module _ (b : List ℕ) (lent ws lent′ ws′ : List ℕ) (r : RewriteAnswer) (none : ws ≡ replicate 12288 0) where
-  pub rewrite-said : words.RewriteGiven (rewriteAnswer b (length lent)) lent ws lent′ ws′ r → RewriteSaid (rewriteAnswer b (length lent)) lent lent′ ws′ r
+  pub rewrite-said : words.RewriteInWords (rewriteAnswer b (length lent)) lent ws lent′ ws′ r → RewriteSaid (rewriteAnswer b (length lent)) lent lent′ ws′ r
   rewrite-said g = record { answer = g .answer; bytes = g .bytes; faults = go (rewriteAnswer b (length lent)) refl (g .faults) }
     where
       go : (v : Answer (List ℕ)) → rewriteAnswer b (length lent) ≡ v → ws′ ≡ words.faultWordsAfter v ws → said ws′ ≡ faultsOf v
@@ -65,10 +65,10 @@ words-map k [] = refl
 words-map k (f ∷ fs) = ap (λ (l : List (List ℕ)). faultWords k f ∷ l) (words-map k fs)
 
 module _ (b : List ℕ) (k : ℕ) (es cs ws es′ cs′ ws′ : List ℕ) (r : ClocksAnswer) (none : ws ≡ replicate 12288 0) where
-  pub clocks-said : clock-words.ClocksGiven k (clocksAnswer b k) es cs ws es′ cs′ ws′ r → ClocksSaid k (clocksAnswer b k) es cs es′ cs′ ws′ r
+  pub clocks-said : clock-words.ClocksInWords k (clocksAnswer b k) es cs ws es′ cs′ ws′ r → ClocksSaid k (clocksAnswer b k) es cs es′ cs′ ws′ r
   clocks-said g = record { answer = g .answer; equations = g .equations; chains = g .chains; faults = go (clocksAnswer b k) refl (g .faults) }
     where
-      go : (v : Answer NodeClocks) → clocksAnswer b k ≡ v → ws′ ≡ clock-words.faultsAfter k v ws → said ws′ ≡ clockFaultsOf k v
+      go : (v : Answer NodeClocks) → clocksAnswer b k ≡ v → ws′ ≡ clock-words.clockFaultWordsAfter k v ws → said ws′ ≡ clockFaultsOf k v
       go (accepted q) e f =
           let h = few-clock-faults b k q e in
           let m : length (map (faultRecord k) (q .faults)) ≤ 4096 = omega (arith, h, length-map (q .faults) (faultRecord k)) in

@@ -1,6 +1,8 @@
 // The clock pass: the entry points that lend a list of fault records. Each is proved by a walk of its MIR, by hand; the functions over
 // words that do the work are covered.
+use definitions::FAULT_TABLE;
 use definitions::FaultRecord;
+use definitions::MOST_NODES;
 use pass::ClocksAnswer;
 use rewriting::RewriteAnswer;
 ghost use mathlib.Core.Path.{_≡_};
@@ -11,7 +13,7 @@ ghost use Rattle.runs.specs.Demand.{DemandThreeAt};
 ghost use Rattle.clock_pass.specs.Given.{RewriteSaid, RewriteGiven, ClocksSaid, ClocksGiven, blank};
 
 // Rewriting a sheet, with the faults in words that said none.
-fn rewrite_words(sheet: &[u8], out: &mut [u8], words: &mut [u32; 12288]) -> RewriteAnswer
+fn rewrite_words(sheet: &[u8], out: &mut [u8], words: &mut [u32; FAULT_TABLE]) -> RewriteAnswer
     ensures { λ a. ⌜ (now (words .entry) ≡ replicate 12288 0 → RewriteSaid (rewriteAnswer (now (sheet .entry)) (length (now (out .entry)))) (now (out .entry)) (now (out .exit)) (now (words .exit)) a) × ((n : ℕ) → a ≡ RewriteAnswer.Written n → DemandThreeAt (now (sheet .entry)) (take n (now (out .exit)))) ⌝ }
 {
     pass_rewrite::rewrite(sheet, out, words)
@@ -19,7 +21,8 @@ fn rewrite_words(sheet: &[u8], out: &mut [u8], words: &mut [u32; 12288]) -> Rewr
 
 // Rewriting a sheet: the sheet on one base tick over the front of the lent bytes, and how many bytes it has; or the refusal, which
 // writes no byte, and under 10 alone each faulty node's first fault over the front of the lent list. The second clause is demand 3:
-// every run of a rewritten plain node, kept to each name's clock, is a run of the source node.
+// every run of a rewritten plain node, kept to each name's clock, is a run of the source node. A contract fixes one type of values;
+// `demand-three` of crate `runs` says the same of these bytes for every type of values.
 pub fn rewrite(sheet: &[u8], out: &mut [u8], faults: &mut [FaultRecord]) -> RewriteAnswer
     ensures { λ a. ⌜ RewriteGiven (rewriteAnswer (now (sheet .entry)) (length (now (out .entry)))) (now (out .entry)) (now (faults .entry)) (now (out .exit)) (now (faults .exit)) a ⌝ }
     ensures { λ a. ⌜ ((n : ℕ) → a ≡ RewriteAnswer.Written n → DemandThreeAt (now (sheet .entry)) (take n (now (out .exit)))) ⌝ }
@@ -36,7 +39,7 @@ fn clocks_words(
     node: usize,
     equations: &mut [u32],
     chains: &mut [u32],
-    words: &mut [u32; 12288],
+    words: &mut [u32; FAULT_TABLE],
 ) -> ClocksAnswer
     ensures { λ r. ⌜ (now (words .entry) ≡ replicate 12288 0 → ClocksSaid node (clocksAnswer (now (sheet .entry)) node) (now (equations .entry)) (now (chains .entry)) (now (equations .exit)) (now (chains .exit)) (now (words .exit)) r) ⌝ }
 {
@@ -63,10 +66,10 @@ pub fn clocks(
 // The answer of a rewriting, and a list of sixteen fault records, one for each node that a sheet may have.
 pub struct RewriteTold {
     pub answer: RewriteAnswer,
-    pub list: [FaultRecord; 16],
+    pub list: [FaultRecord; MOST_NODES],
 }
 
-fn no_records() -> [FaultRecord; 16]
+fn no_records() -> [FaultRecord; MOST_NODES]
     ensures { λ r. ⌜ r ≡ replicate 16 blank ⌝ }
 {
     let r = FaultRecord {
@@ -74,12 +77,13 @@ fn no_records() -> [FaultRecord; 16]
         fault: 0,
         equation: 0,
     };
-    [r; 16]
+    [r; MOST_NODES]
 }
 
 // Rewriting a sheet with a list of sixteen records, for callers that lend none.
 pub fn rewrite_told(sheet: &[u8], out: &mut [u8]) -> RewriteTold
     ensures { λ t. ⌜ RewriteGiven (rewriteAnswer (now (sheet .entry)) (length (now (out .entry)))) (now (out .entry)) (replicate 16 blank) (now (out .exit)) (t .list) (t .answer) ⌝ }
+    ensures { λ t. ⌜ ((n : ℕ) → t .answer ≡ RewriteAnswer.Written n → DemandThreeAt (now (sheet .entry)) (take n (now (out .exit)))) ⌝ }
 {
     let mut list = no_records();
     let answer = rewrite(sheet, out, &mut list);

@@ -42,7 +42,7 @@ fn show(fd: i32, out: &[u8], n: usize) {
 
 fn refuse(r: Refusal) {
     let mut out = [0u8; 256];
-    let n = arguments::put_reason(&mut out, r);
+    let n = refusals::put_reason(&mut out, r);
     show(STDERR_FILENO, &out, n);
 }
 

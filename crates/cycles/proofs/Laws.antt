@@ -1,7 +1,7 @@
 -- Laws of the names that types end in, of sets of definitions as bytes, and of the first definition that reaches itself.
 -- Assumes nothing.
 use mathlib.Core.Path.{_≡_, refl, sym, _∙_, ap}
-use mathlib.Core.List.{List, [], _∷_, _++_, map, append-assoc}
+use mathlib.Core.List.{List, [], _∷_, _++_, map, append-assoc, append-nil}
 use mathlib.Core.Bool.{Bool, true, false, _||_, _&&_, not}
 use mathlib.Core.Option.{Option, none, some}
 use Prim.Native.Nat.{ℕ, zero, suc, _+_, _-_, _*_, _/_, _%_, _≤_, _<_}
@@ -11,17 +11,19 @@ use lib.ListN.{length, getD, set, drop, replicate, getD-replicate}
 use lib.Seq.{drop-cons, drop-length, getD-set-same, getD-set-other}
 use lib.Dec.{eqb, ltb}
 use borrow.Author.Tests.{eq-eqb, ne-eqb, eqb-true, eqb-false, lt-ltb, le-ltb, ltb-true, ltb-false}
-use Rattle.definitions.specs.Lists.{choose, any, among, keep, find, join, placeBy}
+use Rattle.definitions.specs.Lists.{choose, all, any, among, keep, find, join, placeBy}
 use Rattle.definitions.specs.Tokens.{TagValue}
 use Rattle.definitions.specs.Tree.{Ty, Declared, Body, TypeDef}
 use Rattle.definitions.specs.Reading.{got, times}
-use Rattle.definitions.specs.Grammar.{ty, declaration, typeDef}
+use Rattle.definitions.specs.Grammar.{name, ty, declaration, typeDef}
 use Rattle.definitions.specs.Types.{target, targets, definitionOf, goesOn, oneStep, reached, reachesItself, firstCycle}
+use Rattle.grammar.proofs.Laws.{times-length}
 use Rattle.grammar.proofs.Got.{times-nil}
 use Rattle.typedefs.specs.declared.Defined.{Defined}
-use Rattle.typedefs.specs.Table.{nowhere, defAt, nameAt, isNamed, firstOf, Table, Described}
+use Rattle.typedefs.specs.Table.{nowhere, defAt, nameAt, isNamed, firstOf, Table, Named, Described}
 use Rattle.typedefs.proofs.Laws.{FirstField, find-none, find-some, place-true, place-before}
-use Rattle.cycles.specs.Edges.{bit, Called, Holds, Edges, joined, inside, Settled}
+use Rattle.cycles.specs.declared.Marks.{Marks}
+use Rattle.cycles.specs.Edges.{bit, NamesInSet, isDefined, Marked, ownBody, ownName, MarkedBody, MarkedName, Edges, joined, inside, Acyclic}
 
 -- two truth values that follow from each other
 pub iff : (a b : Bool) → (a ≡ true → b ≡ true) → (b ≡ true → a ≡ true) → a ≡ b
@@ -48,9 +50,9 @@ pub and-false : (a : Bool) → (a && false) ≡ false
 and-false true = refl
 and-false false = refl
 
-append-nil : {A : Type 0} (l : List A) → l ++ [] ≡ l
-append-nil [] = refl
-append-nil (x ∷ l) = ap (λ (m : List _). x ∷ m) (append-nil l)
+and-true : (a : Bool) → (a && true) ≡ a
+and-true true = refl
+and-true false = refl
 
 or-right : (a b : Bool) → b ≡ true → (a || b) ≡ true
 or-right true b e = refl
@@ -106,16 +108,26 @@ among-self [] j h = absurd (omega arith)
 among-self (d ∷ types) zero h = or-left (eqb (d .name) (d .name)) _ (eq-eqb (d .name) (d .name) refl)
 among-self (d ∷ types) (suc j) h = or-right (eqb (nameAt types j) (d .name)) _ (among-self types j (omega arith))
 
--- sets of definitions: those of some names, and of more names
-module _ (types : List TypeDef) (n : ℕ) where
-  pub holds-empty : n ≤ 32 → Holds types n (replicate 32 0) []
-  holds-empty l = record { says = λ j h. getD-replicate 32 j 0 0 (omega arith) }
+-- all
+pub all-append : {A : Type 0} (p : A → Bool) (l m : List A) → all p (l ++ m) ≡ (all p l && all p m)
+all-append p [] m = refl
+all-append p (a ∷ l) m = go (p a) (all-append p l m)
+  where
+    go : (b : Bool) → all p (l ++ m) ≡ (all p l && all p m) → (b && all p (l ++ m)) ≡ ((b && all p l) && all p m)
+    go true e = e
+    go false e = refl
 
-  pub holds-same : (bytes xs ys : List ℕ) → xs ≡ ys → Holds types n bytes xs → Holds types n bytes ys
-  holds-same bytes xs ys e h = record { says = λ j l. h .says j l ∙ ap (λ (zs : List ℕ). bit (among (nameAt types j) zs)) e }
+-- marks: of no name, and of one more
+holds-empty : (types : List TypeDef) (n : ℕ) → n ≤ 32 → NamesInSet types n (replicate 32 0) []
+holds-empty types n l = record { says = λ j h. getD-replicate 32 j 0 0 (omega arith) }
 
-  holds-more : (called bytes more : List ℕ) (x : ℕ) (xs : List ℕ) → Called types n called → Holds types n bytes xs → ((j : ℕ) → j < n → getD more j 0 ≡ choose (eqb (getD called j 0) x) 1 (getD bytes j 0)) → Holds types n more (xs ++ (x ∷ []))
-  holds-more called bytes more x xs c h f = record { says = λ j l. f j l ∙ rw (c .are j l, h .says j l, any-append (eqb (nameAt types j)) xs (x ∷ [])) (pick (eqb (nameAt types j) x) (among (nameAt types j) xs)) }
+pub marked-none : (types : List TypeDef) (n : ℕ) → n ≤ 32 → Marked types n (record { set = replicate 32 0; known = true }) []
+marked-none types n l = record { holds = holds-empty types n l; known = refl }
+
+module _ (vs places : List ℕ) (n : ℕ) (types : List TypeDef) (t : Named vs places n types) (marks : Marks) (xs : List ℕ) (m : Marked types n marks xs) (x : ℕ) (more : List ℕ) (k : ℕ) (first : k ≡ firstOf types x)
+    (f : (j : ℕ) → j < n → getD more j 0 ≡ choose (eqb (getD vs (getD places j 0) 0) x) 1 (getD (marks .set) j 0)) where
+  holds-more : NamesInSet types n more (xs ++ (x ∷ []))
+  holds-more = record { says = λ j l. f j l ∙ rw (t .same j l, m .holds .says j l, any-append (eqb (nameAt types j)) xs (x ∷ [])) (pick (eqb (nameAt types j) x) (among (nameAt types j) xs)) }
     where
       pick : (b a : Bool) → choose b 1 (bit a) ≡ bit (a || (b || false))
       pick true true = refl
@@ -123,44 +135,56 @@ module _ (types : List TypeDef) (n : ℕ) where
       pick false true = refl
       pick false false = refl
 
-  -- the name that a type ends in
-  pub marks-basic : (bytes xs : List ℕ) (t : Ty) (b : _) → t ≡ Ty.primitive b → Holds types n bytes xs → Holds types n bytes (xs ++ target t)
-  unfolding target
-  marks-basic bytes xs t b e h = rw e (holds-same bytes xs (xs ++ []) (sym (append-nil xs)) h)
+  pub marked-unknown : n ≤ k → Marked types n (record { set = more; known = false }) (xs ++ (x ∷ []))
+  marked-unknown h = record { holds = holds-more; known = sym (all-append (isDefined types) xs (x ∷ []) ∙ rw (le-ltb (firstOf types x) (length types) (omega (arith, t .count))) (and-false (all (isDefined types) xs))) }
 
-  pub marks-named : (called bytes more xs : List ℕ) (t : Ty) (x : ℕ) → t ≡ Ty.named x → Called types n called → Holds types n bytes xs → ((j : ℕ) → j < n → getD more j 0 ≡ choose (eqb (getD called j 0) x) 1 (getD bytes j 0)) → Holds types n more (xs ++ target t)
-  unfolding target
-  marks-named called bytes more xs t x e c h f = rw e (holds-more called bytes more x xs c h f)
+  pub marked-known : k < n → Marked types n (record { set = more; known = marks .known }) (xs ++ (x ∷ []))
+  marked-known h = record { holds = holds-more; known = m .known ∙ sym (all-append (isDefined types) xs (x ∷ []) ∙ rw (lt-ltb (firstOf types x) (length types) (omega (arith, t .count))) (and-true (all (isDefined types) xs))) }
 
-  pub marks-array : (more xs : List ℕ) (t b : Ty) (m : ℕ) → t ≡ Ty.array m b → Holds types n more (xs ++ target b) → Holds types n more (xs ++ target t)
+-- what holds of some names, and of those that types go on to besides
+module _ (P : List ℕ → Type 0) (xs : List ℕ) where
+  pub marks-basic : (t : Ty) (b : _) → t ≡ Ty.primitive b → P xs → P (xs ++ target t)
   unfolding target
-  marks-array more xs t b m e h = rw e h
+  marks-basic t b e h = rw (e, append-nil xs) h
+
+  pub marks-named : (t : Ty) (x : ℕ) → t ≡ Ty.named x → P (xs ++ (x ∷ [])) → P (xs ++ target t)
+  unfolding target
+  marks-named t x e h = rw e h
+
+  pub marks-array : (t b : Ty) (m : ℕ) → t ≡ Ty.array m b → P (xs ++ target b) → P (xs ++ target t)
+  unfolding target
+  marks-array t b m e h = rw e h
 
   -- the names that the types of fields end in
   module _ (M : ℕ) (ts : List TagValue) (k p : ℕ) (fs : List Declared) (q : ℕ) where
-    pub marks-no-field : (bytes xs : List ℕ) → k ≡ 0 → times k (declaration M) ts p ≡ got fs q → Holds types n bytes xs → Holds types n bytes (xs ++ join (map (λ f. target (f .type)) fs))
-    marks-no-field bytes xs z g h = let e = times-nil (declaration M) ts k p fs q z g in rw (e .0) (holds-same bytes xs (xs ++ []) (sym (append-nil xs)) h)
+    pub marks-no-field : k ≡ 0 → times k (declaration M) ts p ≡ got fs q → P xs → P (xs ++ join (map (λ f. target (f .type)) fs))
+    marks-no-field z g h = let e = times-nil (declaration M) ts k p fs q z g in rw (e .0, append-nil xs) h
 
-    pub marks-fields : (first : ℕ) (f : FirstField M ts k p first fs q) (more xs : List ℕ) → Holds types n more ((xs ++ target (f .type)) ++ join (map (λ g. target (g .type)) (f .rest))) → Holds types n more (xs ++ join (map (λ g. target (g .type)) fs))
-    marks-fields first f more xs h = rw (f .whole) (holds-same more _ _ (append-assoc xs (target (f .type)) (join (map (λ g. target (g .type)) (f .rest)))) h)
+    pub marks-fields : (first : ℕ) (f : FirstField M ts k p first fs q) → P ((xs ++ target (f .type)) ++ join (map (λ g. target (g .type)) (f .rest))) → P (xs ++ join (map (λ g. target (g .type)) fs))
+    marks-fields first f h = rw (f .whole) (rw (append-assoc xs (target (f .type)) (join (map (λ g. target (g .type)) (f .rest)))) at h)
 
-  -- the names that a definition goes on to
-  module _ (M : ℕ) (ts : List TagValue) (d : TypeDef) (q : ℕ) (D : Defined) (g : Described M ts d q D) (more : List ℕ) where
-    pub marks-enum : (y c p : ℕ) → D ≡ Defined.Enum y c p → Holds types n more [] → Holds types n more (targets (d .body))
-    unfolding Described targets
-    marks-enum y c p e f = let h = rw e at g in rw (h .2) f
+pub nothing-described : (M : ℕ) (ts : List TagValue) (d : TypeDef) (q : ℕ) (D : Defined) → Described M ts d q D → D ≡ Defined.Nothing → ⊥
+unfolding Described
+nothing-described M ts d q D g e = rw e at g
 
-    pub marks-record : (y c p : ℕ) → D ≡ Defined.Record y c p → ((fs : List Declared) (s : ℕ) → times c (declaration M) ts p ≡ got fs s → Holds types n more (join (map (λ f. target (f .type)) fs))) → Holds types n more (targets (d .body))
-    unfolding Described targets
-    marks-record y c p e f = let h = rw e at g in rw (h .2) (f (h .0) q (h .1))
+-- marks of what a definition goes on to
+module _ (types : List TypeDef) (n : ℕ) (M : ℕ) (ts : List TagValue) (d : TypeDef) (q : ℕ) (D : Defined) (g : Described M ts d q D) where
+  pub marks-enum : (y c p : ℕ) → D ≡ Defined.Enum y c p → n ≤ 32 → MarkedBody types n (record { set = replicate 32 0; known = ltb 0 c }) (d .body)
+  unfolding Described targets ownBody
+  marks-enum y c p e l = let h = rw e at g in rw (h .2) (go (h .0) (times-length (name M) ts c p (h .0) q (h .1)))
+    where
+      go : (vs : List ℕ) → length vs ≡ c → MarkedBody types n (record { set = replicate 32 0; known = ltb 0 c }) (Body.enum vs)
+      go [] i = record { holds = holds-empty types n l; own = le-ltb 0 c (omega arith) }
+      go (v ∷ vs) i = record { holds = holds-empty types n l; own = lt-ltb 0 c (omega arith) }
 
-    pub marks-alias : (y p : ℕ) → D ≡ Defined.Alias y p → ((t : Ty) (s : ℕ) → ty M 8 ts p ≡ got t s → Holds types n more (target t)) → Holds types n more (targets (d .body))
-    unfolding Described targets
-    marks-alias y p e f = let h = rw e at g in rw (h .2) (f (h .0) q (h .1))
+  module _ (marks : Marks) where
+    pub marks-record : (y c p : ℕ) → D ≡ Defined.Record y c p → ((fs : List Declared) (s : ℕ) → times c (declaration M) ts p ≡ got fs s → Marked types n marks (join (map (λ f. target (f .type)) fs))) → MarkedBody types n marks (d .body)
+    unfolding Described targets ownBody
+    marks-record y c p e f = let h = rw e at g in let m = f (h .0) q (h .1) in rw (h .2) (record { holds = m .holds; own = m .known })
 
-    pub marks-nothing : D ≡ Defined.Nothing → ⊥
-    unfolding Described
-    marks-nothing e = rw e at g
+    pub marks-alias : (y p : ℕ) → D ≡ Defined.Alias y p → ((t : Ty) (s : ℕ) → ty M 8 ts p ≡ got t s → Marked types n marks (target t)) → MarkedBody types n marks (d .body)
+    unfolding Described targets ownBody
+    marks-alias y p e f = let h = rw e at g in let m = f (h .0) q (h .1) in rw (h .2) (record { holds = m .holds; own = m .known })
 
 -- the names that a name goes on to
 module _ (types : List TypeDef) (x : ℕ) where
@@ -175,13 +199,27 @@ module _ (types : List TypeDef) (x : ℕ) where
   pub first-name : firstOf types x < length types → nameAt types (firstOf types x) ≡ x
   first-name h = eqb-true _ x (place-true (isNamed x) types nowhere h)
 
--- the definitions that a name goes on to, by the definition that is found
-module _ (M : ℕ) (ts : List TagValue) (places : List ℕ) (n : ℕ) (types : List TypeDef) (t : Table M ts places n types) (x k : ℕ) (first : k ≡ firstOf types x) (more : List ℕ) where
-  pub goes-nowhere : n ≤ k → Holds types n more [] → Holds types n more (goesOn types x)
-  goes-nowhere h e = holds-same types n more [] (goesOn types x) (sym (goes-none types x (omega (arith, t .count)))) e
+  pub own-none : length types ≤ firstOf types x → ownName types x ≡ false
+  unfolding ownName definitionOf
+  own-none h = rw (find-none (isNamed x) types h, ownName)
 
-  pub goes-by : k < n → ((d : TypeDef) (q : ℕ) → typeDef M ts (getD places k 0) ≡ got d q → Holds types n more (targets (d .body))) → Holds types n more (goesOn types x)
-  goes-by h f = let s = t .stands k h in holds-same types n more _ (goesOn types x) (sym (goes-some types x k first (omega (arith, t .count)))) (f (defAt types k) (s .0) (s .1))
+  pub own-some : (k : ℕ) → k ≡ firstOf types x → k < length types → ownName types x ≡ ownBody types (defAt types k .body)
+  unfolding ownName definitionOf
+  own-some k e h = rw e (rw (find-some (isNamed x) types nowhere (omega arith), ownName))
+
+-- marks of what a name goes on to, by the definition that is found
+module _ (M : ℕ) (ts : List TagValue) (places : List ℕ) (n : ℕ) (types : List TypeDef) (t : Table M ts places n types) (x y k : ℕ) (same : x ≡ y) (first : k ≡ firstOf types x) where
+  pub goes-nowhere : n ≤ k → n ≤ 32 → MarkedName types n (record { set = replicate 32 0; known = false }) y
+  goes-nowhere h l =
+      let f : k ≡ firstOf types y = rw same at first in
+      record { holds = rw (goes-none types y (omega (arith, t .count))) (holds-empty types n l); own = sym (own-none types y (omega (arith, t .count))) }
+
+  pub goes-by : (marks : Marks) → k < n → ((d : TypeDef) (q : ℕ) → typeDef M ts (getD places k 0) ≡ got d q → MarkedBody types n marks (d .body)) → MarkedName types n marks y
+  goes-by marks h b =
+      let f : k ≡ firstOf types y = rw same at first in
+      let s = t .stands k h in
+      let m = b (defAt types k) (s .0) (s .1) in
+      record { holds = rw (goes-some types y k f (omega (arith, t .count))) (m .holds); own = m .own ∙ sym (own-some types y k f (omega (arith, t .count))) }
 
 -- one more byte of a row, which starts at b
 module _ (go before row : List ℕ) (b j : ℕ) (room : b + j < length go) where
@@ -195,7 +233,7 @@ module _ (go before row : List ℕ) (b j : ℕ) (room : b + j < length go) where
 
 -- a row of the table
 module _ (go after row : List ℕ) (n i : ℕ) (before : (m : ℕ) → m < 32 * i → getD after m 0 ≡ getD go m 0) (written : (j : ℕ) → j < n → getD after (32 * i + j) 0 ≡ getD row j 0) where
-  pub rows-more : (types : List TypeDef) → n ≤ 32 → ((a j : ℕ) → a < i → j < n → getD go (32 * a + j) 0 ≡ bit (among (nameAt types j) (goesOn types (nameAt types a)))) → Holds types n row (goesOn types (nameAt types i)) →
+  pub rows-more : (types : List TypeDef) → n ≤ 32 → ((a j : ℕ) → a < i → j < n → getD go (32 * a + j) 0 ≡ bit (among (nameAt types j) (goesOn types (nameAt types a)))) → NamesInSet types n row (goesOn types (nameAt types i)) →
       (a j : ℕ) → a < i + 1 → j < n → getD after (32 * a + j) 0 ≡ bit (among (nameAt types j) (goesOn types (nameAt types a)))
   rows-more types l f h a j u v = pick (eqb a i) refl
     where
@@ -235,7 +273,7 @@ module _ (s : ℕ) (a b : Bool) (e : b ≡ a) where
   byte-out h t = rw (ne-eqb s 1 h, ← e, t)
 
 -- a step of sets as bytes is a step of sets of names
-module _ (types : List TypeDef) (n : ℕ) (many : length types ≡ n) (go set : List ℕ) (edges : Edges types n go) (xs : List ℕ) (holds : Holds types n set xs) where
+module _ (types : List TypeDef) (n : ℕ) (many : length types ≡ n) (go set : List ℕ) (edges : Edges types n go) (xs : List ℕ) (holds : NamesInSet types n set xs) where
   joined-any : (j m : ℕ) → j < n → m ≤ n → joined go set j m ≡ true → any (λ x. among (nameAt types j) (goesOn types x)) xs ≡ true
   unfolding joined
   joined-any j zero h l e = let z : _≡_ {A = ℕ} 0 1 = cc in absurd (omega arith)
@@ -266,7 +304,7 @@ module _ (types : List TypeDef) (n : ℕ) (many : length types ≡ n) (go set : 
           let w : among (nameAt types j) [] ≡ true = rw (goes-none types x (omega (arith, ltb-false (firstOf types x) n t))) at v in
           let z : _≡_ {A = ℕ} 0 1 = cc in absurd (omega arith)
 
-  pub holds-step : (more : List ℕ) → ((j : ℕ) → j < n → getD more j 0 ≡ bit (eqb (getD set j 0) 1 || joined go set j n)) → Holds types n more (oneStep types xs)
+  pub holds-step : (more : List ℕ) → ((j : ℕ) → j < n → getD more j 0 ≡ bit (eqb (getD set j 0) 1 || joined go set j n)) → NamesInSet types n more (oneStep types xs)
   unfolding oneStep
   holds-step more f = record { says = each }
     where
@@ -325,7 +363,7 @@ module _ (go bytes : List ℕ) (i : ℕ) where
       pick false t = let f = inside-out n j h a (eqb-false _ 1 t) in let z : _≡_ {A = ℕ} 0 1 = cc in absurd (omega arith)
 
 -- from a set that is closed, only its own are reached
-module _ (types : List TypeDef) (n : ℕ) (many : length types ≡ n) (go bytes : List ℕ) (edges : Edges types n go) (settled : Settled types n go bytes) where
+module _ (types : List TypeDef) (n : ℕ) (many : length types ≡ n) (go bytes : List ℕ) (edges : Edges types n go) (settled : Acyclic types n go bytes) where
   abbrev Inside : List ℕ → Type 0
   Inside xs = (j : ℕ) → j < n → among (nameAt types j) xs ≡ true → getD bytes j 0 ≡ 1
 
@@ -375,7 +413,7 @@ module _ (types : List TypeDef) (n : ℕ) (many : length types ≡ n) (go bytes 
         pick true t = let f : j ≡ i = eqb-true j i t in rw f (getD-set-same bytes i 1 0 room)
         pick false t = getD-set-other bytes i j 1 0 (eqb-false j i t) ∙ e
 
-    pub settled-more : Settled types n go (set bytes i 1)
+    pub settled-more : Acyclic types n go (set bytes i 1)
     settled-more = record { closed = λ a l e j u g. grown j (own a l e (eqb a i) refl j u g); acyclic = λ a l e. free a l e (eqb a i) refl }
       where
         before : (a : ℕ) → getD (set bytes i 1) a 0 ≡ 1 → eqb a i ≡ false → getD bytes a 0 ≡ 1
@@ -396,7 +434,7 @@ all-more bytes i f e k h = pick (eqb k i) refl
     pick true t = let g : k ≡ i = eqb-true k i t in rw g e
     pick false t = f k (omega (arith, eqb-false k i t))
 
-pub settled-none : (types : List TypeDef) (n : ℕ) (go : List ℕ) → n ≤ 32 → Settled types n go (replicate 32 0)
+pub settled-none : (types : List TypeDef) (n : ℕ) (go : List ℕ) → n ≤ 32 → Acyclic types n go (replicate 32 0)
 settled-none types n go l = record { closed = λ i h e. absurd (no i h e); acyclic = λ i h e. absurd (no i h e) }
   where
     no : (i : ℕ) → i < n → _≡_ {A = ℕ} (getD (replicate 32 0) i 0) 1 → ⊥

@@ -6,7 +6,7 @@ use grammar::Read;
 use grammar::TypeHead;
 use typedefs::Defined;
 ghost use mathlib.Core.Path.{_≡_};
-ghost use mathlib.Core.List.{List, [], _++_, map};
+ghost use mathlib.Core.List.{List, [], _∷_, _++_, map};
 ghost use mathlib.Core.Bool.{true, _||_};
 ghost use Prim.Native.Nat.{ℕ, _+_, _*_, _≤_, _<_};
 ghost use lib.Dec.{eqb};
@@ -16,98 +16,118 @@ ghost use Rattle.definitions.specs.Lists.{choose, among, join};
 ghost use Rattle.definitions.specs.Tree.{Ty, Declared, TypeDef};
 ghost use Rattle.definitions.specs.Reading.{got, times};
 ghost use Rattle.definitions.specs.Grammar.{ty, declaration, typeDef};
-ghost use Rattle.definitions.specs.Types.{target, targets, goesOn, reached, firstCycle};
+ghost use Rattle.definitions.specs.Types.{target, goesOn, reached, firstCycle};
 ghost use Rattle.typedefs.specs.Table.{Table, Named, nameAt};
-ghost use Rattle.cycles.specs.Edges.{bit, Called, Holds, Edges, joined, inside, Settled};
+ghost use Rattle.cycles.specs.Edges.{bit, Marked, MarkedBody, MarkedName, Edges, Own, joined, inside, Acyclic};
 
-// The names of n definitions.
-pub fn names_of(values: &[u32], places: &[usize; 32], n: usize) -> [u32; 32]
-    requires { ⌜ n ≤ 32 ⌝ }
-    ensures { λ r. ⌜ ((j : ℕ) → j < n → getD r j 0 ≡ getD (now (values .entry)) (getD (now (places .entry)) j 0) 0) ⌝ }
-{
-    let mut called = [0u32; 32];
-    let mut j: usize = 0;
-    while j < n {
-        called[j] = typedefs::value_at(values, places[j]);
-        j += 1;
-    }
-    called
+// A set of definitions, and whether each name that was marked is that of one.
+struct Marks {
+    set: [u8; 32],
+    known: bool,
+}
+
+// The table `go`, and a byte for each definition's name: 1 where it has a default as soon as all that it goes on to have one.
+pub struct Graph {
+    pub go: [u8; 1024],
+    pub own: [u8; 32],
 }
 
 // A byte of a set to which the definitions of a name are added: for one that is called so.
-pub fn marked(called: u32, byte: u8, x: u32) -> u8
+fn marked(called: u32, byte: u8, x: u32) -> u8
     ensures { λ r. ⌜ r ≡ choose (eqb called x) 1 byte ⌝ }
 {
     if called == x { 1 } else { byte }
 }
 
 // A set and the definitions of one more name.
-pub fn mark_name(called: &[u32; 32], n: usize, set: &[u8; 32], x: u32) -> [u8; 32]
+fn mark_name(values: &[u32], places: &[usize; 32], n: usize, set: &[u8; 32], x: u32) -> [u8; 32]
     requires { ⌜ n ≤ 32 ⌝ }
-    ensures { λ r. ⌜ ((j : ℕ) → j < n → getD r j 0 ≡ choose (eqb (getD (now (called .entry)) j 0) x) 1 (getD (now (set .entry)) j 0)) ⌝ }
+    ensures { λ r. ⌜ ((j : ℕ) → j < n → getD r j 0 ≡ choose (eqb (getD (now (values .entry)) (getD (now (places .entry)) j 0) 0) x) 1 (getD (now (set .entry)) j 0)) ⌝ }
 {
     let mut more = [0u8; 32];
     let mut j: usize = 0;
     while j < n {
-        more[j] = marked(called[j], set[j], x);
+        let called = typedefs::value_at(values, places[j]);
+        more[j] = marked(called, set[j], x);
         j += 1;
     }
     more
 }
 
-// A set and the definitions of the name that a type ends in, through its elements.
-pub fn mark_type(
+// Marks and one more name.
+fn add_name(values: &[u32], places: &[usize; 32], n: usize, marks: Marks, x: u32) -> Marks
+    requires { ⌜ n ≤ 32 ⌝ }
+    ensures { λ r. ⌜ ((types : List TypeDef) (xs : List ℕ) → Named (now (values .entry)) (now (places .entry)) n types → Marked types n marks xs → Marked types n r (xs ++ (x ∷ []))) ⌝ }
+{
+    let set = marks.set;
+    let known = marks.known;
+    let more = mark_name(values, places, n, &set, x);
+    let k = typedefs::find_definition(values, places, n, x);
+    if n <= k {
+        return Marks {
+            set: more,
+            known: false,
+        };
+    }
+    Marks {
+        set: more,
+        known: known,
+    }
+}
+
+// Marks and the name that a type ends in, through its elements.
+fn mark_type(
     tags: &[u8],
     values: &[u32],
     names: u32,
-    called: &[u32; 32],
+    places: &[usize; 32],
     n: usize,
-    set: [u8; 32],
+    marks: Marks,
     depth: u32,
     at: usize,
-) -> [u8; 32]
+) -> Marks
     requires { ⌜ length (now values) ≡ length (now tags) ⌝ }
     requires { ⌜ n ≤ 32 ⌝ }
-    ensures { λ r. ⌜ ((types : List TypeDef) (t : Ty) (q : ℕ) (xs : List ℕ) → Called types n (now (called .entry)) → ty names depth (tokens (now (tags .entry)) (now (values .entry))) at ≡ got t q → Holds types n set xs → Holds types n r (xs ++ target t)) ⌝ }
+    ensures { λ r. ⌜ ((types : List TypeDef) (t : Ty) (q : ℕ) (xs : List ℕ) → Named (now (values .entry)) (now (places .entry)) n types → ty names depth (tokens (now (tags .entry)) (now (values .entry))) at ≡ got t q → Marked types n marks xs → Marked types n r (xs ++ target t)) ⌝ }
 {
     let head = grammar::type_head(tags, values, names, at);
     match head {
-        TypeHead::Refused(_) => set,
+        TypeHead::Refused(_) => marks,
         TypeHead::Token(t, next) => match t {
-            TypeToken::Basic(_) => set,
-            TypeToken::Named(x) => mark_name(called, n, &set, x),
+            TypeToken::Basic(_) => marks,
+            TypeToken::Named(x) => add_name(values, places, n, marks, x),
             TypeToken::Array(_) => if depth == 0 {
-                set
+                marks
             } else {
-                mark_type(tags, values, names, called, n, set, depth - 1, next)
+                mark_type(tags, values, names, places, n, marks, depth - 1, next)
             },
         },
     }
 }
 
-// A set and the definitions of the names that the types of so many fields end in.
-pub fn mark_fields(
+// Marks and the names that the types of so many fields end in.
+fn mark_fields(
     tags: &[u8],
     values: &[u32],
     names: u32,
-    called: &[u32; 32],
+    places: &[usize; 32],
     n: usize,
-    set: [u8; 32],
+    marks: Marks,
     left: u32,
     at: usize,
-) -> [u8; 32]
+) -> Marks
     requires { ⌜ length (now values) ≡ length (now tags) ⌝ }
     requires { ⌜ n ≤ 32 ⌝ }
-    ensures { λ r. ⌜ ((types : List TypeDef) (fs : List Declared) (q : ℕ) (xs : List ℕ) → Called types n (now (called .entry)) → times left (declaration names) (tokens (now (tags .entry)) (now (values .entry))) at ≡ got fs q → Holds types n set xs → Holds types n r (xs ++ join (map (λ f. target (f .type)) fs))) ⌝ }
+    ensures { λ r. ⌜ ((types : List TypeDef) (fs : List Declared) (q : ℕ) (xs : List ℕ) → Named (now (values .entry)) (now (places .entry)) n types → times left (declaration names) (tokens (now (tags .entry)) (now (values .entry))) at ≡ got fs q → Marked types n marks xs → Marked types n r (xs ++ join (map (λ f. target (f .type)) fs))) ⌝ }
 {
     if left == 0 {
-        return set;
+        return marks;
     }
     let label = grammar::read_name(tags, values, names, at);
     match label {
-        Read::Refused(_) => set,
+        Read::Refused(_) => marks,
         Read::Next(first) => {
-            let more = mark_type(tags, values, names, called, n, set, 8, first);
+            let more = mark_type(tags, values, names, places, n, marks, 8, first);
             let rest = grammar::read_type(tags, values, names, 8, first);
             match rest {
                 Read::Refused(_) => more,
@@ -115,7 +135,7 @@ pub fn mark_fields(
                     tags,
                     values,
                     names,
-                    called,
+                    places,
                     n,
                     more,
                     left - 1,
@@ -126,61 +146,75 @@ pub fn mark_fields(
     }
 }
 
-// The definitions of the names that a definition goes on to.
-pub fn mark_definition(
-    tags: &[u8],
-    values: &[u32],
-    names: u32,
-    called: &[u32; 32],
-    n: usize,
-    at: usize,
-) -> [u8; 32]
-    requires { ⌜ length (now values) ≡ length (now tags) ⌝ }
-    requires { ⌜ n ≤ 32 ⌝ }
-    ensures { λ r. ⌜ ((types : List TypeDef) (d : TypeDef) (q : ℕ) → Called types n (now (called .entry)) → typeDef names (tokens (now (tags .entry)) (now (values .entry))) at ≡ got d q → Holds types n r (targets (d .body))) ⌝ }
-{
-    let none = [0u8; 32];
-    let found = typedefs::describe(tags, values, names, at);
-    match found {
-        Defined::Enum(_, _, _) => none,
-        Defined::Record(_, count, first) => mark_fields(
-            tags,
-            values,
-            names,
-            called,
-            n,
-            none,
-            count,
-            first,
-        ),
-        Defined::Alias(_, first) => mark_type(tags, values, names, called, n, none, 8, first),
-        Defined::Nothing => none,
-    }
-}
-
-// The definitions that the name of definition i goes on to.
-pub fn goes_on(
+// The definitions of the names that a definition goes on to, and whether it has a default as soon as these have one.
+fn mark_definition(
     tags: &[u8],
     values: &[u32],
     names: u32,
     places: &[usize; 32],
-    called: &[u32; 32],
+    n: usize,
+    at: usize,
+) -> Marks
+    requires { ⌜ length (now values) ≡ length (now tags) ⌝ }
+    requires { ⌜ n ≤ 32 ⌝ }
+    ensures { λ r. ⌜ ((types : List TypeDef) (d : TypeDef) (q : ℕ) → Named (now (values .entry)) (now (places .entry)) n types → typeDef names (tokens (now (tags .entry)) (now (values .entry))) at ≡ got d q → MarkedBody types n r (d .body)) ⌝ }
+{
+    let none = [0u8; 32];
+    let start = Marks {
+        set: none,
+        known: true,
+    };
+    let found = typedefs::describe(tags, values, names, at);
+    match found {
+        Defined::Enum(_, count, _) => {
+            let some = 0 < count;
+            Marks {
+                set: none,
+                known: some,
+            }
+        }
+        Defined::Record(_, count, first) => {
+            mark_fields(tags, values, names, places, n, start, count, first)
+        }
+        Defined::Alias(_, first) => mark_type(tags, values, names, places, n, start, 8, first),
+        Defined::Nothing => start,
+    }
+}
+
+// The same of the name of definition i.
+fn goes_on(
+    tags: &[u8],
+    values: &[u32],
+    names: u32,
+    places: &[usize; 32],
     n: usize,
     i: usize,
-) -> [u8; 32]
+) -> Marks
     requires { ⌜ length (now values) ≡ length (now tags) ⌝ }
     requires { ⌜ (n ≤ 32) × (i < n) ⌝ }
-    ensures { λ r. ⌜ ((types : List TypeDef) → Table names (tokens (now (tags .entry)) (now (values .entry))) (now (places .entry)) n types → Called types n (now (called .entry)) → Holds types n r (goesOn types (nameAt types i))) ⌝ }
+    ensures { λ r. ⌜ ((types : List TypeDef) → Table names (tokens (now (tags .entry)) (now (values .entry))) (now (places .entry)) n types → MarkedName types n r (nameAt types i)) ⌝ }
 {
-    let k = typedefs::find_definition(values, places, n, called[i]);
+    let none = [0u8; 32];
+    let x = typedefs::value_at(values, places[i]);
+    let k = typedefs::find_definition(values, places, n, x);
     if n <= k {
-        return [0u8; 32];
+        return Marks {
+            set: none,
+            known: false,
+        };
     }
-    mark_definition(tags, values, names, called, n, places[k])
+    mark_definition(tags, values, names, places, n, places[k])
+}
+
+// A truth value as a byte.
+fn byte_of(b: bool) -> u8
+    ensures { λ r. ⌜ r ≡ bit b ⌝ }
+{
+    if b { 1 } else { 0 }
 }
 
 // Row i of the table becomes this set of n definitions; the rows before it stay.
-pub fn put_row(go: &mut [u8], set: &[u8; 32], n: usize, i: usize)
+fn put_row(go: &mut [u8], set: &[u8; 32], n: usize, i: usize)
     requires { ⌜ (n ≤ 32) × (32 * i + 32 ≤ length (now go)) ⌝ }
     ensures { λ _. ⌜ length (now (go .exit)) ≡ length (now (go .entry)) ⌝ }
     ensures { λ _. ⌜ ((m : ℕ) → m < 32 * i → getD (now (go .exit)) m 0 ≡ getD (now (go .entry)) m 0) × ((j : ℕ) → j < n → getD (now (go .exit)) (32 * i + j) 0 ≡ getD (now (set .entry)) j 0) ⌝ }
@@ -192,25 +226,29 @@ pub fn put_row(go: &mut [u8], set: &[u8; 32], n: usize, i: usize)
     }
 }
 
-// The table of which definition's name goes on to which.
-pub fn edges(tags: &[u8], values: &[u32], names: u32, places: &[usize; 32], n: usize) -> [u8; 1024]
+// Which definition's name goes on to which, and which have a default as soon as all these have one.
+pub fn edges(tags: &[u8], values: &[u32], names: u32, places: &[usize; 32], n: usize) -> Graph
     requires { ⌜ length (now values) ≡ length (now tags) ⌝ }
     requires { ⌜ n ≤ 32 ⌝ }
-    ensures { λ r. ⌜ ((types : List TypeDef) → Table names (tokens (now (tags .entry)) (now (values .entry))) (now (places .entry)) n types → Edges types n r) ⌝ }
+    ensures { λ r. ⌜ ((types : List TypeDef) → Table names (tokens (now (tags .entry)) (now (values .entry))) (now (places .entry)) n types → Edges types n (r .go)) ⌝ }
+    ensures { λ r. ⌜ ((types : List TypeDef) → Table names (tokens (now (tags .entry)) (now (values .entry))) (now (places .entry)) n types → Own types n (r .own)) ⌝ }
 {
-    let called = names_of(values, places, n);
     let mut go = [0u8; 1024];
+    let mut own = [0u8; 32];
     let mut i: usize = 0;
     while i < n {
-        let set = goes_on(tags, values, names, places, &called, n, i);
+        let marks = goes_on(tags, values, names, places, n, i);
+        let set = marks.set;
+        let known = marks.known;
         put_row(&mut go, &set, n, i);
+        own[i] = byte_of(known);
         i += 1;
     }
-    go
+    Graph { go: go, own: own }
 }
 
 // Does one of the first n of a set go on to j?
-pub fn joins(go: &[u8; 1024], set: &[u8; 32], n: usize, j: usize) -> bool
+fn joins(go: &[u8; 1024], set: &[u8; 32], n: usize, j: usize) -> bool
     requires { ⌜ (n ≤ 32) × (j < 32) ⌝ }
     ensures { λ r. ⌜ r ≡ joined (now (go .entry)) (now (set .entry)) j n ⌝ }
 {
@@ -227,7 +265,7 @@ pub fn joins(go: &[u8; 1024], set: &[u8; 32], n: usize, j: usize) -> bool
 }
 
 // Is j in a set, or does one of the set go on to it? A byte.
-pub fn reached_byte(go: &[u8; 1024], set: &[u8; 32], n: usize, j: usize) -> u8
+fn reached_byte(go: &[u8; 1024], set: &[u8; 32], n: usize, j: usize) -> u8
     requires { ⌜ (n ≤ 32) × (j < 32) ⌝ }
     ensures { λ r. ⌜ r ≡ bit (eqb (getD (now (set .entry)) j 0) 1 || joined (now (go .entry)) (now (set .entry)) j n) ⌝ }
 {
@@ -238,7 +276,7 @@ pub fn reached_byte(go: &[u8; 1024], set: &[u8; 32], n: usize, j: usize) -> u8
 }
 
 // Of n definitions, those in a set, and those that these go on to.
-pub fn step(go: &[u8; 1024], set: &[u8; 32], n: usize) -> [u8; 32]
+fn step(go: &[u8; 1024], set: &[u8; 32], n: usize) -> [u8; 32]
     requires { ⌜ n ≤ 32 ⌝ }
     ensures { λ r. ⌜ ((j : ℕ) → j < n → getD r j 0 ≡ bit (eqb (getD (now (set .entry)) j 0) 1 || joined (now (go .entry)) (now (set .entry)) j n)) ⌝ }
 {
@@ -252,7 +290,7 @@ pub fn step(go: &[u8; 1024], set: &[u8; 32], n: usize) -> [u8; 32]
 }
 
 // The definitions that definition i goes on to.
-pub fn row(go: &[u8; 1024], n: usize, i: usize) -> [u8; 32]
+fn row(go: &[u8; 1024], n: usize, i: usize) -> [u8; 32]
     requires { ⌜ (n ≤ 32) × (i < n) ⌝ }
     ensures { λ r. ⌜ ((j : ℕ) → j < n → getD r j 0 ≡ getD (now (go .entry)) (32 * i + j) 0) ⌝ }
 {
@@ -266,7 +304,7 @@ pub fn row(go: &[u8; 1024], n: usize, i: usize) -> [u8; 32]
 }
 
 // Does definition i reach its own name in as many steps as there are definitions?
-pub fn reaches_itself(go: &[u8; 1024], n: usize, i: usize) -> bool
+fn reaches_itself(go: &[u8; 1024], n: usize, i: usize) -> bool
     requires { ⌜ (n ≤ 32) × (i < n) ⌝ }
     ensures { λ r. ⌜ ((types : List TypeDef) → length types ≡ n → Edges types n (now (go .entry)) → r ≡ among (nameAt types i) (reached types n (goesOn types (nameAt types i)))) ⌝ }
 {
@@ -300,7 +338,7 @@ pub fn within(go: &[u8; 1024], set: &[u8; 32], n: usize, i: usize) -> bool
 // A set, and definition i too if all that it goes on to are in the set.
 fn settle_one(go: &[u8; 1024], set: [u8; 32], n: usize, i: usize) -> [u8; 32]
     requires { ⌜ (n ≤ 32) × (i < n) ⌝ }
-    ensures { λ r. ⌜ ((types : List TypeDef) → length types ≡ n → Edges types n (now (go .entry)) → Settled types n (now (go .entry)) set → Settled types n (now (go .entry)) r) ⌝ }
+    ensures { λ r. ⌜ ((types : List TypeDef) → length types ≡ n → Edges types n (now (go .entry)) → Acyclic types n (now (go .entry)) set → Acyclic types n (now (go .entry)) r) ⌝ }
 {
     let mut more = set;
     if within(go, &set, n, i) {
@@ -312,7 +350,7 @@ fn settle_one(go: &[u8; 1024], set: [u8; 32], n: usize, i: usize) -> [u8; 32]
 // The same of each definition, the last first: mostly a type is defined before those that it is made of.
 fn settle_each(go: &[u8; 1024], set: [u8; 32], n: usize) -> [u8; 32]
     requires { ⌜ n ≤ 32 ⌝ }
-    ensures { λ r. ⌜ ((types : List TypeDef) → length types ≡ n → Edges types n (now (go .entry)) → Settled types n (now (go .entry)) set → Settled types n (now (go .entry)) r) ⌝ }
+    ensures { λ r. ⌜ ((types : List TypeDef) → length types ≡ n → Edges types n (now (go .entry)) → Acyclic types n (now (go .entry)) set → Acyclic types n (now (go .entry)) r) ⌝ }
 {
     let mut more = set;
     let mut i: usize = n;
@@ -358,7 +396,7 @@ fn settles(go: &[u8; 1024], n: usize) -> bool
 }
 
 // The first definition from this table that reaches itself, found definition by definition; n, where none does.
-pub fn search_cycle(values: &[u32], places: &[usize; 32], n: usize, go: &[u8; 1024]) -> usize
+fn search_cycle(values: &[u32], places: &[usize; 32], n: usize, go: &[u8; 1024]) -> usize
     requires { ⌜ n ≤ 32 ⌝ }
     ensures { λ r. ⌜ ((types : List TypeDef) → Named (now (values .entry)) (now (places .entry)) n types → Edges types n (now (go .entry)) → r ≡ firstCycle types [] types) ⌝ }
 {
@@ -382,7 +420,8 @@ pub fn first_cycle(tags: &[u8], values: &[u32], names: u32, places: &[usize; 32]
     requires { ⌜ n ≤ 32 ⌝ }
     ensures { λ r. ⌜ ((types : List TypeDef) → Table names (tokens (now (tags .entry)) (now (values .entry))) (now (places .entry)) n types → r ≡ firstCycle types [] types) ⌝ }
 {
-    let go = edges(tags, values, names, places, n);
+    let graph = edges(tags, values, names, places, n);
+    let go = graph.go;
     if settles(&go, n) {
         return n;
     }

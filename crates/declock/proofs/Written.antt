@@ -25,16 +25,16 @@ use Rattle.openings.specs.declared.Mode.{Mode}
 use Rattle.openings.specs.declared.Sizes.{Sizes}
 use Rattle.openings.specs.Planned.{idsOf}
 use Rattle.openings.specs.Shown.{isTree, told}
-use Rattle.expressions.specs.declared.Walked.{Walked}
+use Rattle.expressions.specs.declared.WrittenTo.{WrittenTo}
 use Rattle.equations.specs.Old.{Shows, FineOld}
-use Rattle.flags.specs.Tabled.{Tabled}
+use Rattle.flags.specs.Tabled.{FlagIds}
 use Rattle.new_names.specs.declared.Locals.{Locals}
 use Rattle.declock.specs.Parts.{frontTokens, bodyTokens}
-use Rattle.declock.specs.Ready.{Ready, needsIn, yieldIn}
+use Rattle.declock.specs.Ready.{NodeReady, needsIn, yieldIn}
 use Rattle.declock.proofs.Laws.{front-written, body-written, node-written, ordered-count, new-count, yield-length, clocked-length, holds-made}
 
 module _ (names : List Letters) {gs vs places typePlaces env flags firsts flagOrder firstOrder : List ℕ} {k : Sizes} {l : Locals} {layout : NodeLayout}
-    (h : Ready names gs vs places typePlaces env flags firsts flagOrder firstOrder k l layout)
+    (h : NodeReady names gs vs places typePlaces env flags firsts flagOrder firstOrder k l layout)
     (flagIds firstIds holdIds : List ℕ) (ids : Ids) (q : ids ≡ idsOf flags firsts flagIds firstIds holdIds k) where
   abbrev node : Node
   node = h .grounds .node
@@ -52,10 +52,10 @@ module _ (names : List Letters) {gs vs places typePlaces env flags firsts flagOr
   abbrev firstly : List Clock
   firstly = inChainOrder (lettersOf names) (w .firsts)
 
-  pub flags-tabled : Tabled flags (k .flags) flagIds (ids .flag)
+  pub flags-tabled : FlagIds flags (k .flags) flagIds (ids .flag)
   flags-tabled = record { room = h .grounds .flags-fit; stands = λ c. ap (λ (i : Ids). i .flag c) q }
 
-  pub firsts-tabled : Tabled firsts (k .firsts) firstIds (ids .first)
+  pub firsts-tabled : FlagIds firsts (k .firsts) firstIds (ids .first)
   firsts-tabled = record { room = h .grounds .firsts-fit; stands = λ c. ap (λ (i : Ids). i .first c) q }
 
   -- as many holds as are needed
@@ -103,7 +103,7 @@ module _ (names : List Letters) {gs vs places typePlaces env flags firsts flagOr
   few-locals = omega (arith, h .few-declared, length-append (node .inputs) (node .outputs ++ node .locals), length-append (node .outputs) (node .locals))
 
   -- what the old equations show of their holds
-  pub holds-shown : (m : Mode) (o : Out) {o′ : Out} {end : ℕ} {r : Walked} → isTree m ≡ false → Shows m ids 0 y end o o′ r → o′ ≡ emits o (told m [] ids 0 (y .holds))
+  pub holds-shown : (m : Mode) (o : Out) {o′ : Out} {end : ℕ} {r : WrittenTo} → isTree m ≡ false → Shows m ids 0 y end o o′ r → o′ ≡ emits o (told m [] ids 0 (y .holds))
   unfolding told
   holds-shown m o f s = s .written ∙ ap (emits o) (untold m f)
     where
@@ -146,7 +146,7 @@ module _ (names : List Letters) {gs vs places typePlaces env flags firsts flagOr
       s
 
   -- the body
-  pub ready-body : (o : Out) {o₁ o₂ o₃ o₄ o₅ : Out} {old total end : ℕ} {r : Walked} → old ≡ length (node .equations) → Counts old total → o₁ ≡ emits o (Token.Count total ∷ [])
+  pub ready-body : (o : Out) {o₁ o₂ o₃ o₄ o₅ : Out} {old total end : ℕ} {r : WrittenTo} → old ≡ length (node .equations) → Counts old total → o₁ ≡ emits o (Token.Count total ∷ [])
       → o₂ ≡ emits o₁ (join (map equationTokens (map localEquation (flagLocals ids (picked (rowOf flags) flagOrder 0 (l .flags))))))
       → o₃ ≡ emits o₂ (join (map equationTokens (map localEquation (firstLocals ids (picked (rowOf firsts) firstOrder 0 (l .firsts))))))
       → o₄ ≡ emits o₃ (told Mode.Equations [] ids 0 (y .holds)) → Shows Mode.Tree ids 0 y end o₄ o₅ r → o₅ ≡ emits o (bodyTokens new (y .value))

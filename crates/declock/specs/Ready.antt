@@ -21,21 +21,21 @@ use Rattle.stateless.specs.Sheets.{withinAll}
 use Rattle.openings.specs.declared.Sizes.{Sizes}
 use Rattle.openings.specs.Planned.{Grounds}
 use Rattle.new_names.specs.declared.Locals.{Locals}
-use Rattle.new_names.specs.Names.{Ordered}
+use Rattle.new_names.specs.Names.{ChainOrdered}
 
 -- the tables have what the node needs: its clocks with flags, each table's rows in chain order, and how many of each there are
 pub record Tables (names : List Letters) (w : Needs) (flags firsts flagOrder firstOrder : List ℕ) (k : Sizes) (l : Locals) : Type 0 where
   pub flagged : clocksIn flags (k .flags) ≡ w .flags
   pub first-flagged : clocksIn firsts (k .firsts) ≡ w .firsts
-  pub flag-order : Ordered (lettersOf names) flags flagOrder (l .flags) (w .flags)
-  pub first-order : Ordered (lettersOf names) firsts firstOrder (l .firsts) (w .firsts)
+  pub flag-order : ChainOrdered (lettersOf names) flags flagOrder (l .flags) (w .flags)
+  pub first-order : ChainOrdered (lettersOf names) firsts firstOrder (l .firsts) (w .firsts)
   pub held : l .holds ≡ w .holds
   pub few-flags : length (w .flags) ≤ 1024
   pub few-firsts : length (w .firsts) ≤ 1024
   pub few-holds : w .holds ≤ 1024
 
 -- the node stands where the layout says and meets no fault, its names' clocks are in env, and its tables are filled
-pub record Ready (names : List Letters) (gs vs places typePlaces env flags firsts flagOrder firstOrder : List ℕ) (k : Sizes) (l : Locals) (layout : NodeLayout) : Type 0 where
+pub record NodeReady (names : List Letters) (gs vs places typePlaces env flags firsts flagOrder firstOrder : List ℕ) (k : Sizes) (l : Locals) (layout : NodeLayout) : Type 0 where
   pub grounds : Grounds gs vs places typePlaces flags firsts k layout
   pub clocks : Clocks
   pub equations : List Clocked
@@ -47,7 +47,7 @@ pub record Ready (names : List Letters) (gs vs places typePlaces env flags first
   pub few-equations : length (grounds .node .equations) ≤ 64
   pub tables : Tables names (oldNeeds (grounds .types) (grounds .nodes) (grounds .node) (k .condact) equations noNeeds) flags firsts flagOrder firstOrder k l
 
-module _ {names : List Letters} {gs vs places typePlaces env flags firsts flagOrder firstOrder : List ℕ} {k : Sizes} {l : Locals} {layout : NodeLayout} (h : Ready names gs vs places typePlaces env flags firsts flagOrder firstOrder k l layout) where
+module _ {names : List Letters} {gs vs places typePlaces env flags firsts flagOrder firstOrder : List ℕ} {k : Sizes} {l : Locals} {layout : NodeLayout} (h : NodeReady names gs vs places typePlaces env flags firsts flagOrder firstOrder k l layout) where
   -- what rewriting it needs
   abbrev pub needsIn : Needs
   needsIn = oldNeeds (h .grounds .types) (h .grounds .nodes) (h .grounds .node) (k .condact) (h .equations) noNeeds

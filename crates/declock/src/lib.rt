@@ -3,7 +3,10 @@
 // definitions; `flags` and `firsts` have the clocks with flags, whose ids are in `flag_ids` and `first_ids`, and whose rows in
 // chain order are in `flag_order` and `first_order`; `hold_ids` has the ids of holds by their numbers, `env` the names' clocks.
 // `otags` and `ovalues` are the output's tokens, of which w are written.
+use definitions::MOST_NAMES;
+use definitions::MOST_NODES;
 use definitions::Token;
+use definitions::WORKING_TOKENS;
 use layout::NodeLayout;
 use new_names::Locals;
 use openings::Mode;
@@ -21,7 +24,7 @@ ghost use Rattle.stateless.specs.Rewritten.{localsBy, nodeBy};
 ghost use Rattle.openings.specs.Planned.{idsOf};
 ghost use Rattle.openings.specs.Shown.{isTree, told};
 ghost use Rattle.declock.specs.Parts.{frontTokens, bodyTokens};
-ghost use Rattle.declock.specs.Ready.{Ready, needsIn, yieldIn};
+ghost use Rattle.declock.specs.Ready.{NodeReady, needsIn, yieldIn};
 
 fn narrow(x: usize) -> u32
     requires { ⌜ x ≤ 65535 ⌝ }
@@ -34,13 +37,13 @@ fn narrow(x: usize) -> u32
 fn count_of(l: Locals, more: u32) -> u32
     ensures { λ r. ⌜ (l .flags ≤ 1024 → l .firsts ≤ 1024 → l .holds ≤ 1024 → more ≤ 1024 → r ≡ l .flags + (l .firsts + l .holds) + more) ⌝ }
 {
-    if 1024 < l.flags {
+    if MOST_NAMES < l.flags {
         return 0;
     }
-    if 1024 < l.firsts {
+    if MOST_NAMES < l.firsts {
         return 0;
     }
-    if 1024 < l.holds {
+    if MOST_NAMES < l.holds {
         return 0;
     }
     if 1024 < more {
@@ -53,7 +56,7 @@ fn count_of(l: Locals, more: u32) -> u32
 fn put_holds(
     tags: &[u8],
     values: &[u32],
-    places: &[usize; 16],
+    places: &[usize; MOST_NODES],
     type_places: &[usize; 32],
     flags: &[u32],
     firsts: &[u32],
@@ -61,8 +64,8 @@ fn put_holds(
     first_ids: &[u32],
     hold_ids: &[u32],
     env: &[u32],
-    otags: &mut [u8; 8192],
-    ovalues: &mut [u32; 8192],
+    otags: &mut [u8; WORKING_TOKENS],
+    ovalues: &mut [u32; WORKING_TOKENS],
     k: Sizes,
     l: Locals,
     layout: NodeLayout,
@@ -71,7 +74,7 @@ fn put_holds(
 ) -> usize
     requires { ⌜ length (now values) ≡ length (now tags) ⌝ }
     requires { ⌜ (k .nodes ≤ 16) × (k .types ≤ 32) ⌝ }
-    ensures { λ r. ⌜ ((names : List Letters) (flagOrder firstOrder : List ℕ) (h : Ready names (now (tags .entry)) (now (values .entry)) (now (places .entry)) (now («type_places» .entry)) (now (env .entry)) (now (flags .entry)) (now (firsts .entry)) flagOrder firstOrder k l layout) (ids : Ids) → ids ≡ idsOf (now (flags .entry)) (now (firsts .entry)) (now («flag_ids» .entry)) (now («first_ids» .entry)) (now («hold_ids» .entry)) k → isTree mode ≡ false → out (now (otags .exit)) (now (ovalues .exit)) r ≡ emits (out (now (otags .entry)) (now (ovalues .entry)) w) (told mode [] ids 0 (yieldIn h ids .holds))) ⌝ }
+    ensures { λ r. ⌜ ((names : List Letters) (flagOrder firstOrder : List ℕ) (h : NodeReady names (now (tags .entry)) (now (values .entry)) (now (places .entry)) (now («type_places» .entry)) (now (env .entry)) (now (flags .entry)) (now (firsts .entry)) flagOrder firstOrder k l layout) (ids : Ids) → ids ≡ idsOf (now (flags .entry)) (now (firsts .entry)) (now («flag_ids» .entry)) (now («first_ids» .entry)) (now («hold_ids» .entry)) k → isTree mode ≡ false → out (now (otags .exit)) (now (ovalues .exit)) r ≡ emits (out (now (otags .entry)) (now (ovalues .entry)) w) (told mode [] ids 0 (yieldIn h ids .holds))) ⌝ }
 {
     if l.holds == 0 {
         return w;
@@ -102,7 +105,7 @@ fn put_holds(
 fn put_declared(
     tags: &[u8],
     values: &[u32],
-    places: &[usize; 16],
+    places: &[usize; MOST_NODES],
     type_places: &[usize; 32],
     flags: &[u32],
     firsts: &[u32],
@@ -112,8 +115,8 @@ fn put_declared(
     first_ids: &[u32],
     hold_ids: &[u32],
     env: &[u32],
-    otags: &mut [u8; 8192],
-    ovalues: &mut [u32; 8192],
+    otags: &mut [u8; WORKING_TOKENS],
+    ovalues: &mut [u32; WORKING_TOKENS],
     k: Sizes,
     l: Locals,
     layout: NodeLayout,
@@ -121,7 +124,7 @@ fn put_declared(
 ) -> usize
     requires { ⌜ length (now values) ≡ length (now tags) ⌝ }
     requires { ⌜ (k .nodes ≤ 16) × (k .types ≤ 32) ⌝ }
-    ensures { λ r. ⌜ ((names : List Letters) (h : Ready names (now (tags .entry)) (now (values .entry)) (now (places .entry)) (now («type_places» .entry)) (now (env .entry)) (now (flags .entry)) (now (firsts .entry)) (now («flag_order» .entry)) (now («first_order» .entry)) k l layout) (ids : Ids) → ids ≡ idsOf (now (flags .entry)) (now (firsts .entry)) (now («flag_ids» .entry)) (now («first_ids» .entry)) (now («hold_ids» .entry)) k → out (now (otags .exit)) (now (ovalues .exit)) r ≡ emits (out (now (otags .entry)) (now (ovalues .entry)) w) (frontTokens (h .grounds .node) (localsBy names ids (needsIn h) (yieldIn h ids .holds)))) ⌝ }
+    ensures { λ r. ⌜ ((names : List Letters) (h : NodeReady names (now (tags .entry)) (now (values .entry)) (now (places .entry)) (now («type_places» .entry)) (now (env .entry)) (now (flags .entry)) (now (firsts .entry)) (now («flag_order» .entry)) (now («first_order» .entry)) k l layout) (ids : Ids) → ids ≡ idsOf (now (flags .entry)) (now (firsts .entry)) (now («flag_ids» .entry)) (now («first_ids» .entry)) (now («hold_ids» .entry)) k → out (now (otags .exit)) (now (ovalues .exit)) r ≡ emits (out (now (otags .entry)) (now (ovalues .entry)) w) (frontTokens (h .grounds .node) (localsBy names ids (needsIn h) (yieldIn h ids .holds)))) ⌝ }
 {
     let more = count_of(l, 0);
     let a = node_parts::put_front(otags, ovalues, w, tags, values, layout);
@@ -157,7 +160,7 @@ fn put_declared(
 fn put_body(
     tags: &[u8],
     values: &[u32],
-    places: &[usize; 16],
+    places: &[usize; MOST_NODES],
     type_places: &[usize; 32],
     flags: &[u32],
     firsts: &[u32],
@@ -167,8 +170,8 @@ fn put_body(
     first_ids: &[u32],
     hold_ids: &[u32],
     env: &[u32],
-    otags: &mut [u8; 8192],
-    ovalues: &mut [u32; 8192],
+    otags: &mut [u8; WORKING_TOKENS],
+    ovalues: &mut [u32; WORKING_TOKENS],
     k: Sizes,
     l: Locals,
     layout: NodeLayout,
@@ -176,7 +179,7 @@ fn put_body(
 ) -> usize
     requires { ⌜ length (now values) ≡ length (now tags) ⌝ }
     requires { ⌜ (k .nodes ≤ 16) × (k .types ≤ 32) ⌝ }
-    ensures { λ r. ⌜ ((names : List Letters) (h : Ready names (now (tags .entry)) (now (values .entry)) (now (places .entry)) (now («type_places» .entry)) (now (env .entry)) (now (flags .entry)) (now (firsts .entry)) (now («flag_order» .entry)) (now («first_order» .entry)) k l layout) (ids : Ids) → ids ≡ idsOf (now (flags .entry)) (now (firsts .entry)) (now («flag_ids» .entry)) (now («first_ids» .entry)) (now («hold_ids» .entry)) k → out (now (otags .exit)) (now (ovalues .exit)) r ≡ emits (out (now (otags .entry)) (now (ovalues .entry)) w) (bodyTokens (localsBy names ids (needsIn h) (yieldIn h ids .holds)) (yieldIn h ids .value))) ⌝ }
+    ensures { λ r. ⌜ ((names : List Letters) (h : NodeReady names (now (tags .entry)) (now (values .entry)) (now (places .entry)) (now («type_places» .entry)) (now (env .entry)) (now (flags .entry)) (now (firsts .entry)) (now («flag_order» .entry)) (now («first_order» .entry)) k l layout) (ids : Ids) → ids ≡ idsOf (now (flags .entry)) (now (firsts .entry)) (now («flag_ids» .entry)) (now («first_ids» .entry)) (now («hold_ids» .entry)) k → out (now (otags .exit)) (now (ovalues .exit)) r ≡ emits (out (now (otags .entry)) (now (ovalues .entry)) w) (bodyTokens (localsBy names ids (needsIn h) (yieldIn h ids .holds)) (yieldIn h ids .value))) ⌝ }
 {
     let s = layout.equations;
     let old = s.count;
@@ -245,7 +248,7 @@ fn put_body(
 pub fn declock_node(
     tags: &[u8],
     values: &[u32],
-    places: &[usize; 16],
+    places: &[usize; MOST_NODES],
     type_places: &[usize; 32],
     flags: &[u32],
     firsts: &[u32],
@@ -255,8 +258,8 @@ pub fn declock_node(
     first_ids: &[u32],
     hold_ids: &[u32],
     env: &[u32],
-    otags: &mut [u8; 8192],
-    ovalues: &mut [u32; 8192],
+    otags: &mut [u8; WORKING_TOKENS],
+    ovalues: &mut [u32; WORKING_TOKENS],
     k: Sizes,
     l: Locals,
     layout: NodeLayout,
@@ -264,7 +267,7 @@ pub fn declock_node(
 ) -> usize
     requires { ⌜ length (now values) ≡ length (now tags) ⌝ }
     requires { ⌜ (k .nodes ≤ 16) × (k .types ≤ 32) ⌝ }
-    ensures { λ r. ⌜ ((names : List Letters) (h : Ready names (now (tags .entry)) (now (values .entry)) (now (places .entry)) (now («type_places» .entry)) (now (env .entry)) (now (flags .entry)) (now (firsts .entry)) (now («flag_order» .entry)) (now («first_order» .entry)) k l layout) (ids : Ids) → ids ≡ idsOf (now (flags .entry)) (now (firsts .entry)) (now («flag_ids» .entry)) (now («first_ids» .entry)) (now («hold_ids» .entry)) k → out (now (otags .exit)) (now (ovalues .exit)) r ≡ emits (out (now (otags .entry)) (now (ovalues .entry)) w) (nodeTokens (nodeBy names ids (h .grounds .node) (needsIn h) (yieldIn h ids)))) ⌝ }
+    ensures { λ r. ⌜ ((names : List Letters) (h : NodeReady names (now (tags .entry)) (now (values .entry)) (now (places .entry)) (now («type_places» .entry)) (now (env .entry)) (now (flags .entry)) (now (firsts .entry)) (now («flag_order» .entry)) (now («first_order» .entry)) k l layout) (ids : Ids) → ids ≡ idsOf (now (flags .entry)) (now (firsts .entry)) (now («flag_ids» .entry)) (now («first_ids» .entry)) (now («hold_ids» .entry)) k → out (now (otags .exit)) (now (ovalues .exit)) r ≡ emits (out (now (otags .entry)) (now (ovalues .entry)) w) (nodeTokens (nodeBy names ids (h .grounds .node) (needsIn h) (yieldIn h ids)))) ⌝ }
 {
     let a = put_declared(
         tags,

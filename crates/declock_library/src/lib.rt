@@ -18,26 +18,6 @@ fn wide(x: u32) -> usize
     x as usize
 }
 
-// How many nodes are faulty, as a refusal says.
-fn faulty_nodes(r: Refusal) -> usize
-    ensures { λ n. ⌜ n ≡ faultCount r ⌝ }
-{
-    match r {
-        Refusal::Short => 0,
-        Refusal::Size(_) => 0,
-        Refusal::Length => 0,
-        Refusal::Name(_) => 0,
-        Refusal::Token(_) => 0,
-        Refusal::Limit(_) => 0,
-        Refusal::Cycle(_) => 0,
-        Refusal::Missing => 0,
-        Refusal::Deep(_) => 0,
-        Refusal::Faulty(n) => n,
-        Refusal::Large => 0,
-        Refusal::Lent(_) => 0,
-    }
-}
-
 // The number of a listing's answer; its place is stored.
 fn tell_listing(a: ListingAnswer, place: &mut usize) -> u32
     ensures { λ n. ⌜ (n ≡ listingNumber a) × (now (place .exit) ≡ listingPlace a) ⌝ }
@@ -48,8 +28,8 @@ fn tell_listing(a: ListingAnswer, place: &mut usize) -> u32
             0
         }
         ListingAnswer::Refused(r) => {
-            *place = sheet::refusal_place(r);
-            sheet::refusal_number(r)
+            *place = refusals::place(r);
+            refusals::number(r)
         }
     }
 }
@@ -65,9 +45,9 @@ fn tell_rewriting(a: RewriteAnswer, place: &mut usize, faulty: &mut usize) -> u3
             0
         }
         RewriteAnswer::Refused(r) => {
-            *place = sheet::refusal_place(r);
-            *faulty = faulty_nodes(r);
-            sheet::refusal_number(r)
+            *place = refusals::place(r);
+            *faulty = refusals::faulty_nodes(r);
+            refusals::number(r)
         }
     }
 }
@@ -87,8 +67,8 @@ fn tell_clocks(a: ClocksAnswer, counts: &mut [usize; 5], place: &mut usize) -> u
             0
         }
         ClocksAnswer::Refused(r) => {
-            *place = sheet::refusal_place(r);
-            sheet::refusal_number(r)
+            *place = refusals::place(r);
+            refusals::number(r)
         }
     }
 }

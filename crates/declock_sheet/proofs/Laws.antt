@@ -25,19 +25,19 @@ use Rattle.grammar.proofs.Got.{node-got}
 use Rattle.environment.specs.Environment.{Agrees}
 use Rattle.spelling.specs.Writing.{overAt}
 use Rattle.fresh.specs.declared.Counts.{Counts}
-use Rattle.fresh.specs.Table.{Holds, namesOf}
+use Rattle.fresh.specs.Table.{NamesHeld, namesOf}
 use Rattle.fresh.proofs.Table.{holds-limits}
 use Rattle.typedefs.specs.Table.{Table}
 use Rattle.layout.specs.declared.NodeLayout.{NodeLayout}
 use Rattle.layout.specs.declared.SheetLayout.{SheetLayout}
-use Rattle.layout.specs.Laid.{Laid, LaidSheet}
+use Rattle.layout.specs.Laid.{LaidNode, LaidSheet}
 use Rattle.rows.specs.Rows.{clocksIn}
 use Rattle.rows.proofs.Laws.{has-all, has-count}
 use Rattle.shapes.proofs.Clockless.{output-as-came}
 use Rattle.infer_clocks.specs.Clocked.{Sole}
 use Rattle.emit.specs.Out.{Out, emits}
 use Rattle.emit.proofs.Laws.{emits-none}
-use Rattle.callees.specs.Callees.{Standing}
+use Rattle.callees.specs.Callees.{NodesStand}
 use Rattle.needs.specs.declared.Counts as needed
 use Rattle.needs.specs.Need.{Needs}
 use Rattle.stateless.specs.Yield.{Ids, oldYield}
@@ -61,8 +61,8 @@ use Rattle.openings.specs.Planned as planned
 use Rattle.node_tables.specs.Filled.{Filled}
 use Rattle.output_names.specs.Faultless.{Faultless}
 use Rattle.output_names.proofs.Laws.{sole-here}
-use Rattle.declock.specs.Ready.{Ready, needsIn, yieldIn}
-use Rattle.declock_sheet.specs.Clocked.{Clocked}
+use Rattle.declock.specs.Ready.{NodeReady, needsIn, yieldIn}
+use Rattle.declock_sheet.specs.Clocked.{FaultlessNode}
 
 -- a node of an accepted sheet has at most 64 equations
 equations-few : (M : ℕ) (ts : List TagValue) (p : ℕ) (n : Node) (q : ℕ) → node M ts p ≡ got n q → length (n .equations) ≤ 64
@@ -76,8 +76,8 @@ abbrev pub withRows : Sizes → ℕ → ℕ → Sizes
 withRows k n m = record { names = k .names; nodes = k .nodes; types = k .types; flags = n; firsts = m; condact = k .condact }
 
 -- ---- a node whose tables are filled
-module _ {starts letters gs vs places typePlaces lens text : List ℕ} {c : Counts} {k : Sizes} {names all : List Letters} {s : Sheet} {n : ClockedNode} (h : Clocked starts letters gs vs places typePlaces lens text c k names all s n)
-    (uses : usesClocks (n .node) ≡ true) (p q : ℕ) (read : node (k .names) (tokens gs vs) p ≡ got (n .node) q) {l : NodeLayout} (laid : Laid (k .names) (tokens gs vs) (n .node) q l)
+module _ {starts letters gs vs places typePlaces lens text : List ℕ} {c : Counts} {k : Sizes} {names all : List Letters} {s : Sheet} {n : ClockedNode} (h : FaultlessNode starts letters gs vs places typePlaces lens text c k names all s n)
+    (uses : usesClocks (n .node) ≡ true) (p q : ℕ) (read : node (k .names) (tokens gs vs) p ≡ got (n .node) q) {l : NodeLayout} (laid : LaidNode (k .names) (tokens gs vs) (n .node) q l)
     {env : List ℕ} (agrees : Agrees env (k .names) (n .clocking .names)) where
   -- what is needed, by the id of `condact` that the code has
   abbrev w : Needs
@@ -114,7 +114,7 @@ module _ {starts letters gs vs places typePlaces lens text : List ℕ} {c : Coun
     few-holds = omega (arith, f .counted .held, f .few .holds)
 
     -- it can be rewritten
-    pub ready : Ready names gs vs places typePlaces env flags firsts flagOrder firstOrder (withRows k (rows .flags) (rows .firsts)) o l
+    pub ready : NodeReady names gs vs places typePlaces env flags firsts flagOrder firstOrder (withRows k (rows .flags) (rows .firsts)) o l
     ready =
         record {
           grounds = record { types = s .types; nodes = s .nodes; node = n .node; end = q; standing = h .standing; table = h .table; laid = laid; flags-fit = flags-fit; firsts-fit = firsts-fit };
@@ -172,7 +172,7 @@ module _ {starts letters gs vs places typePlaces lens text : List ℕ} {c : Coun
 
       -- THE LAW: the node's tokens
       pub filled-written : (o₁ o₂ : Out)
-          → ((names : List Letters) (r : Ready names gs vs places typePlaces env flags firsts flagOrder firstOrder (withRows k (rows .flags) (rows .firsts)) o l) (i : Ids)
+          → ((names : List Letters) (r : NodeReady names gs vs places typePlaces env flags firsts flagOrder firstOrder (withRows k (rows .flags) (rows .firsts)) o l) (i : Ids)
           → i ≡ planned.idsOf flags firsts flagIds firstIds holdIds (withRows k (rows .flags) (rows .firsts)) → o₂ ≡ emits o₁ (nodeTokens (nodeBy names i (r .grounds .node) (needsIn r) (yieldIn r i))))
           → o₂ ≡ emits o₁ (nodeTokens (outputNode names s all n))
       unfolding ready
@@ -209,8 +209,8 @@ module _ {starts letters tags values : List ℕ} {M : ℕ} {bytes : List ℕ} {r
       → ((x : List TypeDef) (q : ℕ) → times m (typeDef M) (tokens tags values) (l .types .at) ≡ got x q → Table M (tokens tags values) typePlaces m x) → Table M (tokens tags values) typePlaces m (r .sheet .types)
   types-stand {l} {typePlaces} {m} laid e h = h (r .sheet .types) (l .types .end) (subst (λ (i : ℕ). times i (typeDef M) (tokens tags values) (l .types .at) ≡ got (r .sheet .types) (l .types .end)) (sym e) (laid .types .items))
 
-  module _ {places typePlaces lens text : List ℕ} {c : Counts} {n m condact : ℕ} (a : length lens ≡ 1024) (b : length text ≡ 16384) (holds : Holds lens text c all) (kept : c .full ≡ false)
-      (stands : Standing M tags values places n (r .sheet .nodes)) (table : Table M (tokens tags values) typePlaces m (r .sheet .types)) (gate : condact ≡ condactId all) (i : ℕ) (u : i < n) where
+  module _ {places typePlaces lens text : List ℕ} {c : Counts} {n m condact : ℕ} (a : length lens ≡ 1024) (b : length text ≡ 16384) (holds : NamesHeld lens text c all) (kept : c .full ≡ false)
+      (stands : NodesStand M tags values places n (r .sheet .nodes)) (table : Table M (tokens tags values) typePlaces m (r .sheet .types)) (gate : condact ≡ condactId all) (i : ℕ) (u : i < n) where
     here : NodeHere (r .sheet .nodes) ns i
     here = node-here (clockings-form 0 (r .sheet .nodes) ns (f .clocked)) i (omega (arith, stands .count))
 
@@ -230,7 +230,7 @@ module _ {starts letters tags values : List ℕ} {M : ℕ} {bytes : List ℕ} {r
         (no-faults r ns (f .faultless) (here .clocked) (here .member) .1 uses) (subst TooMany same h) none-there in
         true≢false (sym (holds-limits none-there a b holds ∙ rw kept) ∙ large)
 
-    clocked-here : Clocked starts letters tags values places typePlaces lens text c sizes (r .names) all (r .sheet) (here .clocked)
+    clocked-here : FaultlessNode starts letters tags values places typePlaces lens text c sizes (r .names) all (r .sheet) (here .clocked)
     clocked-here =
         let clear = no-faults r ns (f .faultless) (here .clocked) (here .member) in
         record {
@@ -250,7 +250,7 @@ module _ {starts letters tags values : List ℕ} {M : ℕ} {bytes : List ℕ} {r
 
     -- one node more
     pub tokens-more : {env env₀ : List ℕ} → Sole env₀ M (r .sheet .nodes) → (n ≤ 1 → env ≡ env₀) → (at : ℕ) → at ≡ getD places i 0 → (o o₁ o₂ : Out)
-        → ((names all : List Letters) (s : Sheet) (n₁ : ClockedNode) (q : ℕ) → Clocked starts letters tags values places typePlaces lens text c sizes names all s n₁ → node M (tokens tags values) at ≡ got (n₁ .node) q → (n ≤ 1 → usesClocks (n₁ .node) ≡ true → Agrees env M (n₁ .clocking .names)) → o₂ ≡ emits o₁ (nodeTokens (outputNode names s all n₁)))
+        → ((names all : List Letters) (s : Sheet) (n₁ : ClockedNode) (q : ℕ) → FaultlessNode starts letters tags values places typePlaces lens text c sizes names all s n₁ → node M (tokens tags values) at ≡ got (n₁ .node) q → (n ≤ 1 → usesClocks (n₁ .node) ≡ true → Agrees env M (n₁ .clocking .names)) → o₂ ≡ emits o₁ (nodeTokens (outputNode names s all n₁)))
         → o₁ ≡ emits o (sofar i) → o₂ ≡ emits o (sofar (i + 1))
     tokens-more sole same at e o o₁ o₂ put before =
         let g : node M (tokens tags values) at ≡ got (here .clocked .node) (read-here .0) = ap (node M (tokens tags values)) e ∙ read-here .1 in

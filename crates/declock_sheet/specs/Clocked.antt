@@ -12,9 +12,9 @@ use Rattle.definitions.specs.InferClocks.{formed, clocking, clockFaults, usesCl
 use Rattle.definitions.specs.Output.{lettersOf, condactId, ClockedNode}
 use Rattle.fresh.specs.declared.Counts.{Counts}
 use Rattle.fresh.specs.Places.{lettersAt}
-use Rattle.fresh.specs.Table.{Holds}
+use Rattle.fresh.specs.Table.{NamesHeld}
 use Rattle.typedefs.specs.Table.{Table}
-use Rattle.callees.specs.Callees.{Standing}
+use Rattle.callees.specs.Callees.{NodesStand}
 use Rattle.stateless.specs.Faults.{oldFault}
 use Rattle.stateless.specs.Whole.{noNeeds, oldNeeds}
 use Rattle.many_names.specs.Many.{TooMany}
@@ -22,13 +22,13 @@ use Rattle.openings.specs.declared.Sizes.{Sizes}
 
 -- the node has its clocks and no fault; its sheet's nodes and types stand where the arrays say; the output's names stand in a table, and
 -- the node does not need too many
-pub record Clocked (starts letters tags values places typePlaces lens text : List ℕ) (c : Counts) (k : Sizes) (names all : List Letters) (s : Sheet) (n : ClockedNode) : Type 0 where
+pub record FaultlessNode (starts letters tags values places typePlaces lens text : List ℕ) (c : Counts) (k : Sizes) (names all : List Letters) (s : Sheet) (n : ClockedNode) : Type 0 where
   pub named : lettersAt starts letters ≡ lettersOf names
   pub few-names : k .names ≤ 1024
   pub few-tokens : length tags ≤ 4096
-  pub standing : Standing (k .names) tags values places (k .nodes) (s .nodes)
+  pub standing : NodesStand (k .names) tags values places (k .nodes) (s .nodes)
   pub table : Table (k .names) (tokens tags values) typePlaces (k .types) (s .types)
-  pub holds : Holds lens text c all
+  pub holds : NamesHeld lens text c all
   pub kept : c .full ≡ false
   pub gate : k .condact ≡ condactId all
   pub forms : clocking (n .node) ≡ formed (n .clocking)

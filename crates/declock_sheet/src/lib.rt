@@ -2,6 +2,10 @@
 // `starts` and `letters` are the input's names; `lengths` and `text`, with counts, the output's. `places` and `type_places` are
 // where the sheet's nodes and type definitions stand. `otags` and `ovalues` are the output's tokens, of which w are written.
 // `env`, `flags` and `firsts` are working tables, lent so that they are made once.
+use definitions::CLOCK_TABLE;
+use definitions::MOST_NAMES;
+use definitions::MOST_NODES;
+use definitions::WORKING_TOKENS;
 use fresh::Counts;
 use layout::NodeLayout;
 use node_tables::Tables;
@@ -21,14 +25,14 @@ ghost use Rattle.definitions.specs.InferClocks.{usesClocks};
 ghost use Rattle.definitions.specs.Output.{ClockedNode, outputNode, nodeTokens, namesOut, sheetOut, sheetTokens};
 ghost use Rattle.definitions.specs.Answer.{Input};
 ghost use Rattle.environment.specs.Environment.{Agrees};
-ghost use Rattle.fresh.specs.Table.{Sound, Holds};
-ghost use Rattle.layout.specs.Laid.{Laid};
+ghost use Rattle.fresh.specs.Table.{Sound, NamesHeld};
+ghost use Rattle.layout.specs.Laid.{LaidNode};
 ghost use Rattle.infer_clocks.specs.Clocked.{Sole};
 ghost use Rattle.emit.specs.Out.{out, emits};
 ghost use Rattle.stateless.specs.Whole.{noNeeds, oldNeeds};
 ghost use Rattle.node_tables.specs.Filled.{Filled};
 ghost use Rattle.output_names.specs.Faultless.{Faultless};
-ghost use Rattle.declock_sheet.specs.Clocked.{Clocked};
+ghost use Rattle.declock_sheet.specs.Clocked.{FaultlessNode};
 
 fn wide(x: u32) -> usize
     ensures { λ r. ⌜ r ≡ x ⌝ }
@@ -40,21 +44,21 @@ fn wide(x: u32) -> usize
 fn put_filled(
     tags: &[u8],
     values: &[u32],
-    places: &[usize; 16],
+    places: &[usize; MOST_NODES],
     type_places: &[usize; 32],
-    lengths: &[u8; 1024],
+    lengths: &[u8; MOST_NAMES],
     text: &[u8; 16384],
     c: Counts,
-    env: &[u32; 17408],
-    flags: &[u32; 17408],
-    firsts: &[u32; 17408],
-    flag_order: &[u32; 1024],
-    first_order: &[u32; 1024],
-    flag_numbers: &[u32; 1024],
-    first_numbers: &[u32; 1024],
-    hold_numbers: &[u32; 1024],
-    otags: &mut [u8; 8192],
-    ovalues: &mut [u32; 8192],
+    env: &[u32; CLOCK_TABLE],
+    flags: &[u32; CLOCK_TABLE],
+    firsts: &[u32; CLOCK_TABLE],
+    flag_order: &[u32; MOST_NAMES],
+    first_order: &[u32; MOST_NAMES],
+    flag_numbers: &[u32; MOST_NAMES],
+    first_numbers: &[u32; MOST_NAMES],
+    hold_numbers: &[u32; MOST_NAMES],
+    otags: &mut [u8; WORKING_TOKENS],
+    ovalues: &mut [u32; WORKING_TOKENS],
     k: Sizes,
     t: Tables,
     l: NodeLayout,
@@ -63,15 +67,15 @@ fn put_filled(
     requires { ⌜ length (now values) ≡ length (now tags) ⌝ }
     requires { ⌜ (k .nodes ≤ 16) × (k .types ≤ 32) ⌝ }
     requires { ⌜ Sound (now lengths) (now text) c ⌝ }
-    ensures { λ r. ⌜ ((starts letters : List ℕ) (names all : List Letters) (s : Sheet) (n : ClockedNode) (p q : ℕ) → Clocked starts letters (now (tags .entry)) (now (values .entry)) (now (places .entry)) (now («type_places» .entry)) (now (lengths .entry)) (now (text .entry)) c k names all s n → usesClocks (n .node) ≡ true → node (k .names) (tokens (now (tags .entry)) (now (values .entry))) p ≡ got (n .node) q → Laid (k .names) (tokens (now (tags .entry)) (now (values .entry))) (n .node) q l → Agrees (now (env .entry)) (k .names) (n .clocking .names) → Filled names (n .node) (oldNeeds (s .types) (s .nodes) (n .node) (k .condact) (n .clocking .equations) noNeeds) (now (flags .entry)) (now (firsts .entry)) (now («flag_order» .entry)) (now («first_order» .entry)) (now («flag_numbers» .entry)) (now («first_numbers» .entry)) (now («hold_numbers» .entry)) (t .rows) (t .locals) → out (now (otags .exit)) (now (ovalues .exit)) r ≡ emits (out (now (otags .entry)) (now (ovalues .entry)) w) (nodeTokens (outputNode names s all n))) ⌝ }
+    ensures { λ r. ⌜ ((starts letters : List ℕ) (names all : List Letters) (s : Sheet) (n : ClockedNode) (p q : ℕ) → FaultlessNode starts letters (now (tags .entry)) (now (values .entry)) (now (places .entry)) (now («type_places» .entry)) (now (lengths .entry)) (now (text .entry)) c k names all s n → usesClocks (n .node) ≡ true → node (k .names) (tokens (now (tags .entry)) (now (values .entry))) p ≡ got (n .node) q → LaidNode (k .names) (tokens (now (tags .entry)) (now (values .entry))) (n .node) q l → Agrees (now (env .entry)) (k .names) (n .clocking .names) → Filled names (n .node) (oldNeeds (s .types) (s .nodes) (n .node) (k .condact) (n .clocking .equations) noNeeds) (now (flags .entry)) (now (firsts .entry)) (now («flag_order» .entry)) (now («first_order» .entry)) (now («flag_numbers» .entry)) (now («first_numbers» .entry)) (now («hold_numbers» .entry)) (t .rows) (t .locals) → out (now (otags .exit)) (now (ovalues .exit)) r ≡ emits (out (now (otags .entry)) (now (ovalues .entry)) w) (nodeTokens (outputNode names s all n))) ⌝ }
 {
     let rows = t.rows;
     let locals = t.locals;
     let n = rows.flags;
     let m = rows.firsts;
-    let mut flag_ids = [0u32; 1024];
-    let mut first_ids = [0u32; 1024];
-    let mut hold_ids = [0u32; 1024];
+    let mut flag_ids = [0u32; MOST_NAMES];
+    let mut first_ids = [0u32; MOST_NAMES];
+    let mut hold_ids = [0u32; MOST_NAMES];
     new_names::fill_ids(
         lengths,
         text,
@@ -135,16 +139,16 @@ fn put_clocked(
     letters: &[u8],
     tags: &[u8],
     values: &[u32],
-    places: &[usize; 16],
+    places: &[usize; MOST_NODES],
     type_places: &[usize; 32],
-    lengths: &[u8; 1024],
+    lengths: &[u8; MOST_NAMES],
     text: &[u8; 16384],
     c: Counts,
-    env: &[u32; 17408],
-    flags: &mut [u32; 17408],
-    firsts: &mut [u32; 17408],
-    otags: &mut [u8; 8192],
-    ovalues: &mut [u32; 8192],
+    env: &[u32; CLOCK_TABLE],
+    flags: &mut [u32; CLOCK_TABLE],
+    firsts: &mut [u32; CLOCK_TABLE],
+    otags: &mut [u8; WORKING_TOKENS],
+    ovalues: &mut [u32; WORKING_TOKENS],
     k: Sizes,
     l: NodeLayout,
     w: usize,
@@ -152,13 +156,13 @@ fn put_clocked(
     requires { ⌜ length (now values) ≡ length (now tags) ⌝ }
     requires { ⌜ (k .nodes ≤ 16) × (k .types ≤ 32) ⌝ }
     requires { ⌜ Sound (now lengths) (now text) c ⌝ }
-    ensures { λ r. ⌜ ((names all : List Letters) (s : Sheet) (n : ClockedNode) (p q : ℕ) → Clocked (now (starts .entry)) (now (letters .entry)) (now (tags .entry)) (now (values .entry)) (now (places .entry)) (now («type_places» .entry)) (now (lengths .entry)) (now (text .entry)) c k names all s n → usesClocks (n .node) ≡ true → node (k .names) (tokens (now (tags .entry)) (now (values .entry))) p ≡ got (n .node) q → Laid (k .names) (tokens (now (tags .entry)) (now (values .entry))) (n .node) q l → Agrees (now (env .entry)) (k .names) (n .clocking .names) → out (now (otags .exit)) (now (ovalues .exit)) r ≡ emits (out (now (otags .entry)) (now (ovalues .entry)) w) (nodeTokens (outputNode names s all n))) ⌝ }
+    ensures { λ r. ⌜ ((names all : List Letters) (s : Sheet) (n : ClockedNode) (p q : ℕ) → FaultlessNode (now (starts .entry)) (now (letters .entry)) (now (tags .entry)) (now (values .entry)) (now (places .entry)) (now («type_places» .entry)) (now (lengths .entry)) (now (text .entry)) c k names all s n → usesClocks (n .node) ≡ true → node (k .names) (tokens (now (tags .entry)) (now (values .entry))) p ≡ got (n .node) q → LaidNode (k .names) (tokens (now (tags .entry)) (now (values .entry))) (n .node) q l → Agrees (now (env .entry)) (k .names) (n .clocking .names) → out (now (otags .exit)) (now (ovalues .exit)) r ≡ emits (out (now (otags .entry)) (now (ovalues .entry)) w) (nodeTokens (outputNode names s all n))) ⌝ }
 {
-    let mut flag_order = [0u32; 1024];
-    let mut first_order = [0u32; 1024];
-    let mut flag_numbers = [0u32; 1024];
-    let mut first_numbers = [0u32; 1024];
-    let mut hold_numbers = [0u32; 1024];
+    let mut flag_order = [0u32; MOST_NAMES];
+    let mut first_order = [0u32; MOST_NAMES];
+    let mut flag_numbers = [0u32; MOST_NAMES];
+    let mut first_numbers = [0u32; MOST_NAMES];
+    let mut hold_numbers = [0u32; MOST_NAMES];
     let t = node_tables::fill_tables(
         starts,
         letters,
@@ -212,16 +216,16 @@ fn put_node(
     letters: &[u8],
     tags: &[u8],
     values: &[u32],
-    places: &[usize; 16],
+    places: &[usize; MOST_NODES],
     type_places: &[usize; 32],
-    lengths: &[u8; 1024],
+    lengths: &[u8; MOST_NAMES],
     text: &[u8; 16384],
     c: Counts,
-    env: &mut [u32; 17408],
-    flags: &mut [u32; 17408],
-    firsts: &mut [u32; 17408],
-    otags: &mut [u8; 8192],
-    ovalues: &mut [u32; 8192],
+    env: &mut [u32; CLOCK_TABLE],
+    flags: &mut [u32; CLOCK_TABLE],
+    firsts: &mut [u32; CLOCK_TABLE],
+    otags: &mut [u8; WORKING_TOKENS],
+    ovalues: &mut [u32; WORKING_TOKENS],
     k: Sizes,
     at: usize,
     w: usize,
@@ -230,7 +234,7 @@ fn put_node(
     requires { ⌜ (k .nodes ≤ 16) × (k .types ≤ 32) ⌝ }
     requires { ⌜ Sound (now lengths) (now text) c ⌝ }
     ensures { λ _. ⌜ (k .nodes ≤ 1 → now (env .exit) ≡ now (env .entry)) ⌝ }
-    ensures { λ r. ⌜ ((names all : List Letters) (s : Sheet) (n : ClockedNode) (q : ℕ) → Clocked (now (starts .entry)) (now (letters .entry)) (now (tags .entry)) (now (values .entry)) (now (places .entry)) (now («type_places» .entry)) (now (lengths .entry)) (now (text .entry)) c k names all s n → node (k .names) (tokens (now (tags .entry)) (now (values .entry))) at ≡ got (n .node) q → (k .nodes ≤ 1 → usesClocks (n .node) ≡ true → Agrees (now (env .entry)) (k .names) (n .clocking .names)) → out (now (otags .exit)) (now (ovalues .exit)) r ≡ emits (out (now (otags .entry)) (now (ovalues .entry)) w) (nodeTokens (outputNode names s all n))) ⌝ }
+    ensures { λ r. ⌜ ((names all : List Letters) (s : Sheet) (n : ClockedNode) (q : ℕ) → FaultlessNode (now (starts .entry)) (now (letters .entry)) (now (tags .entry)) (now (values .entry)) (now (places .entry)) (now («type_places» .entry)) (now (lengths .entry)) (now (text .entry)) c k names all s n → node (k .names) (tokens (now (tags .entry)) (now (values .entry))) at ≡ got (n .node) q → (k .nodes ≤ 1 → usesClocks (n .node) ≡ true → Agrees (now (env .entry)) (k .names) (n .clocking .names)) → out (now (otags .exit)) (now (ovalues .exit)) r ≡ emits (out (now (otags .entry)) (now (ovalues .entry)) w) (nodeTokens (outputNode names s all n))) ⌝ }
 {
     let names = k.names;
     let l = layout::node_at(tags, values, names, at);
@@ -270,25 +274,25 @@ pub fn declock_sheet(
     tags: &[u8],
     values: &[u32],
     names: u32,
-    lengths: &[u8; 1024],
+    lengths: &[u8; MOST_NAMES],
     text: &[u8; 16384],
     c: Counts,
-    env: &mut [u32; 17408],
-    flags: &mut [u32; 17408],
-    firsts: &mut [u32; 17408],
-    otags: &mut [u8; 8192],
-    ovalues: &mut [u32; 8192],
+    env: &mut [u32; CLOCK_TABLE],
+    flags: &mut [u32; CLOCK_TABLE],
+    firsts: &mut [u32; CLOCK_TABLE],
+    otags: &mut [u8; WORKING_TOKENS],
+    ovalues: &mut [u32; WORKING_TOKENS],
 ) -> usize
     requires { ⌜ length (now values) ≡ length (now tags) ⌝ }
     requires { ⌜ Sound (now lengths) (now text) c ⌝ }
-    ensures { λ r. ⌜ ((bytes : List ℕ) (i : Input) (ns : List ClockedNode) → Faultless (now (starts .entry)) (now (letters .entry)) (now (tags .entry)) (now (values .entry)) names bytes i ns → Sole (now (env .entry)) names (i .sheet .nodes) → Holds (now (lengths .entry)) (now (text .entry)) c (namesOut (i .names) (i .sheet) ns) → c .full ≡ false → out (now (otags .exit)) (now (ovalues .exit)) r ≡ emits (out (now (otags .entry)) (now (ovalues .entry)) 0) (sheetTokens (sheetOut (i .names) (i .sheet) ns))) ⌝ }
+    ensures { λ r. ⌜ ((bytes : List ℕ) (i : Input) (ns : List ClockedNode) → Faultless (now (starts .entry)) (now (letters .entry)) (now (tags .entry)) (now (values .entry)) names bytes i ns → Sole (now (env .entry)) names (i .sheet .nodes) → NamesHeld (now (lengths .entry)) (now (text .entry)) c (namesOut (i .names) (i .sheet) ns) → c .full ≡ false → out (now (otags .exit)) (now (ovalues .exit)) r ≡ emits (out (now (otags .entry)) (now (ovalues .entry)) 0) (sheetTokens (sheetOut (i .names) (i .sheet) ns))) ⌝ }
 {
     let whole = layout::sheet_at(tags, values, names);
     let types = whole.types;
     let span = whole.nodes;
     let n = wide(span.count);
     let m = wide(types.count);
-    if 16 < n {
+    if MOST_NODES < n {
         return 0;
     }
     if 32 < m {

@@ -1,5 +1,4 @@
--- Laws of the rounds over tables: a name has a default where its first definition has one if every defined name had one, and all that it
--- goes on to have one.
+-- Laws of the rounds over tables: a name has a default where all that its first definition goes on to have one, and nothing else is wanting.
 -- Assumes nothing.
 use mathlib.Core.Path.{_≡_, refl, sym, _∙_, ap}
 use mathlib.Core.List.{List, [], _∷_, _++_, map}
@@ -8,21 +7,18 @@ use mathlib.Core.Option.{Option, none, some}
 use Prim.Native.Nat.{ℕ, zero, suc, _+_, _-_, _*_, _≤_, _<_}
 use native.Mathlib.Omega.{arith}
 use native.Mathlib.Numerals.{add-one}
-use lib.ListN.{length, getD, replicate, getD-replicate}
+use lib.ListN.{length, getD}
 use lib.Dec.{eqb, ltb}
 use borrow.Author.Tests.{eq-eqb, ne-eqb, eqb-true, eqb-false, ltb-true, ltb-false}
 use Rattle.definitions.specs.Lists.{all, among, join}
-use Rattle.definitions.specs.Tokens.{TagValue}
 use Rattle.definitions.specs.Tree.{Ty, Declared, Body, TypeDef, Head, Expr, Exprs}
-use Rattle.definitions.specs.Reading.{got}
-use Rattle.definitions.specs.Grammar.{typeDef}
-use Rattle.definitions.specs.Types.{target, targets, definitionOf, goesOn, defaultBy, defaultsBy, defaultOf, defaultNamed}
-use Rattle.typedefs.specs.Table.{nowhere, defAt, nameAt, isNamed, firstOf, Table}
-use Rattle.typedefs.proofs.Laws.{find-none, find-some, place-before}
-use Rattle.cycles.specs.Edges.{bit, Edges, inside}
-use Rattle.cycles.proofs.Laws.{iff, bit-one, bit-true, bit-test, and-false, goes-some, first-name, inside-each, inside-at}
-use Rattle.defaults.specs.Has.{isSome, Has, HasBy, known, down, Own, alike}
-use Rattle.defaults.proofs.Laws.{has-array, has-by, has-end}
+use Rattle.definitions.specs.Types.{target, targets, goesOn, defaultBy, defaultsBy, defaultOf, defaultNamed}
+use Rattle.typedefs.specs.Table.{nowhere, defAt, nameAt, isNamed, firstOf}
+use Rattle.typedefs.proofs.Laws.{place-before}
+use Rattle.cycles.specs.Edges.{bit, isDefined, ownBody, Edges, Own, inside}
+use Rattle.cycles.proofs.Laws.{iff, bit-one, bit-true, bit-test, and-false, all-append, goes-some, own-some, first-name, inside-each, inside-at}
+use Rattle.defaults.specs.Has.{isSome, DefaultsKnown, alike}
+use Rattle.defaults.proofs.Laws.{unnamed, named-by, has-array, has-end}
 
 -- conjunctions
 and-left : (a b : Bool) → (a && b) ≡ true → a ≡ true
@@ -39,7 +35,7 @@ crossed true false true d = refl
 crossed true false false d = refl
 crossed false b c d = refl
 
-under : (a b : Bool) → (b ≡ true → a ≡ true) → b ≡ (a && (b && true))
+under : (a b : Bool) → (b ≡ true → a ≡ true) → b ≡ ((a && true) && (b && true))
 under true true f = refl
 under true false f = refl
 under false true f = sym (f refl)
@@ -48,14 +44,6 @@ under false false f = refl
 guarded : (a b c : Bool) → (a ≡ true → b ≡ c) → (a && b) ≡ (a && c)
 guarded true b c f = f refl
 guarded false b c f = refl
-
-all-append : {A : Type 0} (p : A → Bool) (l m : List A) → all p (l ++ m) ≡ (all p l && all p m)
-all-append p [] m = refl
-all-append p (a ∷ l) m = go (p a) (all-append p l m)
-  where
-    go : (b : Bool) → all p (l ++ m) ≡ (all p l && all p m) → (b && all p (l ++ m)) ≡ ((b && all p l) && all p m)
-    go true e = e
-    go false e = refl
 
 all-elim : (p : ℕ → Bool) (x : ℕ) (xs : List ℕ) → all p xs ≡ true → among x xs ≡ true → p x ≡ true
 all-elim p x [] e m = let z : _≡_ {A = ℕ} 0 1 = cc in absurd (omega arith)
@@ -81,90 +69,44 @@ both none l = refl
 both (some y) none = refl
 both (some y) (some ys) = refl
 
--- whether there is a default, where K gives one to every name that G gives one to: as K says, and all that is gone on to has one by G
-module _ (G K : ℕ → Option Expr) (more : (x : ℕ) → isSome (G x) ≡ true → isSome (K x) ≡ true) where
-  type-splits : (t : Ty) → isSome (defaultBy G t) ≡ (isSome (defaultBy K t) && all (λ x. isSome (G x)) (target t))
+-- whether there is a default, where G gives one only to names that are defined: as the definition says of itself, and all that it goes on to has one
+module _ (types : List TypeDef) (G : ℕ → Option Expr) (more : (x : ℕ) → isSome (G x) ≡ true → isDefined types x ≡ true) where
+  type-splits : (t : Ty) → isSome (defaultBy G t) ≡ (all (isDefined types) (target t) && all (λ x. isSome (G x)) (target t))
   unfolding defaultBy target
   type-splits (Ty.primitive p) = refl
-  type-splits (Ty.array n t) =
-      sym (has-array G (isSome (defaultBy G t)) (Ty.array n t) t n refl refl) ∙ type-splits t ∙
-      ap (λ (b : Bool). b && all (λ x. isSome (G x)) (target t)) (has-array K (isSome (defaultBy K t)) (Ty.array n t) t n refl refl)
-  type-splits (Ty.named x) = under (isSome (K x)) (isSome (G x)) (more x)
+  type-splits (Ty.array n t) = sym (has-array G (isSome (defaultBy G t)) (Ty.array n t) t n refl refl) ∙ type-splits t
+  type-splits (Ty.named x) = under (isDefined types x) (isSome (G x)) (more x)
 
-  fields-split : (fs : List Declared) → isSome (defaultsBy G fs) ≡ (isSome (defaultsBy K fs) && all (λ x. isSome (G x)) (join (map (λ f. target (f .type)) fs)))
+  fields-split : (fs : List Declared) → isSome (defaultsBy G fs) ≡ (all (isDefined types) (join (map (λ f. target (f .type)) fs)) && all (λ x. isSome (G x)) (join (map (λ f. target (f .type)) fs)))
   unfolding defaultsBy
   fields-split [] = refl
   fields-split (f ∷ fs) =
+      let here = target (f .type) in
+      let rest = join (map (λ g. target (g .type)) fs) in
       both (defaultBy G (f .type)) (defaultsBy G fs) ∙
-      rw (type-splits (f .type), fields-split fs, both (defaultBy K (f .type)) (defaultsBy K fs), all-append (λ x. isSome (G x)) (target (f .type)) (join (map (λ g. target (g .type)) fs)))
-      (crossed (isSome (defaultBy K (f .type))) (all (λ x. isSome (G x)) (target (f .type))) (isSome (defaultsBy K fs)) (all (λ x. isSome (G x)) (join (map (λ g. target (g .type)) fs))))
+      rw (type-splits (f .type), fields-split fs, all-append (isDefined types) here rest, all-append (λ x. isSome (G x)) here rest)
+      (crossed (all (isDefined types) here) (all (λ x. isSome (G x)) here) (all (isDefined types) rest) (all (λ x. isSome (G x)) rest))
 
-  splits : (d : TypeDef) (b : Body) → isSome (defaultOf G d b) ≡ (isSome (defaultOf K d b) && all (λ x. isSome (G x)) (targets b))
-  unfolding defaultOf targets
+  splits : (d : TypeDef) (b : Body) → isSome (defaultOf G d b) ≡ (ownBody types b && all (λ x. isSome (G x)) (targets b))
+  unfolding defaultOf targets ownBody
   splits d (Body.enum []) = refl
   splits d (Body.enum (v ∷ vs)) = refl
-  splits d (Body.fields fs) = record-is G ∙ fields-split fs ∙ ap (λ (b : Bool). b && all (λ x. isSome (G x)) (join (map (λ f. target (f .type)) fs))) (sym (record-is K))
+  splits d (Body.fields fs) = go (defaultsBy G fs) ∙ fields-split fs
     where
       go : (o : Option Exprs) → isSome {A = Expr} (elim o [ none ↦ none | some es ↦ some (Expr.op (Head.struct (d .name) (map (λ f. f .name) fs)) es) ]) ≡ isSome o
       go none = refl
       go (some es) = refl
-
-      record-is : (F : ℕ → Option Expr) → isSome (defaultOf F d (Body.fields fs)) ≡ isSome (defaultsBy F fs)
-      record-is F = go (defaultsBy F fs)
   splits d (Body.alias t) = type-splits t
 
--- one definition down, by the first of a name
-module _ (types : List TypeDef) (G : ℕ → Option Expr) (x : ℕ) where
-  down-none : length types ≤ firstOf types x → down types G x ≡ none
-  unfolding down definitionOf
-  down-none h = rw (find-none (isNamed x) types h, down)
-
-  down-some : (i : ℕ) → i ≡ firstOf types x → i < length types → down types G x ≡ defaultOf G (defAt types i) (defAt types i .body)
-  unfolding down definitionOf
-  down-some i e h = rw e (rw (find-some (isNamed x) types nowhere (omega arith), down))
-
-down-named : (types : List TypeDef) (k x : ℕ) → defaultNamed types (suc k) x ≡ down types (defaultNamed types k) x
-unfolding defaultNamed down
-down-named types k x = refl
-
--- the names that are defined
-module _ (types : List TypeDef) (x : ℕ) where
-  known-none : length types ≤ firstOf types x → isSome (known types x) ≡ false
-  unfolding known definitionOf
-  known-none h = rw (find-none (isNamed x) types h, known)
-
-  known-some : firstOf types x < length types → isSome (known types x) ≡ true
-  unfolding known definitionOf
-  known-some h = rw (find-some (isNamed x) types nowhere h, known)
-
-  known-first : isSome (known types x) ≡ true → firstOf types x < length types
-  known-first e = go (ltb (firstOf types x) (length types)) refl
-    where
-      go : (b : Bool) → ltb (firstOf types x) (length types) ≡ b → firstOf types x < length types
-      go true t = ltb-true (firstOf types x) (length types) t
-      go false t =
-          let f : isSome (known types x) ≡ false = known-none (ltb-false (firstOf types x) (length types) t) in
-          let z : _≡_ {A = ℕ} 0 1 = cc in absurd (omega arith)
+own-defined : (types : List TypeDef) (b : Body) → ownBody types b ≡ true → all (isDefined types) (targets b) ≡ true
+unfolding targets ownBody
+own-defined types (Body.enum []) e = refl
+own-defined types (Body.enum (v ∷ vs)) e = refl
+own-defined types (Body.fields fs) e = e
+own-defined types (Body.alias t) e = e
 
 first-within : (types : List TypeDef) (i : ℕ) → i < length types → firstOf types (nameAt types i) < length types
 first-within types i h = omega (arith, place-before (isNamed (nameAt types i)) types nowhere i h (eq-eqb (nameAt types i) (nameAt types i) refl))
-
-pub every-known : (types : List TypeDef) (n : ℕ) → length types ≡ n → n ≤ 32 → HasBy types n (known types) (replicate 32 1)
-every-known types n many l = record {
-  bytes = λ i h. getD-replicate 32 i 1 0 (omega arith) ∙ sym (bit-one _ (known-some types (nameAt types i) (first-within types i (omega arith))));
-  unknown = λ x h. known-none types x h;
-}
-
--- a byte of what definitions say of themselves
-module _ (M : ℕ) (ts : List TagValue) (places : List ℕ) (n : ℕ) (types : List TypeDef) (t : Table M ts places n types) (i j x : ℕ) (ex : x ≡ nameAt types i) (first : j ≡ firstOf types x) where
-  pub own-unnamed : n ≤ j → 0 ≡ bit (isSome (down types (known types) (nameAt types i)))
-  own-unnamed h = rw (← ex, down-none types (known types) x (omega (arith, t .count)))
-
-  pub own-has : (b : Bool) → j < n → ((d : TypeDef) (q : ℕ) → typeDef M ts (getD places j 0) ≡ got d q → b ≡ isSome (defaultOf (known types) d (d .body))) →
-      bit b ≡ bit (isSome (down types (known types) (nameAt types i)))
-  own-has b h f =
-      let s = t .stands j h in
-      rw (← ex, down-some types (known types) x j first (omega (arith, t .count))) (ap bit (f (defAt types j) (s .0) (s .1)))
 
 -- a byte of the next round
 module _ (s : ℕ) (a : Bool) where
@@ -175,42 +117,44 @@ module _ (s : ℕ) (a : Bool) where
   byte-with b h e = rw (h, e)
 
 -- a round of bytes goes one definition further down
-module _ (types : List TypeDef) (n : ℕ) (many : length types ≡ n) (go own has : List ℕ) (edges : Edges types n go) (owned : Own types n own) (G : ℕ → Option Expr) (by : HasBy types n G has) where
-  within : (x : ℕ) → isSome (G x) ≡ true → isSome (known types x) ≡ true
-  within x e = pick (ltb (firstOf types x) (length types)) refl
+module _ (types : List TypeDef) (n : ℕ) (many : length types ≡ n) (go own has : List ℕ) (edges : Edges types n go) (owned : Own types n own) (k : ℕ) (by : DefaultsKnown types n k has) where
+  abbrev G : ℕ → Option Expr
+  G = defaultNamed types k
+
+  within : (x : ℕ) → isSome (G x) ≡ true → isDefined types x ≡ true
+  within x e = pick (isDefined types x) refl
     where
-      pick : (b : Bool) → ltb (firstOf types x) (length types) ≡ b → isSome (known types x) ≡ true
-      pick true t = known-some types x (ltb-true (firstOf types x) (length types) t)
+      pick : (b : Bool) → isDefined types x ≡ b → b ≡ true
+      pick true t = refl
       pick false t =
-          let f : isSome (G x) ≡ false = by .unknown x (ltb-false (firstOf types x) (length types) t) in
+          let f : isSome (G x) ≡ false = rw (unnamed types x k (ltb-false (firstOf types x) (length types) t)) in
           let z : _≡_ {A = ℕ} 0 1 = cc in absurd (omega arith)
 
   module _ (i : ℕ) (h : i < n) (xs : List ℕ) (ys : goesOn types (nameAt types i) ≡ xs) where
     edge-of : (j : ℕ) → j < n → getD go (32 * i + j) 0 ≡ bit (among (nameAt types j) xs)
     edge-of j l = rw ys at (edges i j h l)
 
-    each-has : all (λ x. isSome (known types x)) xs ≡ true → inside go has i n ≡ true → all (λ x. isSome (G x)) xs ≡ true
-    each-has k e = all-intro (λ x. isSome (G x)) xs λ x m.
-        let l : firstOf types x < n = omega (arith, known-first types x (all-elim (λ y. isSome (known types y)) x xs k m)) in
+    each-has : all (isDefined types) xs ≡ true → inside go has i n ≡ true → all (λ x. isSome (G x)) xs ≡ true
+    each-has d e = all-intro (λ x. isSome (G x)) xs λ x m.
+        let l : firstOf types x < n = omega (arith, ltb-true (firstOf types x) (length types) (all-elim (isDefined types) x xs d m)) in
         let f : nameAt types (firstOf types x) ≡ x = first-name types x (omega arith) in
         let a = edge-of (firstOf types x) l ∙ bit-one (among (nameAt types (firstOf types x)) xs) (rw f m) in
         let b = inside-at go has i n (firstOf types x) e l a in
-        bit-true (isSome (G x)) (rw f at (sym (by .bytes (firstOf types x) l) ∙ b))
+        bit-true (isSome (G x)) (rw f at (sym (by (firstOf types x) l) ∙ b))
 
     has-each : all (λ x. isSome (G x)) xs ≡ true → inside go has i n ≡ true
     has-each e = inside-each go has i n λ j l a.
-        by .bytes j l ∙ bit-one (isSome (G (nameAt types j))) (all-elim (λ x. isSome (G x)) (nameAt types j) xs e (bit-true _ (sym (edge-of j l) ∙ a)))
+        by j l ∙ bit-one (isSome (G (nameAt types j))) (all-elim (λ x. isSome (G x)) (nameAt types j) xs e (bit-true _ (sym (edge-of j l) ∙ a)))
 
-  pub round-byte : (i : ℕ) → i < n → bit (eqb (getD own i 0) 1 && inside go has i n) ≡ bit (isSome (down types G (nameAt types i)))
+  round-byte : (i : ℕ) → i < n → bit (eqb (getD own i 0) 1 && inside go has i n) ≡ bit (isSome (defaultNamed types (suc k) (nameAt types i)))
   round-byte i h =
       let l = first-within types i (omega arith) in
       let d = defAt types (firstOf types (nameAt types i)) in
-      let o : eqb (getD own i 0) 1 ≡ isSome (defaultOf (known types) d (d .body)) = rw (owned i h, down-some types (known types) (nameAt types i) _ refl l) (bit-test _) in
+      let o : eqb (getD own i 0) 1 ≡ ownBody types (d .body) = rw (owned i h, own-some types (nameAt types i) _ refl l) (bit-test _) in
       let e = goes-some types (nameAt types i) _ refl l in
-      let k : isSome (defaultOf (known types) d (d .body)) ≡ true → all (λ x. isSome (known types x)) (targets (d .body)) ≡ true = λ t. and-right (isSome (defaultOf (known types) d (d .body))) _ (sym (splits (known types) (known types) (λ x m. m) d (d .body)) ∙ t) in
-      rw (o, down-some types G (nameAt types i) _ refl l, splits G (known types) within d (d .body))
-      (ap bit (guarded (isSome (defaultOf (known types) d (d .body))) (inside go has i n) (all (λ x. isSome (G x)) (targets (d .body)))
-      λ t. iff (inside go has i n) (all (λ x. isSome (G x)) (targets (d .body))) (each-has i h (targets (d .body)) e (k t)) (has-each i h (targets (d .body)) e)))
+      rw (o, named-by types (nameAt types i) k _ refl l, splits types G within d (d .body))
+      (ap bit (guarded (ownBody types (d .body)) (inside go has i n) (all (λ x. isSome (G x)) (targets (d .body)))
+      λ t. iff (inside go has i n) (all (λ x. isSome (G x)) (targets (d .body))) (each-has i h (targets (d .body)) e (own-defined types (d .body) t)) (has-each i h (targets (d .body)) e)))
 
 -- bytes that are the same
 module _ (l m : List ℕ) where
@@ -245,13 +189,12 @@ module _ (l m : List ℕ) where
 
 -- one round more; where it changes nothing, no round does
 module _ (types : List TypeDef) (n : ℕ) (many : length types ≡ n) (go own has more : List ℕ) (edges : Edges types n go) (owned : Own types n own) (round : (i : ℕ) → i < n → getD more i 0 ≡ bit (eqb (getD own i 0) 1 && inside go has i n)) where
-  pub has-more : (k : ℕ) → Has types n k has → Has types n (suc k) more
-  has-more k f i h =
-      round i h ∙ round-byte types n many go own has edges owned (defaultNamed types k) (has-by types n k has f) i h ∙ ap (λ (o : Option Expr). bit (isSome o)) (sym (down-named types k (nameAt types i)))
+  pub has-more : (k : ℕ) → DefaultsKnown types n k has → DefaultsKnown types n (suc k) more
+  has-more k f i h = round i h ∙ round-byte types n many go own has edges owned k f i h
 
-  has-still : alike has more n ≡ true → (j k : ℕ) → Has types n k has → Has types n (k + j) has
+  has-still : alike has more n ≡ true → (j k : ℕ) → DefaultsKnown types n k has → DefaultsKnown types n (k + j) has
   has-still e zero k f = let z : k + 0 ≡ k = omega arith in rw z f
   has-still e (suc j) k f = let z : k + suc j ≡ suc k + j = omega arith in rw z (has-still e j (suc k) (λ i h. alike-at has more n e i h ∙ has-more k f i h))
 
-  pub has-settled : (b : Bool) → b ≡ alike has more n → b ≡ true → (k : ℕ) → k ≤ n → Has types n k has → Has types n n has
+  pub has-settled : (b : Bool) → b ≡ alike has more n → b ≡ true → (k : ℕ) → k ≤ n → DefaultsKnown types n k has → DefaultsKnown types n n has
   has-settled b a t k l f = has-end types n (k + (n - k)) has (omega arith) (omega arith) (has-still (sym a ∙ t) (n - k) k f)

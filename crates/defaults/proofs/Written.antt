@@ -1,7 +1,7 @@
 -- Laws of writing defaults: what the parts write makes what the whole writes.
 -- Assumes nothing.
 use mathlib.Core.Path.{_≡_, refl, sym, _∙_, ap}
-use mathlib.Core.List.{List, [], _∷_, _++_, map, append-assoc}
+use mathlib.Core.List.{List, [], _∷_, _++_, map, append-assoc, append-nil}
 use mathlib.Core.Option.{Option, none, some}
 use Prim.Native.Nat.{ℕ, zero, suc, _+_, _-_, _/_, _≤_, _<_}
 use native.Mathlib.Omega.{arith}
@@ -27,12 +27,9 @@ use Rattle.typedefs.proofs.Laws.{name-value}
 use Rattle.emit.specs.Out.{Out, out, emits}
 use Rattle.emit.proofs.Laws.{emits-append, emits-none}
 use Rattle.defaults.specs.declared.Plain.{Plain}
+use Rattle.defaults.specs.Depth.{Enough}
 use Rattle.defaults.specs.Plain.{IsPlain}
 use Rattle.defaults.proofs.Laws.{unnamed, named-by}
-
-append-nil : {A : Type 0} (l : List A) → l ++ [] ≡ l
-append-nil [] = refl
-append-nil (x ∷ l) = ap (λ (m : List _). x ∷ m) (append-nil l)
 
 -- one after the other
 pub then : (o o₁ o₂ : Out) (a b c : List Token) → o₁ ≡ emits o a → o₂ ≡ emits o₁ b → a ++ b ≡ c → o₂ ≡ emits o c
@@ -95,12 +92,15 @@ module _ (l : Literal) where
   unfolding operandTokens copies
   literals-none o o₁ n h e = let i : n ≡ 0 = omega arith in sym (rw i at e ∙ emits-none o₁)
 
-pub wrote-array : (e y : Expr) (m : ℕ) (o o₁ o₂ : Out) → e ≡ Expr.op Head.array (copies m y) → o₁ ≡ emits o (Token.Expression ExprToken.Array ∷ Token.Count m ∷ []) → o₂ ≡ emits o₁ (join (operandTokens (copies m y))) → o₂ ≡ emits o (exprTokens e)
+pub wrote-array : (y : Expr) (m : ℕ) (o o₁ o₂ : Out) → o₁ ≡ emits o (Token.Expression ExprToken.Array ∷ Token.Count m ∷ []) → o₂ ≡ emits o₁ (join (operandTokens (copies m y))) → o₂ ≡ emits o (exprTokens (Expr.op Head.array (copies m y)))
 unfolding exprTokens formTokens
-wrote-array e y m o o₁ o₂ j f g = then o o₁ o₂ _ _ _ f g (rw (j, copies-length m y))
+wrote-array y m o o₁ o₂ f g = then o o₁ o₂ _ _ _ f g (rw (copies-length m y))
 
-pub wrote-plain : (e y : Expr) (l : Literal) (m : ℕ) (o o₁ o₂ : Out) → e ≡ Expr.op Head.array (copies m y) → y ≡ Expr.const l 0 → o₁ ≡ emits o (Token.Expression ExprToken.Array ∷ Token.Count m ∷ []) → o₂ ≡ emits o₁ (join (operandTokens (copies m (Expr.const l 0)))) → o₂ ≡ emits o (exprTokens e)
-wrote-plain e y l m o o₁ o₂ j k f g = wrote-array e (Expr.const l 0) m o o₁ o₂ (rw k at j) f g
+pub wrote-plain : (y : Expr) (l : Literal) (m : ℕ) (o o₁ o₂ : Out) → y ≡ Expr.const l 0 → o₁ ≡ emits o (Token.Expression ExprToken.Array ∷ Token.Count m ∷ []) → o₂ ≡ emits o₁ (join (operandTokens (copies m (Expr.const l 0)))) → o₂ ≡ emits o (exprTokens (Expr.op Head.array (copies m y)))
+wrote-plain y l m o o₁ o₂ k f g = rw k (wrote-array (Expr.const l 0) m o o₁ o₂ f g)
+
+pub wrote-same : (e f : Expr) (o o₁ : Out) → e ≡ f → o₁ ≡ emits o (exprTokens f) → o₁ ≡ emits o (exprTokens e)
+wrote-same e f o o₁ i h = rw i h
 
 -- copies of a default
 pub wrote-none : (e : Expr) (m : ℕ) (o : Out) → m ≡ 0 → o ≡ emits o (join (operandTokens (copies m e)))
@@ -125,24 +125,22 @@ wrote-halves e m o o₁ o₂ f g =
     then o o₁ o₂ _ _ _ f g (copies-add (m / 2) (m - m / 2) e ∙ ap (λ (k : ℕ). join (operandTokens (copies k e))) n)
 
 -- a defined type
-module _ (types : List TypeDef) (t : Ty) (e : Expr) (fuel x : ℕ) (d : defaultBy (defaultNamed types fuel) t ≡ some e) (j : t ≡ Ty.named x) where
-  at-name : defaultNamed types fuel x ≡ some e
-  unfolding defaultBy
-  at-name = rw j at d
+pub named-default : (G : ℕ → Option Expr) (t : Ty) (e : Expr) (x : ℕ) → defaultBy G t ≡ some e → t ≡ Ty.named x → G x ≡ some e
+unfolding defaultBy
+named-default G t e x d j = rw j at d
 
-  pub no-fuel : fuel ≡ 0 → ⊥
-  unfolding defaultNamed
-  no-fuel z = let h : none ≡ some e = rw z at at-name in let u : _≡_ {A = ℕ} 0 1 = cc in omega arith
-
-  pub named-default : (fuel ≡ 0 → ⊥) → defaultNamed types (suc (fuel - 1)) x ≡ some e
-  named-default h = let n : suc (fuel - 1) ≡ fuel = omega arith in rw n at-name
-
-module _ (M : ℕ) (ts : List TagValue) (places : List ℕ) (n : ℕ) (types : List TypeDef) (t : Table M ts places n types) (x k fuel : ℕ) (first : k ≡ firstOf types x) (e : Expr) (d : defaultNamed types (suc fuel) x ≡ some e) where
+module _ (M : ℕ) (ts : List TagValue) (places : List ℕ) (n : ℕ) (types : List TypeDef) (t : Table M ts places n types) (x k fuel : ℕ) (first : k ≡ firstOf types x) (e : Expr) (d : defaultNamed types fuel x ≡ some e) where
   pub not-unnamed : n ≤ k → ⊥
-  not-unnamed h = let i = unnamed types x (suc fuel) (omega (arith, t .count)) in let u : _≡_ {A = ℕ} 0 1 = cc in omega arith
+  not-unnamed h = let i = unnamed types x fuel (omega (arith, t .count)) in let u : _≡_ {A = ℕ} 0 1 = cc in omega arith
 
-  pub definition-default : k < n → (q : ℕ) × (typeDef M ts (getD places k 0) ≡ got (defAt types k) q) × (defaultOf (defaultNamed types fuel) (defAt types k) (defAt types k .body) ≡ some e)
-  definition-default h = let s = t .stands k h in (s .0, s .1, sym (named-by types x fuel k first (omega (arith, t .count))) ∙ d)
+  -- one definition further down, where a field or a target and 8 elements are enough
+  pub definition-default : k < n → (depth : ℕ) → Enough depth fuel 0 → (below q : ℕ) × Enough depth below 9 × (typeDef M ts (getD places k 0) ≡ got (defAt types k) q) × (defaultOf (defaultNamed types below) (defAt types k) (defAt types k .body) ≡ some e)
+  unfolding defaultNamed
+  definition-default h depth l = go fuel d l
+    where
+      go : (m : ℕ) → defaultNamed types m x ≡ some e → Enough depth m 0 → (below q : ℕ) × Enough depth below 9 × (typeDef M ts (getD places k 0) ≡ got (defAt types k) q) × (defaultOf (defaultNamed types below) (defAt types k) (defAt types k .body) ≡ some e)
+      go zero i j = let u : _≡_ {A = ℕ} 0 1 = cc in absurd (omega arith)
+      go (suc m) i j = let s = t .stands k h in (m, s .0, omega arith, s .1, sym (named-by types x m k first (omega (arith, t .count))) ∙ i)
 
 -- a definition's default, by its parts
 module _ (M : ℕ) (tags vs : List ℕ) (same-length : length vs ≡ length tags) (G : ℕ → Option Expr) (d : TypeDef) (q : ℕ) (D : Defined) (g : Described M (tokens tags vs) d q D) (e : Expr) (f : defaultOf G d (d .body) ≡ some e) where

@@ -1,33 +1,38 @@
-// Defaults of types: document 01, "Declocking". Whether a type has one is found once for each definition; then it is written.
+// Defaults of types: document 01, "A default is built by going down the type." Whether a type has one is found once for each definition; then it is written.
 // `tags` and `values` are a sheet's tokens, `names` the number of its names; `places` are those of its n definitions;
-// byte i of `has` says whether definition i has a default; `go` is the table of crate `cycles`.
+// byte i of `has` says whether definition i has a default; `go` and `own` are the tables of crate `cycles`.
 use definitions::ExprToken;
 use definitions::Literal;
 use definitions::Primitive;
 use definitions::Token;
 use definitions::TypeToken;
+use definitions::WORKING_TOKENS;
 use grammar::Read;
 use grammar::TypeHead;
 use typedefs::Defined;
 ghost use mathlib.Core.Path.{_≡_};
 ghost use mathlib.Core.List.{List, [], _∷_, map};
 ghost use mathlib.Core.Bool.{_&&_};
-ghost use mathlib.Core.Option.{Option, some};
+ghost use mathlib.Core.Option.{some};
 ghost use Prim.Native.Nat.{ℕ, suc, _≤_, _<_};
 ghost use lib.Dec.{eqb};
 ghost use lib.ListN.{length, getD};
 ghost use Rattle.definitions.specs.Bytes.{tokens};
 ghost use Rattle.definitions.specs.Lists.{join};
-ghost use Rattle.definitions.specs.Tree.{Ty, Declared, TypeDef, Expr, Exprs};
+ghost use Rattle.definitions.specs.Tree.{Ty, Declared, TypeDef, Head, Expr, Exprs};
 ghost use Rattle.definitions.specs.Reading.{got, times};
 ghost use Rattle.definitions.specs.Grammar.{ty, declaration, typeDef};
 ghost use Rattle.definitions.specs.Types.{copies, primitiveDefault, defaultBy, defaultsBy, defaultOf, defaultNamed, default};
 ghost use Rattle.definitions.specs.Output.{literalTokens, fieldTokens, exprTokens, operandTokens};
-ghost use Rattle.typedefs.specs.Table.{Table, Named, nameAt};
+ghost use Rattle.typedefs.specs.Table.{Table, Named};
 ghost use Rattle.cycles.specs.Edges.{bit, inside};
 ghost use Rattle.emit.specs.Out.{out, emits};
-ghost use Rattle.defaults.specs.Has.{isSome, Has, HasBy, known, down, Own, alike};
+ghost use Rattle.defaults.specs.Has.{isSome, DefaultsKnown, alike};
+ghost use Rattle.defaults.specs.Depth.{Enough};
 ghost use Rattle.defaults.specs.Plain.{IsPlain};
+
+// Types gone down to at most: the one at hand and 8 elements, and for each of 32 definitions a field or a target and 8 elements again.
+const DEEPEST: u32 = 9 * 32 + 9;
 
 // A primitive type's default, or another type: many of the former are written without going down the type again.
 enum Plain {
@@ -36,9 +41,9 @@ enum Plain {
 }
 
 // Has the type of this name a default?
-pub fn named_has(values: &[u32], places: &[usize; 32], n: usize, has: &[u8; 32], x: u32) -> bool
+fn named_has(values: &[u32], places: &[usize; 32], n: usize, has: &[u8; 32], x: u32) -> bool
     requires { ⌜ n ≤ 32 ⌝ }
-    ensures { λ r. ⌜ ((types : List TypeDef) (G : ℕ → Option Expr) → Named (now (values .entry)) (now (places .entry)) n types → HasBy types n G (now (has .entry)) → r ≡ isSome (G x)) ⌝ }
+    ensures { λ r. ⌜ ((types : List TypeDef) → Named (now (values .entry)) (now (places .entry)) n types → DefaultsKnown types n n (now (has .entry)) → r ≡ isSome (defaultNamed types n x)) ⌝ }
 {
     let k = typedefs::find_definition(values, places, n, x);
     if n <= k {
@@ -48,7 +53,7 @@ pub fn named_has(values: &[u32], places: &[usize; 32], n: usize, has: &[u8; 32],
 }
 
 // Has a type a default?
-pub fn type_has(
+fn type_has(
     tags: &[u8],
     values: &[u32],
     names: u32,
@@ -60,7 +65,7 @@ pub fn type_has(
 ) -> bool
     requires { ⌜ length (now values) ≡ length (now tags) ⌝ }
     requires { ⌜ n ≤ 32 ⌝ }
-    ensures { λ r. ⌜ ((types : List TypeDef) (G : ℕ → Option Expr) (t : Ty) (q : ℕ) → Table names (tokens (now (tags .entry)) (now (values .entry))) (now (places .entry)) n types → HasBy types n G (now (has .entry)) → ty names depth (tokens (now (tags .entry)) (now (values .entry))) at ≡ got t q → r ≡ isSome (defaultBy G t)) ⌝ }
+    ensures { λ r. ⌜ ((types : List TypeDef) (t : Ty) (q : ℕ) → Table names (tokens (now (tags .entry)) (now (values .entry))) (now (places .entry)) n types → DefaultsKnown types n n (now (has .entry)) → ty names depth (tokens (now (tags .entry)) (now (values .entry))) at ≡ got t q → r ≡ isSome (defaultBy (defaultNamed types n) t)) ⌝ }
 {
     let head = grammar::type_head(tags, values, names, at);
     match head {
@@ -77,131 +82,8 @@ pub fn type_has(
     }
 }
 
-// Have so many fields all a default?
-pub fn fields_have(
-    tags: &[u8],
-    values: &[u32],
-    names: u32,
-    places: &[usize; 32],
-    n: usize,
-    has: &[u8; 32],
-    left: u32,
-    at: usize,
-) -> bool
-    requires { ⌜ length (now values) ≡ length (now tags) ⌝ }
-    requires { ⌜ n ≤ 32 ⌝ }
-    ensures { λ r. ⌜ ((types : List TypeDef) (G : ℕ → Option Expr) (fs : List Declared) (q : ℕ) → Table names (tokens (now (tags .entry)) (now (values .entry))) (now (places .entry)) n types → HasBy types n G (now (has .entry)) → times left (declaration names) (tokens (now (tags .entry)) (now (values .entry))) at ≡ got fs q → r ≡ isSome (defaultsBy G fs)) ⌝ }
-{
-    if left == 0 {
-        return true;
-    }
-    let label = grammar::read_name(tags, values, names, at);
-    match label {
-        Read::Refused(_) => false,
-        Read::Next(first) => {
-            if type_has(tags, values, names, places, n, has, 8, first) {
-                let rest = grammar::read_type(tags, values, names, 8, first);
-                match rest {
-                    Read::Refused(_) => false,
-                    Read::Next(next) => fields_have(
-                        tags,
-                        values,
-                        names,
-                        places,
-                        n,
-                        has,
-                        left - 1,
-                        next,
-                    ),
-                }
-            } else {
-                false
-            }
-        }
-    }
-}
-
-// Has a definition a default?
-pub fn definition_has(
-    tags: &[u8],
-    values: &[u32],
-    names: u32,
-    places: &[usize; 32],
-    n: usize,
-    has: &[u8; 32],
-    at: usize,
-) -> bool
-    requires { ⌜ length (now values) ≡ length (now tags) ⌝ }
-    requires { ⌜ n ≤ 32 ⌝ }
-    ensures { λ r. ⌜ ((types : List TypeDef) (G : ℕ → Option Expr) (d : TypeDef) (q : ℕ) → Table names (tokens (now (tags .entry)) (now (values .entry))) (now (places .entry)) n types → HasBy types n G (now (has .entry)) → typeDef names (tokens (now (tags .entry)) (now (values .entry))) at ≡ got d q → r ≡ isSome (defaultOf G d (d .body))) ⌝ }
-{
-    let found = typedefs::describe(tags, values, names, at);
-    match found {
-        Defined::Enum(_, count, _) => if count == 0 { false } else { true },
-        Defined::Record(_, count, first) => fields_have(
-            tags,
-            values,
-            names,
-            places,
-            n,
-            has,
-            count,
-            first,
-        ),
-        Defined::Alias(_, first) => type_has(tags, values, names, places, n, has, 8, first),
-        Defined::Nothing => false,
-    }
-}
-
-// Has the name of definition i a default, if every name that is defined has one? A byte.
-pub fn own_byte(
-    tags: &[u8],
-    values: &[u32],
-    names: u32,
-    places: &[usize; 32],
-    n: usize,
-    i: usize,
-) -> u8
-    requires { ⌜ length (now values) ≡ length (now tags) ⌝ }
-    requires { ⌜ (n ≤ 32) × (i < n) ⌝ }
-    ensures { λ r. ⌜ ((types : List TypeDef) → Table names (tokens (now (tags .entry)) (now (values .entry))) (now (places .entry)) n types → r ≡ bit (isSome (down types (known types) (nameAt types i)))) ⌝ }
-{
-    let every = [1u8; 32];
-    let x = typedefs::value_at(values, places[i]);
-    let k = typedefs::find_definition(values, places, n, x);
-    if n <= k {
-        return 0;
-    }
-    if definition_has(tags, values, names, places, n, &every, places[k]) {
-        1
-    } else {
-        0
-    }
-}
-
-// Which definitions have a default, if every name that is defined has one: what their tokens have to say, read once.
-pub fn own_bytes(
-    tags: &[u8],
-    values: &[u32],
-    names: u32,
-    places: &[usize; 32],
-    n: usize,
-) -> [u8; 32]
-    requires { ⌜ length (now values) ≡ length (now tags) ⌝ }
-    requires { ⌜ n ≤ 32 ⌝ }
-    ensures { λ r. ⌜ ((types : List TypeDef) → Table names (tokens (now (tags .entry)) (now (values .entry))) (now (places .entry)) n types → Own types n r) ⌝ }
-{
-    let mut own = [0u8; 32];
-    let mut i: usize = 0;
-    while i < n {
-        own[i] = own_byte(tags, values, names, places, n, i);
-        i += 1;
-    }
-    own
-}
-
 // Has the name of definition i a default, one definition further down? A byte.
-pub fn has_byte(go: &[u8; 1024], own: &[u8; 32], n: usize, has: &[u8; 32], i: usize) -> u8
+fn has_byte(go: &[u8; 1024], own: &[u8; 32], n: usize, has: &[u8; 32], i: usize) -> u8
     requires { ⌜ (n ≤ 32) × (i < 32) ⌝ }
     ensures { λ r. ⌜ r ≡ bit (eqb (getD (now (own .entry)) i 0) 1 && inside (now (go .entry)) (now (has .entry)) i n) ⌝ }
 {
@@ -212,7 +94,7 @@ pub fn has_byte(go: &[u8; 1024], own: &[u8; 32], n: usize, has: &[u8; 32], i: us
 }
 
 // Which definitions have a default, one definition further down.
-pub fn has_round(go: &[u8; 1024], own: &[u8; 32], n: usize, has: &[u8; 32]) -> [u8; 32]
+fn has_round(go: &[u8; 1024], own: &[u8; 32], n: usize, has: &[u8; 32]) -> [u8; 32]
     requires { ⌜ n ≤ 32 ⌝ }
     ensures { λ r. ⌜ ((i : ℕ) → i < n → getD r i 0 ≡ bit (eqb (getD (now (own .entry)) i 0) 1 && inside (now (go .entry)) (now (has .entry)) i n)) ⌝ }
 {
@@ -226,7 +108,7 @@ pub fn has_round(go: &[u8; 1024], own: &[u8; 32], n: usize, has: &[u8; 32]) -> [
 }
 
 // Are the first n bytes the same?
-pub fn same_bytes(has: &[u8; 32], more: &[u8; 32], n: usize) -> bool
+fn same_bytes(has: &[u8; 32], more: &[u8; 32], n: usize) -> bool
     requires { ⌜ n ≤ 32 ⌝ }
     ensures { λ r. ⌜ r ≡ alike (now (has .entry)) (now (more .entry)) n ⌝ }
 {
@@ -250,10 +132,11 @@ pub fn has_defaults(
 ) -> [u8; 32]
     requires { ⌜ length (now values) ≡ length (now tags) ⌝ }
     requires { ⌜ n ≤ 32 ⌝ }
-    ensures { λ r. ⌜ ((types : List TypeDef) → Table names (tokens (now (tags .entry)) (now (values .entry))) (now (places .entry)) n types → Has types n n r) ⌝ }
+    ensures { λ r. ⌜ ((types : List TypeDef) → Table names (tokens (now (tags .entry)) (now (values .entry))) (now (places .entry)) n types → DefaultsKnown types n n r) ⌝ }
 {
-    let go = cycles::edges(tags, values, names, places, n);
-    let own = own_bytes(tags, values, names, places, n);
+    let graph = cycles::edges(tags, values, names, places, n);
+    let go = graph.go;
+    let own = graph.own;
     let mut has = [0u8; 32];
     let mut k: usize = 0;
     while k < n {
@@ -290,8 +173,8 @@ pub fn default_literal(p: Primitive) -> Literal
 
 // A constant, with the high word 0 where it has one.
 pub fn emit_literal(
-    otags: &mut [u8; 8192],
-    ovalues: &mut [u32; 8192],
+    otags: &mut [u8; WORKING_TOKENS],
+    ovalues: &mut [u32; WORKING_TOKENS],
     w: usize,
     l: Literal,
 ) -> usize
@@ -307,9 +190,9 @@ pub fn emit_literal(
 }
 
 // So many times a constant.
-pub fn emit_literals(
-    otags: &mut [u8; 8192],
-    ovalues: &mut [u32; 8192],
+fn emit_literals(
+    otags: &mut [u8; WORKING_TOKENS],
+    ovalues: &mut [u32; WORKING_TOKENS],
     w: usize,
     l: Literal,
     m: u32,
@@ -319,7 +202,7 @@ pub fn emit_literals(
     let mut next = w;
     let mut left = m;
     while 0 < left {
-        if next == 8193 {
+        if next == emit::FULL {
             return next;
         }
         next = emit_literal(otags, ovalues, next, l);
@@ -346,8 +229,8 @@ fn literal_at(tags: &[u8], values: &[u32], names: u32, at: usize) -> Plain
 
 // Two tokens.
 pub fn emit_two(
-    otags: &mut [u8; 8192],
-    ovalues: &mut [u32; 8192],
+    otags: &mut [u8; WORKING_TOKENS],
+    ovalues: &mut [u32; WORKING_TOKENS],
     w: usize,
     s: Token,
     t: Token,
@@ -358,27 +241,30 @@ pub fn emit_two(
     emit::emit(otags, ovalues, next, t)
 }
 
-// The default of a type, at most `fuel` definitions down.
-pub fn emit_type(
+// The default of a type. The depth falls at each type that is gone down to: a field's, an element's or a target's.
+fn emit_type(
     tags: &[u8],
     values: &[u32],
     names: u32,
     places: &[usize; 32],
     n: usize,
-    fuel: u32,
     depth: u32,
     at: usize,
-    otags: &mut [u8; 8192],
-    ovalues: &mut [u32; 8192],
+    otags: &mut [u8; WORKING_TOKENS],
+    ovalues: &mut [u32; WORKING_TOKENS],
     w: usize,
 ) -> usize
     requires { ⌜ length (now values) ≡ length (now tags) ⌝ }
-    requires { ⌜ (n ≤ 32) × (depth ≤ 8) ⌝ }
-    ensures { λ r. ⌜ ((types : List TypeDef) (t : Ty) (q : ℕ) (e : Expr) → Table names (tokens (now (tags .entry)) (now (values .entry))) (now (places .entry)) n types → ty names depth (tokens (now (tags .entry)) (now (values .entry))) at ≡ got t q → defaultBy (defaultNamed types fuel) t ≡ some e → out (now (otags .exit)) (now (ovalues .exit)) r ≡ emits (out (now (otags .entry)) (now (ovalues .entry)) w) (exprTokens e)) ⌝ }
+    requires { ⌜ n ≤ 32 ⌝ }
+    ensures { λ r. ⌜ ((types : List TypeDef) (fuel levels : ℕ) (t : Ty) (q : ℕ) (e : Expr) → Table names (tokens (now (tags .entry)) (now (values .entry))) (now (places .entry)) n types → Enough depth fuel (suc levels) → ty names levels (tokens (now (tags .entry)) (now (values .entry))) at ≡ got t q → defaultBy (defaultNamed types fuel) t ≡ some e → out (now (otags .exit)) (now (ovalues .exit)) r ≡ emits (out (now (otags .entry)) (now (ovalues .entry)) w) (exprTokens e)) ⌝ }
 {
-    if w == 8193 {
+    if w == emit::FULL {
         return w;
     }
+    if depth == 0 {
+        return w;
+    }
+    let down = depth - 1;
     let head = grammar::type_head(tags, values, names, at);
     match head {
         TypeHead::Refused(_) => w,
@@ -387,94 +273,96 @@ pub fn emit_type(
                 let l = default_literal(p);
                 emit_literal(otags, ovalues, w, l)
             }
-            TypeToken::Named(x) => if fuel == 0 {
-                w
-            } else {
-                emit_named(
-                    tags,
-                    values,
-                    names,
-                    places,
-                    n,
-                    fuel - 1,
-                    x,
-                    otags,
-                    ovalues,
-                    w,
-                )
-            },
-            TypeToken::Array(m) => if depth == 0 {
-                w
-            } else {
-                let first = emit_two(
-                    otags,
-                    ovalues,
-                    w,
-                    Token::Expression(ExprToken::Array),
-                    Token::Count(m),
-                );
-                let element = literal_at(tags, values, names, next);
-                match element {
-                    Plain::Constant(l) => emit_literals(otags, ovalues, first, l, m),
-                    Plain::Other => emit_copies(
-                        tags,
-                        values,
-                        names,
-                        places,
-                        n,
-                        fuel,
-                        depth - 1,
-                        next,
-                        m,
-                        otags,
-                        ovalues,
-                        first,
-                    ),
-                }
-            },
+            TypeToken::Named(x) => {
+                emit_named(tags, values, names, places, n, down, x, otags, ovalues, w)
+            }
+            TypeToken::Array(m) => emit_array(
+                tags,
+                values,
+                names,
+                places,
+                n,
+                down,
+                next,
+                m,
+                otags,
+                ovalues,
+                w,
+            ),
         },
     }
 }
 
-// So many times the default of a type.
-pub fn emit_copies(
+// An array of so many defaults of a type.
+fn emit_array(
     tags: &[u8],
     values: &[u32],
     names: u32,
     places: &[usize; 32],
     n: usize,
-    fuel: u32,
     depth: u32,
     at: usize,
     m: u32,
-    otags: &mut [u8; 8192],
-    ovalues: &mut [u32; 8192],
+    otags: &mut [u8; WORKING_TOKENS],
+    ovalues: &mut [u32; WORKING_TOKENS],
     w: usize,
 ) -> usize
     requires { ⌜ length (now values) ≡ length (now tags) ⌝ }
-    requires { ⌜ (n ≤ 32) × (depth ≤ 8) ⌝ }
-    ensures { λ r. ⌜ ((types : List TypeDef) (t : Ty) (q : ℕ) (e : Expr) → Table names (tokens (now (tags .entry)) (now (values .entry))) (now (places .entry)) n types → ty names depth (tokens (now (tags .entry)) (now (values .entry))) at ≡ got t q → defaultBy (defaultNamed types fuel) t ≡ some e → out (now (otags .exit)) (now (ovalues .exit)) r ≡ emits (out (now (otags .entry)) (now (ovalues .entry)) w) (join (operandTokens (copies m e)))) ⌝ }
+    requires { ⌜ n ≤ 32 ⌝ }
+    ensures { λ r. ⌜ ((types : List TypeDef) (fuel levels : ℕ) (t : Ty) (q : ℕ) (e : Expr) → Table names (tokens (now (tags .entry)) (now (values .entry))) (now (places .entry)) n types → Enough depth fuel (suc levels) → ty names levels (tokens (now (tags .entry)) (now (values .entry))) at ≡ got t q → defaultBy (defaultNamed types fuel) t ≡ some e → out (now (otags .exit)) (now (ovalues .exit)) r ≡ emits (out (now (otags .entry)) (now (ovalues .entry)) w) (exprTokens (Expr.op Head.array (copies m e)))) ⌝ }
 {
-    if w == 8193 {
+    let first = emit_two(
+        otags,
+        ovalues,
+        w,
+        Token::Expression(ExprToken::Array),
+        Token::Count(m),
+    );
+    let element = literal_at(tags, values, names, at);
+    match element {
+        Plain::Constant(l) => emit_literals(otags, ovalues, first, l, m),
+        Plain::Other => emit_copies(
+            tags,
+            values,
+            names,
+            places,
+            n,
+            depth,
+            at,
+            m,
+            otags,
+            ovalues,
+            first,
+        ),
+    }
+}
+
+// So many times the default of a type.
+fn emit_copies(
+    tags: &[u8],
+    values: &[u32],
+    names: u32,
+    places: &[usize; 32],
+    n: usize,
+    depth: u32,
+    at: usize,
+    m: u32,
+    otags: &mut [u8; WORKING_TOKENS],
+    ovalues: &mut [u32; WORKING_TOKENS],
+    w: usize,
+) -> usize
+    requires { ⌜ length (now values) ≡ length (now tags) ⌝ }
+    requires { ⌜ n ≤ 32 ⌝ }
+    ensures { λ r. ⌜ ((types : List TypeDef) (fuel levels : ℕ) (t : Ty) (q : ℕ) (e : Expr) → Table names (tokens (now (tags .entry)) (now (values .entry))) (now (places .entry)) n types → Enough depth fuel (suc levels) → ty names levels (tokens (now (tags .entry)) (now (values .entry))) at ≡ got t q → defaultBy (defaultNamed types fuel) t ≡ some e → out (now (otags .exit)) (now (ovalues .exit)) r ≡ emits (out (now (otags .entry)) (now (ovalues .entry)) w) (join (operandTokens (copies m e)))) ⌝ }
+{
+    if w == emit::FULL {
         return w;
     }
     if m == 0 {
         return w;
     }
     if m == 1 {
-        return emit_type(
-            tags,
-            values,
-            names,
-            places,
-            n,
-            fuel,
-            depth,
-            at,
-            otags,
-            ovalues,
-            w,
-        );
+        return emit_type(tags, values, names, places, n, depth, at, otags, ovalues, w);
     }
     let half = m / 2;
     let middle = emit_copies(
@@ -483,7 +371,6 @@ pub fn emit_copies(
         names,
         places,
         n,
-        fuel,
         depth,
         at,
         half,
@@ -497,7 +384,6 @@ pub fn emit_copies(
         names,
         places,
         n,
-        fuel,
         depth,
         at,
         m - half,
@@ -507,47 +393,47 @@ pub fn emit_copies(
     )
 }
 
-// The default of a name's type, which is at most `fuel` definitions further down.
-pub fn emit_named(
+// The default of a name's type.
+fn emit_named(
     tags: &[u8],
     values: &[u32],
     names: u32,
     places: &[usize; 32],
     n: usize,
-    fuel: u32,
+    depth: u32,
     x: u32,
-    otags: &mut [u8; 8192],
-    ovalues: &mut [u32; 8192],
+    otags: &mut [u8; WORKING_TOKENS],
+    ovalues: &mut [u32; WORKING_TOKENS],
     w: usize,
 ) -> usize
     requires { ⌜ length (now values) ≡ length (now tags) ⌝ }
     requires { ⌜ n ≤ 32 ⌝ }
-    ensures { λ r. ⌜ ((types : List TypeDef) (e : Expr) → Table names (tokens (now (tags .entry)) (now (values .entry))) (now (places .entry)) n types → defaultNamed types (suc fuel) x ≡ some e → out (now (otags .exit)) (now (ovalues .exit)) r ≡ emits (out (now (otags .entry)) (now (ovalues .entry)) w) (exprTokens e)) ⌝ }
+    ensures { λ r. ⌜ ((types : List TypeDef) (fuel : ℕ) (e : Expr) → Table names (tokens (now (tags .entry)) (now (values .entry))) (now (places .entry)) n types → Enough depth fuel 0 → defaultNamed types fuel x ≡ some e → out (now (otags .exit)) (now (ovalues .exit)) r ≡ emits (out (now (otags .entry)) (now (ovalues .entry)) w) (exprTokens e)) ⌝ }
 {
     let k = typedefs::find_definition(values, places, n, x);
     if n <= k {
         return w;
     }
     let at = places[k];
-    emit_definition(tags, values, names, places, n, fuel, at, otags, ovalues, w)
+    emit_definition(tags, values, names, places, n, depth, at, otags, ovalues, w)
 }
 
 // The default of a definition. A record's carries the record's own name.
-pub fn emit_definition(
+fn emit_definition(
     tags: &[u8],
     values: &[u32],
     names: u32,
     places: &[usize; 32],
     n: usize,
-    fuel: u32,
+    depth: u32,
     at: usize,
-    otags: &mut [u8; 8192],
-    ovalues: &mut [u32; 8192],
+    otags: &mut [u8; WORKING_TOKENS],
+    ovalues: &mut [u32; WORKING_TOKENS],
     w: usize,
 ) -> usize
     requires { ⌜ length (now values) ≡ length (now tags) ⌝ }
     requires { ⌜ n ≤ 32 ⌝ }
-    ensures { λ r. ⌜ ((types : List TypeDef) (d : TypeDef) (q : ℕ) (e : Expr) → Table names (tokens (now (tags .entry)) (now (values .entry))) (now (places .entry)) n types → typeDef names (tokens (now (tags .entry)) (now (values .entry))) at ≡ got d q → defaultOf (defaultNamed types fuel) d (d .body) ≡ some e → out (now (otags .exit)) (now (ovalues .exit)) r ≡ emits (out (now (otags .entry)) (now (ovalues .entry)) w) (exprTokens e)) ⌝ }
+    ensures { λ r. ⌜ ((types : List TypeDef) (fuel : ℕ) (d : TypeDef) (q : ℕ) (e : Expr) → Table names (tokens (now (tags .entry)) (now (values .entry))) (now (places .entry)) n types → Enough depth fuel 9 → typeDef names (tokens (now (tags .entry)) (now (values .entry))) at ≡ got d q → defaultOf (defaultNamed types fuel) d (d .body) ≡ some e → out (now (otags .exit)) (now (ovalues .exit)) r ≡ emits (out (now (otags .entry)) (now (ovalues .entry)) w) (exprTokens e)) ⌝ }
 {
     let found = typedefs::describe(tags, values, names, at);
     match found {
@@ -569,7 +455,7 @@ pub fn emit_definition(
                 names,
                 places,
                 n,
-                fuel,
+                depth,
                 count,
                 first,
                 otags,
@@ -577,42 +463,32 @@ pub fn emit_definition(
                 next,
             )
         }
-        Defined::Alias(_, first) => emit_type(
-            tags,
-            values,
-            names,
-            places,
-            n,
-            fuel,
-            8,
-            first,
-            otags,
-            ovalues,
-            w,
-        ),
+        Defined::Alias(_, to) => {
+            emit_type(tags, values, names, places, n, depth, to, otags, ovalues, w)
+        }
         Defined::Nothing => w,
     }
 }
 
 // So many fields, each with its name and its default.
-pub fn emit_fields(
+fn emit_fields(
     tags: &[u8],
     values: &[u32],
     names: u32,
     places: &[usize; 32],
     n: usize,
-    fuel: u32,
+    depth: u32,
     left: u32,
     at: usize,
-    otags: &mut [u8; 8192],
-    ovalues: &mut [u32; 8192],
+    otags: &mut [u8; WORKING_TOKENS],
+    ovalues: &mut [u32; WORKING_TOKENS],
     w: usize,
 ) -> usize
     requires { ⌜ length (now values) ≡ length (now tags) ⌝ }
     requires { ⌜ n ≤ 32 ⌝ }
-    ensures { λ r. ⌜ ((types : List TypeDef) (fs : List Declared) (q : ℕ) (es : Exprs) → Table names (tokens (now (tags .entry)) (now (values .entry))) (now (places .entry)) n types → times left (declaration names) (tokens (now (tags .entry)) (now (values .entry))) at ≡ got fs q → defaultsBy (defaultNamed types fuel) fs ≡ some es → out (now (otags .exit)) (now (ovalues .exit)) r ≡ emits (out (now (otags .entry)) (now (ovalues .entry)) w) (fieldTokens (map (λ f. f .name) fs) (operandTokens es))) ⌝ }
+    ensures { λ r. ⌜ ((types : List TypeDef) (fuel : ℕ) (fs : List Declared) (q : ℕ) (es : Exprs) → Table names (tokens (now (tags .entry)) (now (values .entry))) (now (places .entry)) n types → Enough depth fuel 9 → times left (declaration names) (tokens (now (tags .entry)) (now (values .entry))) at ≡ got fs q → defaultsBy (defaultNamed types fuel) fs ≡ some es → out (now (otags .exit)) (now (ovalues .exit)) r ≡ emits (out (now (otags .entry)) (now (ovalues .entry)) w) (fieldTokens (map (λ f. f .name) fs) (operandTokens es))) ⌝ }
 {
-    if w == 8193 {
+    if w == emit::FULL {
         return w;
     }
     if left == 0 {
@@ -634,8 +510,7 @@ pub fn emit_fields(
                         names,
                         places,
                         n,
-                        fuel,
-                        8,
+                        depth,
                         first,
                         otags,
                         ovalues,
@@ -647,7 +522,7 @@ pub fn emit_fields(
                         names,
                         places,
                         n,
-                        fuel,
+                        depth,
                         left - 1,
                         next,
                         otags,
@@ -668,23 +543,21 @@ pub fn emit_default(
     places: &[usize; 32],
     n: usize,
     at: usize,
-    otags: &mut [u8; 8192],
-    ovalues: &mut [u32; 8192],
+    otags: &mut [u8; WORKING_TOKENS],
+    ovalues: &mut [u32; WORKING_TOKENS],
     w: usize,
 ) -> usize
     requires { ⌜ length (now values) ≡ length (now tags) ⌝ }
     requires { ⌜ n ≤ 32 ⌝ }
     ensures { λ r. ⌜ ((types : List TypeDef) (t : Ty) (q : ℕ) (e : Expr) → Table names (tokens (now (tags .entry)) (now (values .entry))) (now (places .entry)) n types → ty names 8 (tokens (now (tags .entry)) (now (values .entry))) at ≡ got t q → default types t ≡ some e → out (now (otags .exit)) (now (ovalues .exit)) r ≡ emits (out (now (otags .entry)) (now (ovalues .entry)) w) (exprTokens e)) ⌝ }
 {
-    let fuel = n as u32;
     emit_type(
         tags,
         values,
         names,
         places,
         n,
-        fuel,
-        8,
+        DEEPEST,
         at,
         otags,
         ovalues,
@@ -704,7 +577,7 @@ pub fn type_has_default(
 ) -> bool
     requires { ⌜ length (now values) ≡ length (now tags) ⌝ }
     requires { ⌜ n ≤ 32 ⌝ }
-    ensures { λ r. ⌜ ((types : List TypeDef) (t : Ty) (q : ℕ) → Table names (tokens (now (tags .entry)) (now (values .entry))) (now (places .entry)) n types → Has types n n (now (has .entry)) → ty names 8 (tokens (now (tags .entry)) (now (values .entry))) at ≡ got t q → r ≡ isSome (default types t)) ⌝ }
+    ensures { λ r. ⌜ ((types : List TypeDef) (t : Ty) (q : ℕ) → Table names (tokens (now (tags .entry)) (now (values .entry))) (now (places .entry)) n types → DefaultsKnown types n n (now (has .entry)) → ty names 8 (tokens (now (tags .entry)) (now (values .entry))) at ≡ got t q → r ≡ isSome (default types t)) ⌝ }
 {
     type_has(tags, values, names, places, n, has, 8, at)
 }

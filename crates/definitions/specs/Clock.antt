@@ -7,11 +7,11 @@ use Rattle.definitions.specs.declared.Test.{Test}
 use Rattle.definitions.specs.declared.Condition.{Condition}
 use Rattle.definitions.specs.Lists.{Letters}
 
-infixl 60 _/_
+infixl 60 _↓_
 -- a clock: base, or a condition over a parent clock
 pub data Clock : Type 0 where
   base : Clock
-  _/_ : Clock → Condition → Clock
+  _↓_ : Clock → Condition → Clock
 
 -- "clocks eight conditions"
 abbrev pub deepest : ℕ
@@ -20,12 +20,12 @@ deepest = 8
 -- the number of a clock's conditions
 abbrev pub depth : Clock → ℕ
 depth base = 0
-depth (c / k) = suc (depth c)
+depth (c ↓ k) = suc (depth c)
 
 -- the clock that the last condition stands over; base has none, and is its own
 abbrev pub parent : Clock → Clock
 parent base = base
-parent (c / k) = c
+parent (c ↓ k) = c
 
 -- a name that is on, that is not
 abbrev pub isOn : ℕ → Condition
@@ -48,24 +48,24 @@ sameCondition k l = eqb (k .name) (l .name) && sameTest (k .test) (l .test)
 -- the same conditions in the same order
 abbrev pub sameClock : Clock → Clock → Bool
 sameClock base base = true
-sameClock base (d / l) = false
-sameClock (c / k) base = false
-sameClock (c / k) (d / l) = sameCondition k l && sameClock c d
+sameClock base (d ↓ l) = false
+sameClock (c ↓ k) base = false
+sameClock (c ↓ k) (d ↓ l) = sameCondition k l && sameClock c d
 
 -- is it base?
 abbrev pub isBase : Clock → Bool
 isBase base = true
-isBase (c / k) = false
+isBase (c ↓ k) = false
 
 -- is the clock's last condition this one?
 abbrev pub endsIn : Condition → Clock → Bool
 endsIn k base = false
-endsIn k (c / l) = sameCondition k l
+endsIn k (c ↓ l) = sameCondition k l
 
 -- the conditions from base outward
 unfoldable pub conditions : Clock → List Condition
 conditions base = []
-conditions (c / k) = conditions c ++ (k ∷ [])
+conditions (c ↓ k) = conditions c ++ (k ∷ [])
 
 -- the first order, and where it says equal, the second
 abbrev pub andThen : Ordering → Ordering → Ordering
@@ -93,7 +93,7 @@ module _ (letters : ℕ → Letters) where
   abbrev pub conditionOrder : Condition → Condition → Ordering
   conditionOrder k l = andThen (lexical compare (letters (k .name)) (letters (l .name))) (testOrder (k .test) (l .test))
 
-  -- "condition by condition; a parent before its children"
+  -- "condition by condition .. a parent before its children"
   unfoldable pub chainOrder : Clock → Clock → Ordering
   unfolding lexical conditions
   chainOrder c d = lexical conditionOrder (conditions c) (conditions d)

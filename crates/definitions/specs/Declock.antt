@@ -14,7 +14,7 @@ use Rattle.definitions.specs.declared.Test.{Test}
 use Rattle.definitions.specs.declared.Condition.{Condition}
 use Rattle.definitions.specs.Lists.{choose, any, find, placeBy, numbered, orElse, Letters}
 use Rattle.definitions.specs.Tree.{Ty, Declared, TypeDef, Head, Expr, Exprs, Equation, Node}
-use Rattle.definitions.specs.Clock.{Clock, base, _/_, parent, isOn, isNot, sameClock, isBase, inChainOrder}
+use Rattle.definitions.specs.Clock.{Clock, base, _↓_, parent, isOn, isNot, sameClock, isBase, inChainOrder}
 use Rattle.definitions.specs.Types.{default}
 use Rattle.definitions.specs.InferClocks.{Fault, undeclared, noDefault, noOutputDefault, notSingleCall, preUntyped, NodeFault, Clocked}
 
@@ -56,7 +56,7 @@ formType (Head.map f k) t = none
 formType (Head.fold f k) t = none
 
 -- "only declared names, constants, and when, `pre`, `->` or, for arrays, index over such have one
--- (Int gives Int32, Float Float64; `->` its right's, else its left's)"
+-- (Int gives Int32, Float Float64; `->` its right's, else its left's .."
 unfoldable mutual
   unfolding lastType
 
@@ -126,7 +126,7 @@ add c cs = choose (any (sameClock c) cs) cs (cs ++ (c ∷ []))
 -- a clock's flag needs its parents' first
 unfoldable pub addWithParents : Clock → List Clock → List Clock
 addWithParents base cs = cs
-addWithParents (c / k) cs = add (c / k) (addWithParents c cs)
+addWithParents (c ↓ k) cs = add (c ↓ k) (addWithParents c cs)
 
 -- the three kinds of new names
 pub data Stem : Type 0 where
@@ -277,7 +277,7 @@ module _ (types : List TypeDef) (nodes : List Node) (new : Stem → ℕ → ℕ)
       rewrite c (Expr.arrow a b) = rewrite c a >>= λ d. rewrite c b >>= λ e. arrowOn c d e
       rewrite c (Expr.call f es) = rewrites c es >>= λ fs. callOn c f fs
       rewrite c (Expr.when k e) = rewrite (parent c) e
-      rewrite c (Expr.merge x a b) = rewrite (c / isOn x) a >>= λ d. rewrite (c / isNot x) b >>= λ e. return (ifOf (Expr.var x) d e)
+      rewrite c (Expr.merge x a b) = rewrite (c ↓ isOn x) a >>= λ d. rewrite (c ↓ isNot x) b >>= λ e. return (ifOf (Expr.var x) d e)
 
       pub rewrites : Clock → Exprs → Rewriter Exprs
       rewrites c Exprs.end = return Exprs.end
@@ -335,7 +335,7 @@ module _ (letters : ℕ → Letters) (new : Stem → ℕ → ℕ) (s : State) wh
   -- a clock's condition, and its parent's flag where the parent is not base; base, which has no flag, is always on
   abbrev pub activation : Clock → Expr
   activation base = trueOf
-  activation (c / k) = choose (isBase c) (conditionExpr k) (andOf (flagOf c) (conditionExpr k))
+  activation (c ↓ k) = choose (isBase c) (conditionExpr k) (andOf (flagOf c) (conditionExpr k))
 
   -- true until the clock has been on at a tick before
   abbrev pub firstTick : Clock → Expr

@@ -8,7 +8,7 @@ use lib.ListN.{length}
 use Rattle.definitions.specs.declared.Condition.{Condition}
 use Rattle.definitions.specs.Lists.{choose, any, among, join, numbered, Letters}
 use Rattle.definitions.specs.Tree.{Declared, Head, Expr, Exprs, Equation, Node}
-use Rattle.definitions.specs.Clock.{Clock, base, _/_, deepest, depth, parent, isOn, isNot, sameClock, isBase, endsIn, inChainOrder}
+use Rattle.definitions.specs.Clock.{Clock, base, _↓_, deepest, depth, parent, isOn, isNot, sameClock, isBase, endsIn, inChainOrder}
 
 -- what is formed, unless a clock of more than eight conditions is: refusal 9
 pub data Formed (A : Type 0) : Type 0 where
@@ -50,14 +50,14 @@ formed (some c) or b = formed (some c)
 abbrev pub conditionOver : Condition → Natural → Natural
 conditionOver k deep = deep
 conditionOver k (formed none) = formed none
-conditionOver k (formed (some c)) = choose (ltb (depth c) deepest) (formed (some (c / k))) deep
+conditionOver k (formed (some c)) = choose (ltb (depth c) deepest) (formed (some (c ↓ k))) deep
 
 -- the parent of a clock that has a condition, else none
 abbrev pub parentOf : Natural → Natural
 parentOf deep = deep
 parentOf (formed none) = formed none
 parentOf (formed (some base)) = formed none
-parentOf (formed (some (c / k))) = formed (some c)
+parentOf (formed (some (c ↓ k))) = formed (some c)
 
 -- "Natural clock: the first operand, left to right, that has one, the rest unread.
 -- A when: its condition over its operand's natural clock, else its clock name's, else base.
@@ -180,7 +180,7 @@ pub data Finding : Type 0 where
 
 -- what is found one condition down
 abbrev pub oneDown : Clock → Condition → (Clock → List Finding) → List Finding
-oneDown c k f = elim (ltb (depth c) deepest) [ true ↦ f (c / k) | false ↦ tooDeep ∷ [] ]
+oneDown c k f = elim (ltb (depth c) deepest) [ true ↦ f (c ↓ k) | false ↦ tooDeep ∷ [] ]
 
 -- what is found on a natural clock, or base
 abbrev pub onNatural : Natural → (Clock → List Finding) → List Finding

@@ -120,7 +120,7 @@ equationTokens q = Token.Count (length (q .left)) ∷ (nameTokens (q .left) ++ e
 abbrev pub probeTokens : Probe → List Token
 probeTokens p = Token.Name (p .label) ∷ Token.Name (p .name) ∷ []
 
--- a node: "kind; inputs, outputs, locals; equations; probes"
+-- a node: "kind; inputs, outputs, locals .. equations .. probes"
 unfoldable pub nodeTokens : Node → List Token
 unfolding declaredTokens equationTokens
 nodeTokens n =

@@ -75,7 +75,7 @@ must false r = refused r
 abbrev pub lending : ℕ → ℕ → Answer (Unit {0})
 lending needed lent = must (leb needed lent) (Refusal.Lent needed)
 
--- what the caller's bytes are afterwards: "An accepted output fills its first bytes, the rest unchanged"; "a refusal writes no byte of output"
+-- what the caller's bytes are afterwards: "An accepted output fills its first bytes, the rest unchanged"; "A refusal .. writes no byte of output."
 abbrev pub bytesAfter : Answer (List ℕ) → List ℕ → List ℕ
 bytesAfter (accepted out) lent = over out lent
 bytesAfter (refused r) lent = lent

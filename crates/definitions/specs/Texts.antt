@@ -7,7 +7,7 @@ use lib.ListN.{length}
 use Rattle.definitions.specs.declared.Test.{Test}
 use Rattle.definitions.specs.declared.Condition.{Condition}
 use Rattle.definitions.specs.Lists.{choose, join, numbered, Letters, bytes, decimal}
-use Rattle.definitions.specs.Clock.{Clock, base, _/_, conditions}
+use Rattle.definitions.specs.Clock.{Clock, base, _↓_, conditions}
 use Rattle.definitions.specs.InferClocks.{Fault, leftElsewhere, usedElsewhere, whenElsewhere, clockNameElsewhere, undeclared, noDefault, noOutputDefault, notSingleCall, preUntyped, faultNumber, NodeFault}
 
 -- letters between, before each item but the first
@@ -39,7 +39,7 @@ module _ (letters : ℕ → Letters) where
   unfoldable pub clockText : Clock → Letters
   unfolding bytes conditions separated
   clockText base = bytes "the base clock"
-  clockText (c / k) = bytes "clock `" ++ (separated (bytes " ") (map conditionText (conditions (c / k))) ++ bytes "`")
+  clockText (c ↓ k) = bytes "clock `" ++ (separated (bytes " ") (map conditionText (conditions (c ↓ k))) ++ bytes "`")
 
   -- the text of a fault
   unfoldable pub faultText : Fault → Letters
@@ -65,9 +65,9 @@ module _ (letters : ℕ → Letters) where
   unfoldable pub clockKey : Clock → Letters
   unfolding bytes
   clockKey base = bytes "base"
-  clockKey (c / k) = clockKey c ++ (bytes "/" ++ (letters (k .name) ++ testSign (k .test)))
+  clockKey (c ↓ k) = clockKey c ++ (bytes "/" ++ (letters (k .name) ++ testSign (k .test)))
 
-  -- "prints name, equations, passes, chains; each equation and its clock; the chains"
+  -- "prints name, equations, passes, chains; each equation and its clock .. the chains"
   unfoldable pub listing : ℕ → ℕ → List Clock → List Clock → Letters
   unfolding bytes decimal clockKey
   listing name passes equations chains =

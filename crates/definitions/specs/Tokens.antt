@@ -16,7 +16,7 @@ use Rattle.definitions.specs.declared.ExprToken.{ExprToken}
 use Rattle.definitions.specs.declared.Token.{Token}
 use Rattle.definitions.specs.Lists.{choose}
 
--- "two parallel arrays: T tags and T values": a place of both
+-- "two parallel arrays: T tags .. and T values": a place of both
 pub record TagValue : Type 0 where
   pub tag : ℕ
   pub value : ℕ

@@ -69,7 +69,7 @@ pub record Probe : Type 0 where
   pub label : ℕ
   pub name : ℕ
 
--- "Node: kind; inputs, outputs, locals; equations; probes"
+-- "Node: kind; inputs, outputs, locals .. equations .. probes"
 pub record Node : Type 0 where
   pub name : ℕ
   pub kind : NodeKind

@@ -1,6 +1,26 @@
 // Document 01 as definitions: they stand in specs/, in the order in which a person reads them.
 // Here are the types that definitions and code share. A number in brackets is a word of the sheet; "id" is a name's place.
 
+// Limits of document 01, and the sizes of the tables that follow from them.
+// "Limits: M 1,024"
+pub const MOST_NAMES: usize = 1024;
+// "16 nodes"
+pub const MOST_NODES: usize = 16;
+// "tokens go into working arrays of 8,192"
+pub const WORKING_TOKENS: usize = 8192;
+// A table of a clock for each name: seventeen words a clock (crate `flat`).
+pub const CLOCK_TABLE: usize = 17408;
+// A table of a finding for each token: four words and two clocks a finding (crate `findings`).
+pub const FINDING_TABLE: usize = 155648;
+// A table of a clock for each token.
+pub const CHAIN_TABLE: usize = 69632;
+// A table of a fault record for each token: three words a record.
+pub const FAULT_TABLE: usize = 12288;
+// The same tables for sheets of at most 256 names and tokens.
+pub const SMALL_CLOCK_TABLE: usize = 4352;
+
+pub const SMALL_FINDING_TABLE: usize = 9728;
+
 // "55 unary(0, 1)": the Rust's order.
 pub enum UnaryOp {
     Not,
@@ -62,7 +82,7 @@ pub enum NodeKind {
     Imported,
 }
 
-// The first token of a type: "20 to 31 the types Bool to Char, 32 array(length), 33 named(id)".
+// The first token of a type: "20 to 31 the types Bool to Char .. 32 array(length), 33 named(id)".
 pub enum TypeToken {
     Basic(Primitive),
     Array(u32),

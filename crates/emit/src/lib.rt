@@ -1,5 +1,6 @@
-// Writing the output's tokens: arrays of 8,192, of which `at` are written. Past them nothing is written, and the place is 8,193.
+// Writing the output's tokens: arrays of 8,192, of which `at` are written. Past them nothing is written, and the place is `FULL`.
 use definitions::Token;
+use definitions::WORKING_TOKENS;
 ghost use mathlib.Core.Path.{_≡_};
 ghost use mathlib.Core.List.{[], _∷_};
 ghost use Prim.Native.Nat.{_-_, _≤_};
@@ -8,10 +9,13 @@ ghost use Rattle.definitions.specs.Bytes.{tokens};
 ghost use Rattle.definitions.specs.Tokens.{tagValue};
 ghost use Rattle.emit.specs.Out.{out, puts, emits};
 
+// The place past what the arrays hold.
+pub const FULL: usize = 8193;
+
 // A tag and a value.
-pub fn put(
-    otags: &mut [u8; 8192],
-    ovalues: &mut [u32; 8192],
+fn put(
+    otags: &mut [u8; WORKING_TOKENS],
+    ovalues: &mut [u32; WORKING_TOKENS],
     at: usize,
     tag: u8,
     value: u32,
@@ -23,12 +27,17 @@ pub fn put(
         ovalues[at] = value;
         at + 1
     } else {
-        8193
+        FULL
     }
 }
 
 // A token.
-pub fn emit(otags: &mut [u8; 8192], ovalues: &mut [u32; 8192], at: usize, t: Token) -> usize
+pub fn emit(
+    otags: &mut [u8; WORKING_TOKENS],
+    ovalues: &mut [u32; WORKING_TOKENS],
+    at: usize,
+    t: Token,
+) -> usize
     ensures { λ r. ⌜ out (now (otags .exit)) (now (ovalues .exit)) r ≡ emits (out (now (otags .entry)) (now (ovalues .entry)) at) (t ∷ []) ⌝ }
 {
     let tag = tokens::tag_of(t);
@@ -38,8 +47,8 @@ pub fn emit(otags: &mut [u8; 8192], ovalues: &mut [u32; 8192], at: usize, t: Tok
 
 // The source's tokens from one place to another, as they stand.
 pub fn emit_copy(
-    otags: &mut [u8; 8192],
-    ovalues: &mut [u32; 8192],
+    otags: &mut [u8; WORKING_TOKENS],
+    ovalues: &mut [u32; WORKING_TOKENS],
     at: usize,
     tags: &[u8],
     values: &[u32],

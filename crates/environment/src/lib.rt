@@ -10,7 +10,7 @@ ghost use Rattle.environment.specs.Environment.{envAt, Assigned, Cleared
 pub fn lookup(table: &[u32], x: u32) -> Natural
     ensures { λ r. ⌜ naturalOf r ≡ formed (envAt (now (table .entry)) x) ⌝ }
 {
-    let b = 17 * (x as usize);
+    let b = flat::WORDS * (x as usize);
     let w = flat::word_at(table, b);
     if w == 0 {
         return clock::free();
@@ -23,8 +23,8 @@ pub fn lookup(table: &[u32], x: u32) -> Natural
 pub fn assign(table: &mut [u32], x: u32, c: Clock)
     ensures { λ r. ⌜ Assigned (now (table .entry)) (now (table .exit)) x (valueOf c) ⌝ }
 {
-    let b = 17 * (x as usize);
-    if table.len() < b + 17 {
+    let b = flat::WORDS * (x as usize);
+    if table.len() < b + flat::WORDS {
         return;
     }
     flat::store(table, b, c);
@@ -35,12 +35,12 @@ pub fn clear(table: &mut [u32], m: u32)
     ensures { λ r. ⌜ Cleared (now (table .entry)) (now (table .exit)) m ⌝ }
 {
     let n = m as usize;
-    if table.len() < 17 * n {
+    if table.len() < flat::WORDS * n {
         return;
     }
     let mut x: usize = 0;
     while x < n {
-        table[17 * x] = 0;
+        table[flat::WORDS * x] = 0;
         x += 1;
     }
 }

@@ -26,7 +26,7 @@ use Rattle.emit.specs.Out.{Out, emits}
 use Rattle.emit.proofs.Laws.{emits-append, emits-none}
 use Rattle.openings.specs.declared.Mode.{Mode}
 use Rattle.openings.specs.Shown.{told}
-use Rattle.expressions.specs.declared.Walked.{Walked}
+use Rattle.expressions.specs.declared.WrittenTo.{WrittenTo}
 use Rattle.expressions.specs.Made.{mostHolds}
 use Rattle.expressions.proofs.Numbered.{after-is, equations-on, declarations-on}
 use Rattle.equations.specs.Old.{ShowsOne, Shows, FineEquation}
@@ -196,7 +196,7 @@ module _ (types : List TypeDef) (nodes : List Node) (node : Node) (ids : Ids) wh
               }
 
       -- with the first written, the others are left
-      others-left : (k : Next) (o′ : Out) (r : Walked) → ShowsOne m ids n (k .first .equation .left) (one n (k .first)) (k .place′) o o′ r → (less : ℕ) → less ≡ count - 1 → Left M ts clocks m less (r .end) q (r .holds) o′ n₀ all o₀
+      others-left : (k : Next) (o′ : Out) (r : WrittenTo) → ShowsOne m ids n (k .first .equation .left) (one n (k .first)) (k .place′) o o′ r → (less : ℕ) → less ≡ count - 1 → Left M ts clocks m less (r .end) q (r .holds) o′ n₀ all o₀
       others-left k o′ r s less i =
           record {
             rest = k .others;
@@ -212,7 +212,7 @@ module _ (types : List TypeDef) (nodes : List Node) (node : Node) (ids : Ids) wh
             last = rw (s .holds) (sym (first-after n (k .first) (k .behind)) ∙ (ap (λ (l : List Clocked). old n l .after) (sym (k .split)) ∙ h .last));
           }
 
-      pub left-step : (o′ : Out) (r : Walked) → (count ≡ 0 → ⊥)
+      pub left-step : (o′ : Out) (r : WrittenTo) → (count ≡ 0 → ⊥)
           → ((e : Equation) (c : Clock) (s : ℕ) → FineEquation types nodes node ids M ts clocks n place e c s → ShowsOne m ids n (e .left) (rightYield types nodes node ids c (e .left) n (e .right)) s o o′ r)
           → (less : ℕ) → less ≡ count - 1 → Left M ts clocks m less (r .end) q (r .holds) o′ n₀ all o₀
       left-step o′ r some-left write less i =
@@ -220,7 +220,7 @@ module _ (types : List TypeDef) (nodes : List Node) (node : Node) (ids : Ids) wh
           others-left k o′ r (write (k .first .equation) (k .first .clock) (k .place′) (k .fine)) less i
 
       -- none is left
-      pub left-end : count ≡ 0 → (r : Walked) → r .holds ≡ n → r .end ≡ place → Shows m ids n₀ (old n₀ all) q o₀ o r
+      pub left-end : count ≡ 0 → (r : WrittenTo) → r .holds ≡ n → r .end ≡ place → Shows m ids n₀ (old n₀ all) q o₀ o r
       unfolding oldYield
       left-end z r i j =
           let t = times-nil (equation M) ts count place (h .rest) q z (h .items) in

@@ -29,7 +29,7 @@ use Rattle.openings.specs.declared.Mode.{Mode}
 use Rattle.openings.specs.Shown.{inTree, told}
 use Rattle.openings.specs.Planned.{twoMore}
 use Rattle.openings.proofs.Laws.{emits-then}
-use Rattle.expressions.specs.declared.Walked.{Walked}
+use Rattle.expressions.specs.declared.WrittenTo.{WrittenTo}
 use Rattle.expressions.specs.Made.{Made, Fine}
 use Rattle.frames.specs.declared.Frame.{Frame}
 use Rattle.frames.specs.Framed.{frameOf, leadIn, LeadOut, Framed}
@@ -79,7 +79,7 @@ module _ (types : List TypeDef) (nodes : List Node) (node : Node) (ids : Ids) (M
           (right-framed types nodes node ids c xs n e (fine .faultless))
           )
 
-      pub right-made : (m : Mode) (o o₁ o₂ o₃ : Out) (r r′ : Walked) → o₁ ≡ emits o (inTree m (leadIn (j .condact) (twoMore (left .count)) f)) → Made m ids n (yield types nodes node ids c n e) q o₁ o₂ r
+      pub right-made : (m : Mode) (o o₁ o₂ o₃ : Out) (r r′ : WrittenTo) → o₁ ≡ emits o (inTree m (leadIn (j .condact) (twoMore (left .count)) f)) → Made m ids n (yield types nodes node ids c n e) q o₁ o₂ r
           → ((l : List Token) → LeadOut types nodes node f xs l → o₃ ≡ emits o₂ (inTree m l)) → r′ .holds ≡ r .holds → r′ .end ≡ r .end → Made m ids n (rightYield types nodes node ids c xs n e) q o o₃ r′
       unfolding rightYield
       right-made m o o₁ o₂ o₃ r r′ before made behind same-holds same-end =
@@ -118,7 +118,7 @@ module _ (types : List TypeDef) (nodes : List Node) (node : Node) (ids : Ids) (M
             few = rw on (fine .few);
           }
 
-      equation-made : (m : Mode) (o o₁ o₂ : Out) (r : Walked) → o₁ ≡ emits o (inTree m (Token.Count (length (e .left)) ∷ nameTokens (e .left))) → Made m ids n (rightYield types nodes node ids v (e .left) n (e .right)) q o₁ o₂ r
+      equation-made : (m : Mode) (o o₁ o₂ : Out) (r : WrittenTo) → o₁ ≡ emits o (inTree m (Token.Count (length (e .left)) ∷ nameTokens (e .left))) → Made m ids n (rightYield types nodes node ids v (e .left) n (e .right)) q o₁ o₂ r
           → ShowsOne m ids n (e .left) (rightYield types nodes node ids c (e .left) n (e .right)) q o o₂ r
       unfolding equationTokens
       equation-made m o o₁ o₂ r heading made =
@@ -130,7 +130,7 @@ module _ (types : List TypeDef) (nodes : List Node) (node : Node) (ids : Ids) (M
           }
 
     -- by what the code found: where its parts stand, and its clock
-    pub equation-done : (l : EquationLayout) → LaidEquation M ts e q l → (tree M ts (l .right) ≡ got (e .right) q → v ≡ orBase (fine .known)) → (m : Mode) (o o₁ o₂ : Out) (r : Walked)
+    pub equation-done : (l : EquationLayout) → LaidEquation M ts e q l → (tree M ts (l .right) ≡ got (e .right) q → v ≡ orBase (fine .known)) → (m : Mode) (o o₁ o₂ : Out) (r : WrittenTo)
         → (Spans (name M) ts (e .left) (l .left) → o₁ ≡ emits o (inTree m (Token.Count (length (e .left)) ∷ nameTokens (e .left))))
         → (FineRight types nodes node ids M ts v n (l .left) (e .left) (l .right) (e .right) q → Made m ids n (rightYield types nodes node ids v (e .left) n (e .right)) q o₁ o₂ r)
         → ShowsOne m ids n (e .left) (rightYield types nodes node ids c (e .left) n (e .right)) q o o₂ r

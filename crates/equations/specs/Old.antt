@@ -24,17 +24,17 @@ use Rattle.stateless.specs.Sheets.{withinAll}
 use Rattle.emit.specs.Out.{Out, emits}
 use Rattle.openings.specs.declared.Mode.{Mode}
 use Rattle.openings.specs.Shown.{told}
-use Rattle.expressions.specs.declared.Walked.{Walked}
+use Rattle.expressions.specs.declared.WrittenTo.{WrittenTo}
 use Rattle.expressions.specs.Made.{mostHolds}
 
 -- o′ is o with the equation of these left names whose right side this is, or with what its holds show; so many holds there are then, and there it ends
-pub record ShowsOne (m : Mode) (ids : Ids) (n : ℕ) (xs : List ℕ) (y : Yield Expr) (q : ℕ) (o o′ : Out) (r : Walked) : Type 0 where
+pub record ShowsOne (m : Mode) (ids : Ids) (n : ℕ) (xs : List ℕ) (y : Yield Expr) (q : ℕ) (o o′ : Out) (r : WrittenTo) : Type 0 where
   pub written : o′ ≡ emits o (told m (equationTokens (record { left = xs; right = y .value })) ids n (y .holds))
   pub holds : r .holds ≡ y .after
   pub end : r .end ≡ q
 
 -- the same of equations
-pub record Shows (m : Mode) (ids : Ids) (n : ℕ) (y : Yield (List Equation)) (q : ℕ) (o o′ : Out) (r : Walked) : Type 0 where
+pub record Shows (m : Mode) (ids : Ids) (n : ℕ) (y : Yield (List Equation)) (q : ℕ) (o o′ : Out) (r : WrittenTo) : Type 0 where
   pub written : o′ ≡ emits o (told m (join (map equationTokens (y .value))) ids n (y .holds))
   pub holds : r .holds ≡ y .after
   pub end : r .end ≡ q

@@ -4,7 +4,9 @@
 // ids are in `flag_ids` and `first_ids`; `hold_ids` has the ids of holds by their numbers, `env` the names' clocks. `otags` and
 // `ovalues` are the output's tokens, of which w are written.
 use clock::Clock;
-use expressions::Walked;
+use definitions::MOST_NODES;
+use definitions::WORKING_TOKENS;
+use expressions::WrittenTo;
 use layout::NodeLayout;
 use layout::Span;
 use openings::Mode;
@@ -31,13 +33,13 @@ ghost use Rattle.expressions.specs.Made.{Made};
 ghost use Rattle.equations.specs.Old.{ShowsOne, Shows, FineRight, FineEquation, FineOld};
 
 // The left names of an equation behind their count, where the equation itself is written.
-pub fn put_left(
+fn put_left(
     tags: &[u8],
     values: &[u32],
     names: u32,
     left: Span,
-    otags: &mut [u8; 8192],
-    ovalues: &mut [u32; 8192],
+    otags: &mut [u8; WORKING_TOKENS],
+    ovalues: &mut [u32; WORKING_TOKENS],
     mode: Mode,
     w: usize,
 ) -> usize
@@ -52,18 +54,18 @@ pub fn put_left(
 }
 
 // The right side that stands there, of these left names, on its clock, n holds being there before.
-pub fn right(
+fn right(
     tags: &[u8],
     values: &[u32],
-    places: &[usize; 16],
+    places: &[usize; MOST_NODES],
     type_places: &[usize; 32],
     flags: &[u32],
     firsts: &[u32],
     flag_ids: &[u32],
     first_ids: &[u32],
     hold_ids: &[u32],
-    otags: &mut [u8; 8192],
-    ovalues: &mut [u32; 8192],
+    otags: &mut [u8; WORKING_TOKENS],
+    ovalues: &mut [u32; WORKING_TOKENS],
     k: Sizes,
     layout: NodeLayout,
     mode: Mode,
@@ -72,7 +74,7 @@ pub fn right(
     w: usize,
     n: u32,
     at: usize,
-) -> Walked
+) -> WrittenTo
     requires { ⌜ length (now values) ≡ length (now tags) ⌝ }
     requires { ⌜ (k .nodes ≤ 16) × (k .types ≤ 32) ⌝ }
     ensures { λ r. ⌜ ((g : Grounds (now (tags .entry)) (now (values .entry)) (now (places .entry)) (now («type_places» .entry)) (now (flags .entry)) (now (firsts .entry)) k layout) (ids : Ids) (xs : List ℕ) (e : Expr) (q : ℕ) → ids ≡ idsOf (now (flags .entry)) (now (firsts .entry)) (now («flag_ids» .entry)) (now («first_ids» .entry)) (now («hold_ids» .entry)) k → FineRight (g .types) (g .nodes) (g .node) ids (k .names) (tokens (now (tags .entry)) (now (values .entry))) (valueOf c) n left xs at e q → Made mode ids n (rightYield (g .types) (g .nodes) (g .node) ids (valueOf c) xs n e) q (out (now (otags .entry)) (now (ovalues .entry)) w) (out (now (otags .exit)) (now (ovalues .exit)) (r .next)) r) ⌝ }
@@ -117,7 +119,7 @@ pub fn right(
         ovalues,
         inner,
     );
-    Walked {
+    WrittenTo {
         next: b,
         holds: holds,
         end: end,
@@ -125,10 +127,10 @@ pub fn right(
 }
 
 // The equation that stands there, n holds being there before.
-pub fn one_equation(
+fn one_equation(
     tags: &[u8],
     values: &[u32],
-    places: &[usize; 16],
+    places: &[usize; MOST_NODES],
     type_places: &[usize; 32],
     flags: &[u32],
     firsts: &[u32],
@@ -136,15 +138,15 @@ pub fn one_equation(
     first_ids: &[u32],
     hold_ids: &[u32],
     env: &[u32],
-    otags: &mut [u8; 8192],
-    ovalues: &mut [u32; 8192],
+    otags: &mut [u8; WORKING_TOKENS],
+    ovalues: &mut [u32; WORKING_TOKENS],
     k: Sizes,
     layout: NodeLayout,
     mode: Mode,
     w: usize,
     n: u32,
     at: usize,
-) -> Walked
+) -> WrittenTo
     requires { ⌜ length (now values) ≡ length (now tags) ⌝ }
     requires { ⌜ (k .nodes ≤ 16) × (k .types ≤ 32) ⌝ }
     ensures { λ r. ⌜ ((g : Grounds (now (tags .entry)) (now (values .entry)) (now (places .entry)) (now («type_places» .entry)) (now (flags .entry)) (now (firsts .entry)) k layout) (ids : Ids) (clocks : Clocks) (e : Equation) (c : trees.Clock) (q : ℕ) → ids ≡ idsOf (now (flags .entry)) (now (firsts .entry)) (now («flag_ids» .entry)) (now («first_ids» .entry)) (now («hold_ids» .entry)) k → Agrees (now (env .entry)) (k .names) clocks → FineEquation (g .types) (g .nodes) (g .node) ids (k .names) (tokens (now (tags .entry)) (now (values .entry))) clocks n at e c q → ShowsOne mode ids n (e .left) (rightYield (g .types) (g .nodes) (g .node) ids c (e .left) n (e .right)) q (out (now (otags .entry)) (now (ovalues .entry)) w) (out (now (otags .exit)) (now (ovalues .exit)) (r .next)) r) ⌝ }
@@ -181,7 +183,7 @@ pub fn one_equation(
 pub fn old_equations(
     tags: &[u8],
     values: &[u32],
-    places: &[usize; 16],
+    places: &[usize; MOST_NODES],
     type_places: &[usize; 32],
     flags: &[u32],
     firsts: &[u32],
@@ -189,14 +191,14 @@ pub fn old_equations(
     first_ids: &[u32],
     hold_ids: &[u32],
     env: &[u32],
-    otags: &mut [u8; 8192],
-    ovalues: &mut [u32; 8192],
+    otags: &mut [u8; WORKING_TOKENS],
+    ovalues: &mut [u32; WORKING_TOKENS],
     k: Sizes,
     layout: NodeLayout,
     mode: Mode,
     w: usize,
     n: u32,
-) -> Walked
+) -> WrittenTo
     requires { ⌜ length (now values) ≡ length (now tags) ⌝ }
     requires { ⌜ (k .nodes ≤ 16) × (k .types ≤ 32) ⌝ }
     ensures { λ r. ⌜ ((g : Grounds (now (tags .entry)) (now (values .entry)) (now (places .entry)) (now («type_places» .entry)) (now (flags .entry)) (now (firsts .entry)) k layout) (ids : Ids) (clocks : Clocks) (cs : List Clocked) → ids ≡ idsOf (now (flags .entry)) (now (firsts .entry)) (now («flag_ids» .entry)) (now («first_ids» .entry)) (now («hold_ids» .entry)) k → FineOld (g .types) (g .nodes) (g .node) ids (now (env .entry)) (k .names) clocks n cs → Shows mode ids n (oldYield (g .types) (g .nodes) (g .node) ids n cs) (layout .equations .end) (out (now (otags .entry)) (now (ovalues .entry)) w) (out (now (otags .exit)) (now (ovalues .exit)) (r .next)) r) ⌝ }
@@ -233,7 +235,7 @@ pub fn old_equations(
         place = r.end;
         i += 1;
     }
-    Walked {
+    WrittenTo {
         next: next,
         holds: holds,
         end: place,

@@ -17,7 +17,7 @@ use Rattle.definitions.specs.Tokens.{TagValue, codeOf}
 use Rattle.definitions.specs.Tree.{Ty, Declared, TypeDef, Head, Expr, Exprs, Node}
 use Rattle.definitions.specs.Reading.{got}
 use Rattle.definitions.specs.Grammar.{declaration}
-use Rattle.definitions.specs.Clock.{Clock, _/_, depth, deepest, parent, isOn, isNot}
+use Rattle.definitions.specs.Clock.{Clock, _↓_, depth, deepest, parent, isOn, isNot}
 use Rattle.definitions.specs.InferClocks.{preUntyped}
 use Rattle.definitions.specs.Declock.{declared, operandType}
 use Rattle.definitions.specs.Output.{exprTokens, operandTokens}
@@ -34,7 +34,7 @@ use Rattle.stateless.specs.Faults.{unless, preFault, outputsFault, gateFault, f
 use Rattle.copying.specs.Copied.{around, slice, woven, Copied}
 use Rattle.copying.proofs.Weaving.{codes-append}
 use Rattle.openings.specs.declared.Plan.{Plan}
-use Rattle.openings.specs.Planned.{twoMore, gateTokens, choiceTokens, leading, Headed, Closing, Builds, Gated, Planned}
+use Rattle.openings.specs.Planned.{twoMore, gateTokens, choiceTokens, leading, OneToken, Closing, Builds, Gated, Planned}
 use Rattle.openings.proofs.Plan.{the-type}
 use Rattle.openings.proofs.Plans.{by-form, head-here, head-rest}
 
@@ -65,7 +65,7 @@ module _ (M : ℕ) (ts : List TagValue) (p : ℕ) (v : View) (C : Copied M ts p 
       let l = length-take-le (v .first - p) (drop p ts) (omega (arith, d)) in
       omega (arith, l)
 
-  headed-woven : Headed e → (ps : List (List Token)) → length ps ≡ v .count → woven M ts (v .gap) (v .count) (v .first) (map (map codeOf) ps) ≡ map codeOf (join ps)
+  headed-woven : OneToken e → (ps : List (List Token)) → length ps ≡ v .count → woven M ts (v .gap) (v .count) (v .first) (map (map codeOf) ps) ≡ map codeOf (join ps)
   headed-woven H ps n =
       let a = C .copied e q st (blanks (v .count)) (blanks-many (v .count)) in
       let b = C .copied e q st ps n in
@@ -98,7 +98,7 @@ within-room c (Expr.pre a) h = refl
 within-room c (Expr.arrow a b) h = refl
 within-room c (Expr.call f es) h = refl
 within-room c (Expr.when k a) h = refl
-within-room c (Expr.merge x a b) h = left-true (ltb (depth c) deepest) (within (c / isOn x) a && within (c / isNot x) b) h
+within-room c (Expr.merge x a b) h = left-true (ltb (depth c) deepest) (within (c ↓ isOn x) a && within (c ↓ isNot x) b) h
 
 -- the operands' clocks are those that the code finds
 module _ (c : Clock) (e : Expr) (w : within c e ≡ true) (ρ : Role) (i : ρ ≡ roleOfExpr e) where
@@ -121,8 +121,8 @@ module _ (types : List TypeDef) (nodes : List Node) (node : Node) where
   parts-faultless c (Expr.call f es) h = orElse-none (faultAmong types nodes node c c es) _ h .0
   parts-faultless c (Expr.when k a) h = none-both (faultIn types nodes node (parent c) a) none h refl
   parts-faultless c (Expr.merge x a b) h =
-      let k = orElse-none (faultIn types nodes node (c / isOn x) a) (faultIn types nodes node (c / isNot x) b) h in
-      none-both (faultIn types nodes node (c / isOn x) a) _ (k .0) (none-both (faultIn types nodes node (c / isNot x) b) none (k .1) refl)
+      let k = orElse-none (faultIn types nodes node (c ↓ isOn x) a) (faultIn types nodes node (c ↓ isNot x) b) h in
+      none-both (faultIn types nodes node (c ↓ isOn x) a) _ (k .0) (none-both (faultIn types nodes node (c ↓ isNot x) b) none (k .1) refl)
 
   pub first-faultless : (c d : Clock) (es : Exprs) (e : Expr) (r : Exprs) → es ≡ Exprs.and e r → faultAmong types nodes node c d es ≡ none → (faultIn types nodes node c e ≡ none) × (faultAmong types nodes node d d r ≡ none)
   unfolding faultIn
@@ -186,7 +186,7 @@ module _ (types : List TypeDef) (nodes : List Node) (node : Node) where
           same = λ ps n. C .copied e q st ps n ∙ rw (append-nil (woven M ts (v .gap) (v .count) (v .first) (map (map codeOf) ps)));
         }
 
-    operand-framed : Builds types nodes node ids c e join → Headed e → Framed ids c e M ts at v condact Plan.Operand
+    operand-framed : Builds types nodes node ids c e join → OneToken e → Framed ids c e M ts at v condact Plan.Operand
     unfolding Closing leading
     operand-framed B H =
         record {
@@ -197,7 +197,7 @@ module _ (types : List TypeDef) (nodes : List Node) (node : Node) where
           same = λ ps n. sym (append-nil (woven M ts (v .gap) (v .count) (v .first) (map (map codeOf) ps)) ∙ headed-woven M ts at v C e q st past most H ps n);
         }
 
-    choose-framed : (x : ℕ) → Builds types nodes node ids c e (λ ps. choiceTokens x ++ join ps) → Headed e → Framed ids c e M ts at v condact (Plan.Choose x)
+    choose-framed : (x : ℕ) → Builds types nodes node ids c e (λ ps. choiceTokens x ++ join ps) → OneToken e → Framed ids c e M ts at v condact (Plan.Choose x)
     unfolding Closing leading
     choose-framed x B H =
         record {

@@ -11,7 +11,7 @@ use Rattle.definitions.specs.declared.Token.{Token}
 use Rattle.definitions.specs.Lists.{join}
 use Rattle.definitions.specs.Tokens.{TagValue, codeOf}
 use Rattle.definitions.specs.Tree.{Ty, TypeDef, Expr, Exprs, Node}
-use Rattle.definitions.specs.Clock.{Clock, _/_, parent, isOn, isNot}
+use Rattle.definitions.specs.Clock.{Clock, _↓_, parent, isOn, isNot}
 use Rattle.definitions.specs.Declock.{Hold, declared, operandType, ifOf}
 use Rattle.definitions.specs.Output.{e, formTokens, exprTokens, equationTokens, declaredTokens}
 use Rattle.needs.specs.declared.Turn.{Turn}
@@ -52,8 +52,8 @@ module _ (types : List TypeDef) (nodes : List Node) (node : Node) (ids : Ids) wh
     after-is (Expr.call f es) c n = all-after es c c n
     after-is (Expr.when k a) c n = after-is a (parent c) n
     after-is (Expr.merge x a b) c n =
-        joined-after n (yield types nodes node ids (c / isOn x) n a .after) _ (yield types nodes node ids (c / isOn x) n a .holds) (yield types nodes node ids (c / isNot x) (yield types nodes node ids (c / isOn x) n a .after) b .holds)
-        (after-is a (c / isOn x) n) (after-is b (c / isNot x) (yield types nodes node ids (c / isOn x) n a .after))
+        joined-after n (yield types nodes node ids (c ↓ isOn x) n a .after) _ (yield types nodes node ids (c ↓ isOn x) n a .holds) (yield types nodes node ids (c ↓ isNot x) (yield types nodes node ids (c ↓ isOn x) n a .after) b .holds)
+        (after-is a (c ↓ isOn x) n) (after-is b (c ↓ isNot x) (yield types nodes node ids (c ↓ isOn x) n a .after))
 
     pub all-after : (es : Exprs) (c d : Clock) (n : ℕ) → yields types nodes node ids c d n es .after ≡ n + length (yields types nodes node ids c d n es .holds)
     all-after Exprs.end c d n = sym (add-zero n)

@@ -29,7 +29,7 @@ use Rattle.operands.specs.Spread.{tree, spread, later, operandAt, restAt}
 use Rattle.operands.specs.Viewed.{Viewed}
 use Rattle.operands.proofs.Deeper.{tree-head}
 use Rattle.operands.proofs.Laws.{spread-nil, laid-of, viewed}
-use Rattle.natural.proofs.Laws.{apart, spread-end}
+use Rattle.operands.proofs.Apart.{apart, spread-end}
 use Rattle.needs.specs.Need.{isLeaf, hereOn, restOn, roomFor, within, withins}
 use Rattle.needs.proofs.Laws.{parts-within}
 use Rattle.stateless.specs.Yield.{Ids, Yield, held, yield, yields}
@@ -42,7 +42,7 @@ use Rattle.openings.specs.declared.Plan.{Plan}
 use Rattle.openings.specs.Shown.{inTree, told, coded, innerMode}
 use Rattle.openings.specs.Planned.{holdTokens, leading, Held, Planned}
 use Rattle.openings.proofs.Mode.{the-type}
-use Rattle.expressions.specs.declared.Walked.{Walked}
+use Rattle.expressions.specs.declared.WrittenTo.{WrittenTo}
 use Rattle.expressions.specs.Made.{mostHolds, Made, MadeAll, Fine, FineAll}
 use Rattle.expressions.proofs.Numbered.{after-is, all-after, step-written, none-written, frame-written, equation-written, declaration-written, previous-written}
 use Rattle.expressions.proofs.Frames.{left-true, here-is, rest-is, parts-faultless, first-faultless, held-faultless, held-is, yields-many, Framed}
@@ -54,10 +54,10 @@ right-true false b h = let z : _≡_ {A = ℕ} 0 1 = cc in absurd (omega arith)
 -- ---- operands
 module _ (M : ℕ) (ts : List TagValue) (types : List TypeDef) (nodes : List Node) (node : Node) (ids : Ids) where
   -- so many of the operands are left from p on, the first on one clock and the others on another; what is made of these is what is made of all
-  pub record Remains (m : Mode) (on rest : Clock) (n : ℕ) (g : Gap) (count p : ℕ) (o : Out) (q : ℕ) (All : Out → Walked → Type 0) : Type 0 where
+  pub record Remains (m : Mode) (on rest : Clock) (n : ℕ) (g : Gap) (count p : ℕ) (o : Out) (q : ℕ) (All : Out → WrittenTo → Type 0) : Type 0 where
     pub others : Exprs
     pub fine : FineAll M ts types nodes node ids on rest n g count p others q
-    pub made : (o′ : Out) (r : Walked) → MadeAll M ts m ids n (yields types nodes node ids on rest n others) g count p q o o′ r → All o′ r
+    pub made : (o′ : Out) (r : WrittenTo) → MadeAll M ts m ids n (yields types nodes node ids on rest n others) g count p q o o′ r → All o′ r
 
 module _ (M : ℕ) (gs vs : List ℕ) (same : length vs ≡ length gs) (types : List TypeDef) (nodes : List Node) (node : Node) (ids : Ids) where
   -- the first operand, and the others
@@ -88,13 +88,13 @@ module _ (M : ℕ) (gs vs : List ℕ) (same : length vs ≡ length gs) (types : 
           past = s .past;
         }
 
-    all-none : (m : Mode) (o : Out) (r : Walked) → count ≡ 0 → r .holds ≡ n → r .end ≡ p → MadeAll M (tokens gs vs) m ids n (yields types nodes node ids here rest n es) g count p q o o r
+    all-none : (m : Mode) (o : Out) (r : WrittenTo) → count ≡ 0 → r .holds ≡ n → r .end ≡ p → MadeAll M (tokens gs vs) m ids n (yields types nodes node ids here rest n es) g count p q o o r
     unfolding yield operandTokens
     all-none m o r z h k =
         let s = spread-nil M (tree M) (tokens gs vs) g count p es q z (F .stand) in
         rw (s .0) (record { written = none-written m ids n o (woven M (tokens gs vs) g count p []) (woven-nil M (tokens gs vs) g count p [] z); holds = h; end = k ∙ sym (s .1) })
 
-    module _ (z : count ≡ 0 → ⊥) (place : ℕ) (i : place ≡ operandAt (length gs) g p) (m : Mode) (o o₁ o₂ : Out) (r : Walked) (E : (a : Expr) (u : ℕ) → Fine M (tokens gs vs) types nodes node ids here n place a u → Made m ids n (yield types nodes node ids here n a) u o₁ o₂ r) (next : ℕ) (k : next ≡ restAt (length gs) g (r .end)) where
+    module _ (z : count ≡ 0 → ⊥) (place : ℕ) (i : place ≡ operandAt (length gs) g p) (m : Mode) (o o₁ o₂ : Out) (r : WrittenTo) (E : (a : Expr) (u : ℕ) → Fine M (tokens gs vs) types nodes node ids here n place a u → Made m ids n (yield types nodes node ids here n a) u o₁ o₂ r) (next : ℕ) (k : next ≡ restAt (length gs) g (r .end)) where
       all-past : next ≤ p → ⊥
       all-past h =
           let s = first-fine place z i in
@@ -103,7 +103,7 @@ module _ (M : ℕ) (gs vs : List ℕ) (same : length vs ≡ length gs) (types : 
           omega (arith, s .past)
 
       all-rest : (v : Gap) → v ≡ later g → (o₃ : Out) → o₁ ≡ puts o (inTree m (slice (tokens gs vs) p place)) → o₃ ≡ puts o₂ (inTree m (slice (tokens gs vs) (r .end) next)) →
-          (All : Out → Walked → Type 0) → ((o′ : Out) (t : Walked) → MadeAll M (tokens gs vs) m ids n (yields types nodes node ids here rest n es) g count p q o o′ t → All o′ t) → Remains M (tokens gs vs) types nodes node ids m rest rest (r .holds) v (count - 1) next o₃ q All
+          (All : Out → WrittenTo → Type 0) → ((o′ : Out) (t : WrittenTo) → MadeAll M (tokens gs vs) m ids n (yields types nodes node ids here rest n es) g count p q o o′ t → All o′ t) → Remains M (tokens gs vs) types nodes node ids m rest rest (r .holds) v (count - 1) next o₃ q All
       unfolding yield operandTokens
       all-rest v j o₃ a b All A =
           let s = first-fine place z i in
@@ -133,13 +133,13 @@ module _ (M : ℕ) (gs vs : List ℕ) (same : length vs ≡ length gs) (types : 
       Remains M (tokens gs vs) types nodes node ids m here rest n g count p o q (λ o′ r. MadeAll M (tokens gs vs) m ids n (yields types nodes node ids here rest n es) g count p q o o′ r)
   remains-all m here rest n g count p o es q F = record { others = es; fine = F; made = λ o′ r x. x }
 
-  module _ (m : Mode) (on rest : Clock) (n : ℕ) (g : Gap) (count p : ℕ) (o : Out) (q : ℕ) (All : Out → Walked → Type 0) (h : Remains M (tokens gs vs) types nodes node ids m on rest n g count p o q All) where
+  module _ (m : Mode) (on rest : Clock) (n : ℕ) (g : Gap) (count p : ℕ) (o : Out) (q : ℕ) (All : Out → WrittenTo → Type 0) (h : Remains M (tokens gs vs) types nodes node ids m on rest n g count p o q All) where
     -- none
-    pub remains-none : (r : Walked) → count ≡ 0 → r .holds ≡ n → r .end ≡ p → All o r
+    pub remains-none : (r : WrittenTo) → count ≡ 0 → r .holds ≡ n → r .end ≡ p → All o r
     remains-none r z i j = h .made o r (all-none on rest n g count p (h .others) q (h .fine) m o r z i j)
 
     -- the first of them, and the others
-    module _ (z : count ≡ 0 → ⊥) (place : ℕ) (i : place ≡ operandAt (length gs) g p) (o₁ o₂ : Out) (r : Walked) (E : (a : Expr) (u : ℕ) → Fine M (tokens gs vs) types nodes node ids on n place a u → Made m ids n (yield types nodes node ids on n a) u o₁ o₂ r) (next : ℕ) (k : next ≡ restAt (length gs) g (r .end)) where
+    module _ (z : count ≡ 0 → ⊥) (place : ℕ) (i : place ≡ operandAt (length gs) g p) (o₁ o₂ : Out) (r : WrittenTo) (E : (a : Expr) (u : ℕ) → Fine M (tokens gs vs) types nodes node ids on n place a u → Made m ids n (yield types nodes node ids on n a) u o₁ o₂ r) (next : ℕ) (k : next ≡ restAt (length gs) g (r .end)) where
       pub remains-past : next ≤ p → ⊥
       remains-past = all-past on rest n g count p (h .others) q (h .fine) z place i m o o₁ o₂ r E next k
 
@@ -191,7 +191,7 @@ leaf-written Mode.Tree ids n o o₁ s l h k = k ∙ ap (puts o) (sym h)
 leaf-written Mode.Equations ids n o o₁ s l h k = k
 leaf-written Mode.Declarations ids n o o₁ s l h k = k
 
-pub leaf-made : (M : ℕ) (ts : List TagValue) (types : List TypeDef) (nodes : List Node) (node : Node) (ids : Ids) (c : Clock) (n p : ℕ) (x : Expr) (q : ℕ) → Fine M ts types nodes node ids c n p x q → isLeaf x ≡ true → (m : Mode) (o o₁ : Out) (r : Walked) →
+pub leaf-made : (M : ℕ) (ts : List TagValue) (types : List TypeDef) (nodes : List Node) (node : Node) (ids : Ids) (c : Clock) (n p : ℕ) (x : Expr) (q : ℕ) → Fine M ts types nodes node ids c n p x q → isLeaf x ≡ true → (m : Mode) (o o₁ : Out) (r : WrittenTo) →
     o₁ ≡ puts o (inTree m (slice ts p (r .end))) → r .holds ≡ n → r .end ≡ q → Made m ids n (yield types nodes node ids c n x) q o o₁ r
 leaf-made M ts types nodes node ids c n p x q F h m o o₁ r k i j =
     rw (leaf-yield types nodes node ids c n x h) (record { written = leaf-written m ids n o o₁ (slice ts p (r .end)) (exprTokens x) (leaf-tokens M ts p x q (F .stands) h ∙ ap (slice ts p) (sym j)) k; holds = i; end = j })
@@ -217,7 +217,7 @@ module _ (M : ℕ) (ts : List TagValue) (types : List TypeDef) (nodes : List Nod
           few = rw (here-as, rest-as) (rw (sym (G .builds .after n)) (F .few));
         }
 
-    pub expr-made : (m : Mode) (o o₁ o₂ o₃ : Out) (r s : Walked) → o₁ ≡ puts o (inTree m (leading condact p (slice ts at (v .first)))) → MadeAll M ts m ids n (yields types nodes node ids here rest n (operandsOf e)) (v .gap) (v .count) (v .first) q o₁ o₂ r → o₃ ≡ emits o₂ (inTree m (G .closing)) →
+    pub expr-made : (m : Mode) (o o₁ o₂ o₃ : Out) (r s : WrittenTo) → o₁ ≡ puts o (inTree m (leading condact p (slice ts at (v .first)))) → MadeAll M ts m ids n (yields types nodes node ids here rest n (operandsOf e)) (v .gap) (v .count) (v .first) q o₁ o₂ r → o₃ ≡ emits o₂ (inTree m (G .closing)) →
         s .holds ≡ r .holds → s .end ≡ r .end → Made m ids n (yield types nodes node ids c n e) q o o₃ s
     expr-made m o o₁ o₂ o₃ r s a X b h k =
         let ys = yields types nodes node ids (hereOn (roleOfExpr e) c) (restOn (roleOfExpr e) c) n (operandsOf e) in
@@ -264,7 +264,7 @@ module _ (M : ℕ) (gs vs : List ℕ) (same : length vs ≡ length gs) (types : 
       }
 
 -- what it makes is what its hold makes
-pub held-made : (m : Mode) (ids : Ids) (n : ℕ) (y z : Yield Expr) (u q : ℕ) (o o₁ : Out) (r s : Walked) → z ≡ y → Made m ids n y u o o₁ r → s .holds ≡ r .holds → (r .end ≡ u → s .end ≡ q) → Made m ids n z q o o₁ s
+pub held-made : (m : Mode) (ids : Ids) (n : ℕ) (y z : Yield Expr) (u q : ℕ) (o o₁ : Out) (r s : WrittenTo) → z ≡ y → Made m ids n y u o o₁ r → s .holds ≡ r .holds → (r .end ≡ u → s .end ≡ q) → Made m ids n z q o o₁ s
 held-made m ids n y z u q o o₁ r s i X h k = rw i (record { written = X .written; holds = h ∙ X .holds; end = k (X .end) })
 
 -- ---- the hold
@@ -284,7 +284,7 @@ not-declarations Mode.Equations h i = let z : _≡_ {A = ℕ} 0 1 = cc in omega 
 not-declarations Mode.Declarations h i = miss plain-modes 3 tt h
 
 module _ (types : List TypeDef) (nodes : List Node) (node : Node) (ids : Ids) (c : Clock) (t : Ty) (n : ℕ) (a : Expr) (q : ℕ) (few : held types nodes node ids c t (yield types nodes node ids c n a) .after ≤ mostHolds)
-    (m k : Mode) (j : k ≡ innerMode m) (o o₁ : Out) (r : Walked) (X : Made k ids n (yield types nodes node ids c n a) q o o₁ r) (hs : List ℕ) (i : (l : ℕ) → ids .hold l ≡ getD hs l 0) (x : ℕ) (I : x ≡ getD hs (r .holds) 0) (more : ℕ) (N : r .holds < mostHolds → more ≡ suc (r .holds)) (s : Walked) (S : s .holds ≡ more) (D : s .end ≡ r .end) where
+    (m k : Mode) (j : k ≡ innerMode m) (o o₁ : Out) (r : WrittenTo) (X : Made k ids n (yield types nodes node ids c n a) q o o₁ r) (hs : List ℕ) (i : (l : ℕ) → ids .hold l ≡ getD hs l 0) (x : ℕ) (I : x ≡ getD hs (r .holds) 0) (more : ℕ) (N : r .holds < mostHolds → more ≡ suc (r .holds)) (s : WrittenTo) (S : s .holds ≡ more) (D : s .end ≡ r .end) where
   id-is : x ≡ ids .hold (yield types nodes node ids c n a .after)
   id-is = I ∙ (ap (λ (l : ℕ). getD hs l 0) (X .holds) ∙ sym (i (yield types nodes node ids c n a .after)))
 
@@ -294,7 +294,7 @@ module _ (types : List TypeDef) (nodes : List Node) (node : Node) (ids : Ids) (c
   before : o₁ ≡ emits o (told (innerMode m) (exprTokens (yield types nodes node ids c n a .value)) ids n (yield types nodes node ids c n a .holds))
   before = rw j at (X .written)
 
-  pub hold-equation : (flag : ℕ) (o₂ o₃ o₄ : Out) (w : Walked) → flag ≡ ids .flag c → m ≡ Mode.Equations → o₂ ≡ emits o₁ (holdTokens x flag) → Made Mode.Tree ids n (yield types nodes node ids c n a) q o₂ o₃ w → o₄ ≡ emits o₃ (Token.Expression ExprToken.Pre ∷ Token.Expression (ExprToken.Var x) ∷ []) →
+  pub hold-equation : (flag : ℕ) (o₂ o₃ o₄ : Out) (w : WrittenTo) → flag ≡ ids .flag c → m ≡ Mode.Equations → o₂ ≡ emits o₁ (holdTokens x flag) → Made Mode.Tree ids n (yield types nodes node ids c n a) q o₂ o₃ w → o₄ ≡ emits o₃ (Token.Expression ExprToken.Pre ∷ Token.Expression (ExprToken.Var x) ∷ []) →
       Made m ids n (held types nodes node ids c t (yield types nodes node ids c n a)) q o o₄ s
   hold-equation flag o₂ o₃ o₄ w f g h Y l =
       record { written = equation-written types nodes node ids c t n (yield types nodes node ids c n a) (after-is types nodes node ids a c n) x id-is o flag m o₁ o₂ o₃ o₄ f g before h (Y .written) l; holds = more-is; end = D ∙ X .end }

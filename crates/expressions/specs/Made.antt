@@ -18,14 +18,14 @@ use Rattle.copying.specs.Copied.{woven}
 use Rattle.emit.specs.Out.{Out, puts, emits}
 use Rattle.openings.specs.declared.Mode.{Mode}
 use Rattle.openings.specs.Shown.{shown, coded}
-use Rattle.expressions.specs.declared.Walked.{Walked}
+use Rattle.expressions.specs.declared.WrittenTo.{WrittenTo}
 
 -- the most holds that are counted
 abbrev pub mostHolds : ℕ
 mostHolds = 4294967295
 
 -- o′ is o with what a rewritten expression shows; so many holds there are then, and there it ends
-pub record Made (m : Mode) (ids : Ids) (n : ℕ) (y : Yield Expr) (q : ℕ) (o o′ : Out) (r : Walked) : Type 0 where
+pub record Made (m : Mode) (ids : Ids) (n : ℕ) (y : Yield Expr) (q : ℕ) (o o′ : Out) (r : WrittenTo) : Type 0 where
   pub written : o′ ≡ emits o (shown m ids n y)
   pub holds : r .holds ≡ y .after
   pub end : r .end ≡ q
@@ -33,7 +33,7 @@ pub record Made (m : Mode) (ids : Ids) (n : ℕ) (y : Yield Expr) (q : ℕ) (o o
 -- M is the number of names
 module _ (M : ℕ) (ts : List TagValue) where
   -- the same of operands, with the source's tokens around them
-  pub record MadeAll (m : Mode) (ids : Ids) (n : ℕ) (y : Yield Exprs) (g : Gap) (count p q : ℕ) (o o′ : Out) (r : Walked) : Type 0 where
+  pub record MadeAll (m : Mode) (ids : Ids) (n : ℕ) (y : Yield Exprs) (g : Gap) (count p q : ℕ) (o o′ : Out) (r : WrittenTo) : Type 0 where
     pub written : o′ ≡ puts o (coded m (woven M ts g count p (map (map codeOf) (operandTokens (y .value)))) ids n (y .holds))
     pub holds : r .holds ≡ y .after
     pub end : r .end ≡ q

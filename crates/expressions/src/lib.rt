@@ -5,7 +5,9 @@
 // are written.
 use clock::Clock;
 use definitions::ExprToken;
+use definitions::MOST_NODES;
 use definitions::Token;
+use definitions::WORKING_TOKENS;
 use layout::NodeLayout;
 use openings::Mode;
 use openings::Plan;
@@ -25,7 +27,7 @@ ghost use Rattle.openings.specs.Planned.{Grounds, idsOf};
 ghost use Rattle.expressions.specs.Made.{mostHolds, Made, MadeAll, Fine, FineAll};
 
 // Where the next token goes, how many holds there are, and where what was walked ends.
-pub struct Walked {
+pub struct WrittenTo {
     pub next: usize,
     pub holds: u32,
     pub end: usize,
@@ -35,15 +37,15 @@ pub struct Walked {
 pub fn expr(
     tags: &[u8],
     values: &[u32],
-    places: &[usize; 16],
+    places: &[usize; MOST_NODES],
     type_places: &[usize; 32],
     flags: &[u32],
     firsts: &[u32],
     flag_ids: &[u32],
     first_ids: &[u32],
     hold_ids: &[u32],
-    otags: &mut [u8; 8192],
-    ovalues: &mut [u32; 8192],
+    otags: &mut [u8; WORKING_TOKENS],
+    ovalues: &mut [u32; WORKING_TOKENS],
     k: Sizes,
     layout: NodeLayout,
     mode: Mode,
@@ -51,7 +53,7 @@ pub fn expr(
     w: usize,
     n: u32,
     at: usize,
-) -> Walked
+) -> WrittenTo
     requires { ⌜ length (now values) ≡ length (now tags) ⌝ }
     requires { ⌜ (k .nodes ≤ 16) × (k .types ≤ 32) ⌝ }
     ensures { λ r. ⌜ ((g : Grounds (now (tags .entry)) (now (values .entry)) (now (places .entry)) (now («type_places» .entry)) (now (flags .entry)) (now (firsts .entry)) k layout) (ids : Ids) (e : Expr) (q : ℕ) → ids ≡ idsOf (now (flags .entry)) (now (firsts .entry)) (now («flag_ids» .entry)) (now («first_ids» .entry)) (now («hold_ids» .entry)) k → Fine (k .names) (tokens (now (tags .entry)) (now (values .entry))) (g .types) (g .nodes) (g .node) ids (valueOf c) n at e q → Made mode ids n (yield (g .types) (g .nodes) (g .node) ids (valueOf c) n e) q (out (now (otags .entry)) (now (ovalues .entry)) w) (out (now (otags .exit)) (now (ovalues .exit)) (r .next)) r) ⌝ }
@@ -62,7 +64,7 @@ pub fn expr(
     let gap = v.gap;
     let role = v.role;
     if first <= at {
-        return Walked {
+        return WrittenTo {
             next: w,
             holds: n,
             end: at,
@@ -112,7 +114,7 @@ pub fn expr(
             let holds = r.holds;
             let o = operands::after_operand(tags, gap, r.end);
             let end = o.next;
-            Walked {
+            WrittenTo {
                 next: b,
                 holds: holds,
                 end: end,
@@ -169,7 +171,7 @@ pub fn expr(
                 ovalues,
                 inner,
             );
-            Walked {
+            WrittenTo {
                 next: b,
                 holds: holds,
                 end: end,
@@ -182,15 +184,15 @@ pub fn expr(
 fn operand(
     tags: &[u8],
     values: &[u32],
-    places: &[usize; 16],
+    places: &[usize; MOST_NODES],
     type_places: &[usize; 32],
     flags: &[u32],
     firsts: &[u32],
     flag_ids: &[u32],
     first_ids: &[u32],
     hold_ids: &[u32],
-    otags: &mut [u8; 8192],
-    ovalues: &mut [u32; 8192],
+    otags: &mut [u8; WORKING_TOKENS],
+    ovalues: &mut [u32; WORKING_TOKENS],
     k: Sizes,
     layout: NodeLayout,
     mode: Mode,
@@ -198,7 +200,7 @@ fn operand(
     w: usize,
     n: u32,
     at: usize,
-) -> Walked
+) -> WrittenTo
     requires { ⌜ length (now values) ≡ length (now tags) ⌝ }
     requires { ⌜ (k .nodes ≤ 16) × (k .types ≤ 32) ⌝ }
     ensures { λ r. ⌜ ((g : Grounds (now (tags .entry)) (now (values .entry)) (now (places .entry)) (now («type_places» .entry)) (now (flags .entry)) (now (firsts .entry)) k layout) (ids : Ids) (e : Expr) (q : ℕ) → ids ≡ idsOf (now (flags .entry)) (now (firsts .entry)) (now («flag_ids» .entry)) (now («first_ids» .entry)) (now («hold_ids» .entry)) k → Fine (k .names) (tokens (now (tags .entry)) (now (values .entry))) (g .types) (g .nodes) (g .node) ids (valueOf c) n at e q → Made mode ids n (yield (g .types) (g .nodes) (g .node) ids (valueOf c) n e) q (out (now (otags .entry)) (now (ovalues .entry)) w) (out (now (otags .exit)) (now (ovalues .exit)) (r .next)) r) ⌝ }
@@ -206,7 +208,7 @@ fn operand(
     let end = needs::leaf_end(tags, values, at);
     if 0 < end {
         let a = openings::put_span(otags, ovalues, w, mode, tags, values, at, end);
-        return Walked {
+        return WrittenTo {
             next: a,
             holds: n,
             end: end,
@@ -235,18 +237,18 @@ fn operand(
 }
 
 // So many operands, the first on the clock `here`, the others on `rest`, with the source's tokens around them.
-pub fn exprs(
+fn exprs(
     tags: &[u8],
     values: &[u32],
-    places: &[usize; 16],
+    places: &[usize; MOST_NODES],
     type_places: &[usize; 32],
     flags: &[u32],
     firsts: &[u32],
     flag_ids: &[u32],
     first_ids: &[u32],
     hold_ids: &[u32],
-    otags: &mut [u8; 8192],
-    ovalues: &mut [u32; 8192],
+    otags: &mut [u8; WORKING_TOKENS],
+    ovalues: &mut [u32; WORKING_TOKENS],
     k: Sizes,
     layout: NodeLayout,
     mode: Mode,
@@ -257,7 +259,7 @@ pub fn exprs(
     gap: Gap,
     count: u32,
     at: usize,
-) -> Walked
+) -> WrittenTo
     requires { ⌜ length (now values) ≡ length (now tags) ⌝ }
     requires { ⌜ (k .nodes ≤ 16) × (k .types ≤ 32) ⌝ }
     ensures { λ r. ⌜ ((g : Grounds (now (tags .entry)) (now (values .entry)) (now (places .entry)) (now («type_places» .entry)) (now (flags .entry)) (now (firsts .entry)) k layout) (ids : Ids) (es : Exprs) (q : ℕ) → ids ≡ idsOf (now (flags .entry)) (now (firsts .entry)) (now («flag_ids» .entry)) (now («first_ids» .entry)) (now («hold_ids» .entry)) k → FineAll (k .names) (tokens (now (tags .entry)) (now (values .entry))) (g .types) (g .nodes) (g .node) ids (valueOf here) (valueOf rest) n gap count at es q → MadeAll (k .names) (tokens (now (tags .entry)) (now (values .entry))) mode ids n (yields (g .types) (g .nodes) (g .node) ids (valueOf here) (valueOf rest) n es) gap count at q (out (now (otags .entry)) (now (ovalues .entry)) w) (out (now (otags .exit)) (now (ovalues .exit)) (r .next)) r) ⌝ }
@@ -298,7 +300,7 @@ pub fn exprs(
         let next = o.next;
         to = openings::put_span(otags, ovalues, inner, mode, tags, values, end, next);
         if next <= from {
-            return Walked {
+            return WrittenTo {
                 next: to,
                 holds: holds,
                 end: from,
@@ -309,7 +311,7 @@ pub fn exprs(
         on = rest;
         left -= 1;
     }
-    Walked {
+    WrittenTo {
         next: to,
         holds: holds,
         end: from,
@@ -317,18 +319,18 @@ pub fn exprs(
 }
 
 // A `pre` that is held under this flag, of the operand that stands there: the operand's holds, then its own.
-pub fn hold(
+fn hold(
     tags: &[u8],
     values: &[u32],
-    places: &[usize; 16],
+    places: &[usize; MOST_NODES],
     type_places: &[usize; 32],
     flags: &[u32],
     firsts: &[u32],
     flag_ids: &[u32],
     first_ids: &[u32],
     hold_ids: &[u32],
-    otags: &mut [u8; 8192],
-    ovalues: &mut [u32; 8192],
+    otags: &mut [u8; WORKING_TOKENS],
+    ovalues: &mut [u32; WORKING_TOKENS],
     k: Sizes,
     layout: NodeLayout,
     mode: Mode,
@@ -337,7 +339,7 @@ pub fn hold(
     w: usize,
     n: u32,
     at: usize,
-) -> Walked
+) -> WrittenTo
     requires { ⌜ length (now values) ≡ length (now tags) ⌝ }
     requires { ⌜ (k .nodes ≤ 16) × (k .types ≤ 32) ⌝ }
     ensures { λ r. ⌜ ((g : Grounds (now (tags .entry)) (now (values .entry)) (now (places .entry)) (now («type_places» .entry)) (now (flags .entry)) (now (firsts .entry)) k layout) (ids : Ids) (e : Expr) (q : ℕ) (a : Ty) → ids ≡ idsOf (now (flags .entry)) (now (firsts .entry)) (now («flag_ids» .entry)) (now («first_ids» .entry)) (now («hold_ids» .entry)) k → Fine (k .names) (tokens (now (tags .entry)) (now (values .entry))) (g .types) (g .nodes) (g .node) ids (valueOf c) n at e q → flag ≡ ids .flag (valueOf c) → operandType (declared (g .node)) e ≡ some a → held (g .types) (g .nodes) (g .node) ids (valueOf c) a (yield (g .types) (g .nodes) (g .node) ids (valueOf c) n e) .after ≤ mostHolds → Made mode ids n (held (g .types) (g .nodes) (g .node) ids (valueOf c) a (yield (g .types) (g .nodes) (g .node) ids (valueOf c) n e)) q (out (now (otags .entry)) (now (ovalues .entry)) w) (out (now (otags .exit)) (now (ovalues .exit)) (r .next)) r) ⌝ }
@@ -399,7 +401,7 @@ pub fn hold(
                 Token::Expression(ExprToken::Pre),
                 Token::Expression(ExprToken::Var(x)),
             );
-            Walked {
+            WrittenTo {
                 next: b,
                 holds: more,
                 end: end,
@@ -417,7 +419,7 @@ pub fn hold(
                 inner,
                 x,
             );
-            Walked {
+            WrittenTo {
                 next: b,
                 holds: more,
                 end: end,
@@ -432,7 +434,7 @@ pub fn hold(
                 Token::Expression(ExprToken::Pre),
                 Token::Expression(ExprToken::Var(x)),
             );
-            Walked {
+            WrittenTo {
                 next: b,
                 holds: more,
                 end: end,

@@ -17,7 +17,7 @@ pub data Mark : Type 0 where
   named : ℕ → Mark
   sampling : Mark
 
--- what a token is: "54 name(id)" of a name that passes the test, a when or a merge, or neither
+-- what a token is: "54 var(id)" of a name that passes the test, a when or a merge, or neither
 unfoldable pub markOf : (ℕ → Bool) → ℕ → ℕ → Option Mark
 unfolding isSample
 markOf test tag v = choose (eqb tag 54) (given (test v) (named v)) (given (isSample tag) sampling)

@@ -120,7 +120,7 @@ pub fn follow(table: &[u8; 72], tag: u8, value: u32) -> u32
 }
 
 // The place after so many parts that stand from a place on.
-pub fn past(tags: &[u8], values: &[u32], many: usize, at: usize) -> usize
+fn past(tags: &[u8], values: &[u32], many: usize, at: usize) -> usize
     requires { ⌜ length (now values) ≡ length (now tags) ⌝ }
     ensures { λ r. ⌜ ((q : ℕ) → Owed (now (tags .entry)) (now (values .entry)) at many q → r ≡ q) ⌝ }
 {
@@ -243,10 +243,10 @@ pub fn definitions_end(tags: &[u8], values: &[u32], names: u32, n: u32, at: usiz
 pub fn is_sample(tag: u8) -> bool
     ensures { λ r. ⌜ r ≡ isSample tag ⌝ }
 {
-    if tag < 67 {
-        return false;
+    match tag {
+        67..=69 => true,
+        _ => false,
     }
-    tag <= 69
 }
 
 // Is a when or a merge among the tokens of a stretch?

@@ -1,5 +1,6 @@
 // The lent list of fault records. A function with a reference to records is proved by a walk of its MIR, by hand; what it works with are
 // words, three for each record, with room for 4,096 records. No fault has the number 0, which ends the records.
+use definitions::FAULT_TABLE;
 use definitions::FaultRecord;
 ghost use mathlib.Core.Path.{_≡_};
 ghost use Prim.Native.Nat.{_<_};
@@ -8,10 +9,10 @@ ghost use Rattle.definitions.specs.Lists.{over};
 ghost use Rattle.fault_list.specs.Said.{least, recordAt, count, said};
 
 // Words that say no record.
-pub fn none_said() -> [u32; 12288]
+pub fn none_said() -> [u32; FAULT_TABLE]
     ensures { λ r. ⌜ r ≡ replicate 12288 0 ⌝ }
 {
-    [0u32; 12288]
+    [0u32; FAULT_TABLE]
 }
 
 fn lesser(a: usize, b: usize) -> usize
@@ -21,7 +22,7 @@ fn lesser(a: usize, b: usize) -> usize
 }
 
 // How many records the words say.
-fn counted(words: &[u32; 12288]) -> usize
+fn counted(words: &[u32; FAULT_TABLE]) -> usize
     ensures { λ r. ⌜ r ≡ count (now (words .entry)) ⌝ }
 {
     let mut i: usize = 0;
@@ -35,7 +36,7 @@ fn counted(words: &[u32; 12288]) -> usize
 }
 
 // How many of them a list of this length has places for.
-fn reach(words: &[u32; 12288], length: usize) -> usize
+fn reach(words: &[u32; FAULT_TABLE], length: usize) -> usize
     ensures { λ r. ⌜ r ≡ least (count (now (words .entry))) length ⌝ }
 {
     let n = counted(words);
@@ -43,7 +44,7 @@ fn reach(words: &[u32; 12288], length: usize) -> usize
 }
 
 // Record i of the words.
-fn record_at(words: &[u32; 12288], i: usize) -> FaultRecord
+fn record_at(words: &[u32; FAULT_TABLE], i: usize) -> FaultRecord
     requires { ⌜ i < 4096 ⌝ }
     ensures { λ r. ⌜ r ≡ recordAt (now (words .entry)) i ⌝ }
 {
@@ -55,7 +56,7 @@ fn record_at(words: &[u32; 12288], i: usize) -> FaultRecord
 }
 
 // The records that the words say, over the front of the list as far as it reaches; later entries keep their values.
-pub fn put_said(list: &mut [FaultRecord], words: &[u32; 12288])
+pub fn put_said(list: &mut [FaultRecord], words: &[u32; FAULT_TABLE])
     ensures { λ _. ⌜ now (list .exit) ≡ over (said (now (words .entry))) (now (list .entry)) ⌝ }
 {
     let n = reach(words, list.len());

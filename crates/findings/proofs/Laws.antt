@@ -18,9 +18,9 @@ use Rattle.definitions.specs.Clock.{Clock, isBase}
 use Rattle.definitions.specs.InferClocks.{Fault, leftElsewhere, usedElsewhere, whenElsewhere, clockNameElsewhere, notSingleCall, NodeFault, Finding, found, site, tooDeep, isTooDeep, clockFaults, sites}
 use Rattle.flat.specs.Flat.{wordOf, testOf, clockIn}
 use Rattle.flat.proofs.Laws.{Within, clock-same, test-word}
-use Rattle.rows.specs.Rows.{clocksFrom, clocksIn, Has}
+use Rattle.rows.specs.Rows.{clocksFrom, clocksIn, RowsHold}
 use Rattle.rows.proofs.Laws as rows
-use Rattle.findings.specs.Findings.{flagWord, faultAs, findingAs, faultIn, findingIn, findingsFrom, findingsIn, Holds, noFault}
+use Rattle.findings.specs.Findings.{flagWord, faultAs, findingAs, faultIn, findingIn, findingsFrom, findingsIn, FindingsHeld, noFault}
 
 -- ---- the findings of rows
 module _ (t : List ℕ) where
@@ -119,37 +119,37 @@ module _ (t : List ℕ) (b k x w e : ℕ) where
       outside n (inr y) = v n (inr (omega arith)) ∙ (u n (inr (omega arith)) ∙ put-at n (inr (omega arith)))
 
 -- ---- a table and the findings that it holds
-pub holds-none : (t : List ℕ) → Holds t 0 []
-unfolding Holds findingsFrom
+pub holds-none : (t : List ℕ) → FindingsHeld t 0 []
+unfolding FindingsHeld findingsFrom
 holds-none t = inl (omega arith, refl)
 
 -- a table that is not full
-pub holds-all : (t : List ℕ) (n : ℕ) (fs : List Finding) → 38 * n ≤ length t → Holds t n fs → findingsIn t n ≡ fs
-unfolding Holds
+pub holds-all : (t : List ℕ) (n : ℕ) (fs : List Finding) → 38 * n ≤ length t → FindingsHeld t n fs → findingsIn t n ≡ fs
+unfolding FindingsHeld
 holds-all t n fs l (inl (a, e)) = e
 holds-all t n fs l (inr (a, b)) = absurd (omega arith)
 
 -- it never fills where there are no more findings than rows
-pub holds-fits : (t : List ℕ) (n : ℕ) (fs : List Finding) → 38 * length fs ≤ length t → Holds t n fs → (38 * n ≤ length t) × (findingsIn t n ≡ fs)
-unfolding Holds
+pub holds-fits : (t : List ℕ) (n : ℕ) (fs : List Finding) → 38 * length fs ≤ length t → FindingsHeld t n fs → (38 * n ≤ length t) × (findingsIn t n ≡ fs)
+unfolding FindingsHeld
 holds-fits t n fs l (inl h) = h
 holds-fits t n fs l (inr (a, b)) = absurd (omega arith)
 
 module _ (t : List ℕ) (n : ℕ) (f : Finding) (fs : List Finding) where
-  pub holds-over : length t < 38 * n → Holds t n fs → Holds t n (fs ++ (f ∷ []))
-  unfolding Holds
+  pub holds-over : length t < 38 * n → FindingsHeld t n fs → FindingsHeld t n (fs ++ (f ∷ []))
+  unfolding FindingsHeld
   holds-over h (inl (a, e)) = absurd (omega arith)
   holds-over h (inr (a, b)) = inr (a, omega (arith, length-append fs (f ∷ [])))
 
-  pub holds-full : 38 * n ≤ length t → length t < 38 * (n + 1) → Holds t n fs → Holds t (n + 1) (fs ++ (f ∷ []))
-  unfolding Holds
+  pub holds-full : 38 * n ≤ length t → length t < 38 * (n + 1) → FindingsHeld t n fs → FindingsHeld t (n + 1) (fs ++ (f ∷ []))
+  unfolding FindingsHeld
   holds-full room full (inl (a, e)) =
       let k : length fs ≡ n = ap length (sym e) ∙ length-from t 0 n in
       inr (full, omega (arith, length-append fs (f ∷ [])))
   holds-full room full (inr (a, b)) = absurd (omega arith)
 
-  pub holds-more : (t′ : List ℕ) → 38 * n + 38 ≤ length t → length t′ ≡ length t → findingIn t′ (38 * n) ≡ f → Within t t′ (38 * n) 38 → Holds t n fs → Holds t′ (n + 1) (fs ++ (f ∷ []))
-  unfolding Holds
+  pub holds-more : (t′ : List ℕ) → 38 * n + 38 ≤ length t → length t′ ≡ length t → findingIn t′ (38 * n) ≡ f → Within t t′ (38 * n) 38 → FindingsHeld t n fs → FindingsHeld t′ (n + 1) (fs ++ (f ∷ []))
+  unfolding FindingsHeld
   holds-more t′ room len row same (inl (a, e)) =
       let s : findingsIn t′ n ≡ fs = from-same t t′ 0 n (λ k u. same k (inl (omega arith))) ∙ e in
       inl (omega arith, in-last t′ n ∙ rw (s, row))
@@ -164,7 +164,7 @@ pub test-back : (w i : ℕ) (c d : Clock) (k : Condition) → w ≡ wordOf (k .t
 test-back w i c d k e = rw (e, test-word (k .test))
 
 -- the same of what follows others
-pub holds-as : (t t′ : List ℕ) (n r : ℕ) (f g : Finding) → f ≡ g → ((fs : List Finding) → Holds t n fs → Holds t′ r (fs ++ (f ∷ []))) → (fs : List Finding) → Holds t n fs → Holds t′ r (fs ++ (g ∷ []))
+pub holds-as : (t t′ : List ℕ) (n r : ℕ) (f g : Finding) → f ≡ g → ((fs : List Finding) → FindingsHeld t n fs → FindingsHeld t′ r (fs ++ (f ∷ []))) → (fs : List Finding) → FindingsHeld t n fs → FindingsHeld t′ r (fs ++ (g ∷ []))
 holds-as t t′ n r f g e h fs a = rw (sym e) (h fs a)
 
 -- past the end of a table
@@ -390,34 +390,34 @@ clocks-same t t′ i (suc n) h =
     cc
 
 module _ (t : List ℕ) (n : ℕ) (c : Clock) (cs : List Clock) where
-  pub last-over : length t < 17 * n → Has t n cs → Has t n (cs ++ (c ∷ []))
-  unfolding Has
+  pub last-over : length t < 17 * n → RowsHold t n cs → RowsHold t n (cs ++ (c ∷ []))
+  unfolding RowsHold
   last-over h (inl (a, e)) = absurd (omega arith)
   last-over h (inr (a, b)) = inr (a, omega (arith, length-append cs (c ∷ [])))
 
-  pub last-full : 17 * n ≤ length t → length t < 17 * (n + 1) → Has t n cs → Has t (n + 1) (cs ++ (c ∷ []))
-  unfolding Has
+  pub last-full : 17 * n ≤ length t → length t < 17 * (n + 1) → RowsHold t n cs → RowsHold t (n + 1) (cs ++ (c ∷ []))
+  unfolding RowsHold
   last-full room full (inl (a, e)) =
       let k : length cs ≡ n = ap length (sym e) ∙ rows.length-from t 0 n in
       inr (full, omega (arith, length-append cs (c ∷ [])))
   last-full room full (inr (a, b)) = absurd (omega arith)
 
-  pub last-stored : (t′ : List ℕ) → 17 * n + 17 ≤ length t → length t′ ≡ length t → clockIn t′ (17 * n) ≡ c → Within t t′ (17 * n) 17 → Has t n cs → Has t′ (n + 1) (cs ++ (c ∷ []))
-  unfolding Has
+  pub last-stored : (t′ : List ℕ) → 17 * n + 17 ≤ length t → length t′ ≡ length t → clockIn t′ (17 * n) ≡ c → Within t t′ (17 * n) 17 → RowsHold t n cs → RowsHold t′ (n + 1) (cs ++ (c ∷ []))
+  unfolding RowsHold
   last-stored t′ room len row same (inl (a, e)) =
       let o : 0 + n ≡ n = omega arith in
       let s : clocksIn t′ n ≡ cs = clocks-same t t′ 0 n (λ k u. same k (inl (omega arith))) ∙ e in
       inl (omega arith, rw (add-one n) (rows.from-last t′ 0 n ∙ rw (o, s, row)))
   last-stored t′ room len row same (inr (a, b)) = absurd (omega arith)
 
-pub listed-none : (t r : List ℕ) (m : ℕ) (cs : List Clock) → Has r m cs → Has r m (cs ++ sites (findingsIn t 0))
+pub listed-none : (t r : List ℕ) (m : ℕ) (cs : List Clock) → RowsHold r m cs → RowsHold r m (cs ++ sites (findingsIn t 0))
 listed-none t r m cs h = rw (none-yet t .1, append-nil cs) h
 
-pub listed-same : (t r : List ℕ) (i m : ℕ) (cs : List Clock) → sites (findingsIn t (i + 1)) ≡ sites (findingsIn t i) → Has r m (cs ++ sites (findingsIn t i)) → Has r m (cs ++ sites (findingsIn t (i + 1)))
+pub listed-same : (t r : List ℕ) (i m : ℕ) (cs : List Clock) → sites (findingsIn t (i + 1)) ≡ sites (findingsIn t i) → RowsHold r m (cs ++ sites (findingsIn t i)) → RowsHold r m (cs ++ sites (findingsIn t (i + 1)))
 listed-same t r i m cs e h = rw e h
 
-pub listed-more : (t r : List ℕ) (i m : ℕ) (c d : Clock) (cs : List Clock) → sites (findingsIn t (i + 1)) ≡ sites (findingsIn t i) ++ (d ∷ []) → c ≡ d → Has r m ((cs ++ sites (findingsIn t i)) ++ (c ∷ [])) → Has r m (cs ++ sites (findingsIn t (i + 1)))
+pub listed-more : (t r : List ℕ) (i m : ℕ) (c d : Clock) (cs : List Clock) → sites (findingsIn t (i + 1)) ≡ sites (findingsIn t i) ++ (d ∷ []) → c ≡ d → RowsHold r m ((cs ++ sites (findingsIn t i)) ++ (c ∷ [])) → RowsHold r m (cs ++ sites (findingsIn t (i + 1)))
 listed-more t r i m c d cs e q h = rw (e, sym q, ← append-assoc cs (sites (findingsIn t i)) (c ∷ [])) h
 
-pub listed-all : (t : List ℕ) (n i : ℕ) (r : List ℕ) (m : ℕ) (cs : List Clock) → i ≤ n → n ≤ i → Has r m (cs ++ sites (findingsIn t i)) → Has r m (cs ++ sites (findingsIn t n))
+pub listed-all : (t : List ℕ) (n i : ℕ) (r : List ℕ) (m : ℕ) (cs : List Clock) → i ≤ n → n ≤ i → RowsHold r m (cs ++ sites (findingsIn t i)) → RowsHold r m (cs ++ sites (findingsIn t n))
 listed-all t n i r m cs l h a = let q : i ≡ n = omega arith in rw (sym q) a

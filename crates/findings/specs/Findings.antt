@@ -46,8 +46,8 @@ abbrev pub findingsIn : List ℕ → ℕ → List Finding
 findingsIn t n = findingsFrom t 0 n
 
 -- the first n rows are these findings; or there are more findings than rows, and n says so
-unfoldable pub Holds : List ℕ → ℕ → List Finding → Type 0
-Holds t n fs = ((38 * n ≤ length t) × (findingsIn t n ≡ fs)) ⊎ ((length t < 38 * n) × (length t < 38 * length fs))
+unfoldable pub FindingsHeld : List ℕ → ℕ → List Finding → Type 0
+FindingsHeld t n fs = ((38 * n ≤ length t) × (findingsIn t n ≡ fs)) ⊎ ((length t < 38 * n) × (length t < 38 * length fs))
 
 -- what stands for a fault that there is not
 abbrev pub noFault : NodeFault

@@ -14,8 +14,15 @@ ghost use Rattle.definitions.specs.InferClocks.{leftElsewhere, usedElsewhere, w
 ghost use Rattle.clock.specs.Value.{valueOf};
 ghost use Rattle.flat.specs.Flat.{clockIn};
 ghost use Rattle.fault.specs.Value.{faultOf};
-ghost use Rattle.rows.specs.Rows.{Has};
-ghost use Rattle.findings.specs.Findings.{flagWord, findingAs, faultIn, findingIn, findingsIn, Holds, noFault};
+ghost use Rattle.rows.specs.Rows.{RowsHold};
+ghost use Rattle.findings.specs.Findings.{flagWord, findingAs, faultIn, findingIn, findingsIn, FindingsHeld, noFault};
+
+// Where a row has its two clocks, and the words that it takes.
+const ON: usize = 4;
+
+const EXPECTED: usize = ON + flat::WORDS;
+
+const ROW: usize = EXPECTED + flat::WORDS;
 
 // A row's first words: 1 to 4 a fault, 5 a site, 6 too deep a clock; a name; a flag; the equation.
 pub struct Words {
@@ -42,23 +49,23 @@ fn store_row(t: &mut [u32], b: usize, w: Words, on: Clock, expected: Clock)
     t[b + 1] = w.name;
     t[b + 2] = w.flag;
     t[b + 3] = w.equation;
-    flat::store(t, b + 4, on);
-    flat::store(t, b + 21, expected);
+    flat::store(t, b + ON, on);
+    flat::store(t, b + EXPECTED, expected);
 }
 
 // One finding more, if there is room: how many there are then.
 fn push(table: &mut [u32], n: usize, w: Words, on: Clock, expected: Clock) -> usize
     ensures { λ r. ⌜ length (now (table .exit)) ≡ length (now (table .entry)) ⌝ }
-    ensures { λ r. ⌜ ((fs : List Finding) → Holds (now (table .entry)) n fs → Holds (now (table .exit)) r (fs ++ (findingAs (w .kind) (w .name) (w .flag) (w .equation) (valueOf on) (valueOf expected) ∷ []))) ⌝ }
+    ensures { λ r. ⌜ ((fs : List Finding) → FindingsHeld (now (table .entry)) n fs → FindingsHeld (now (table .exit)) r (fs ++ (findingAs (w .kind) (w .name) (w .flag) (w .equation) (valueOf on) (valueOf expected) ∷ []))) ⌝ }
 {
-    let room = table.len() / 38;
+    let room = table.len() / ROW;
     if room < n {
         return n;
     }
     if room <= n {
         return n + 1;
     }
-    store_row(table, 38 * n, w, on, expected);
+    store_row(table, ROW * n, w, on, expected);
     n + 1
 }
 
@@ -79,7 +86,7 @@ pub fn push_left(
     port: bool,
 ) -> usize
     ensures { λ r. ⌜ length (now (table .exit)) ≡ length (now (table .entry)) ⌝ }
-    ensures { λ r. ⌜ ((fs : List Finding) → Holds (now (table .entry)) n fs → Holds (now (table .exit)) r (fs ++ (found (record { equation = equation; fault = leftElsewhere x (valueOf c) (valueOf d) port }) ∷ []))) ⌝ }
+    ensures { λ r. ⌜ ((fs : List Finding) → FindingsHeld (now (table .entry)) n fs → FindingsHeld (now (table .exit)) r (fs ++ (found (record { equation = equation; fault = leftElsewhere x (valueOf c) (valueOf d) port }) ∷ []))) ⌝ }
 {
     let flag = flag_word(port);
     push(
@@ -99,7 +106,7 @@ pub fn push_left(
 // Fault 2: a name x on c, used on d.
 pub fn push_used(table: &mut [u32], n: usize, equation: u32, x: u32, c: Clock, d: Clock) -> usize
     ensures { λ r. ⌜ length (now (table .exit)) ≡ length (now (table .entry)) ⌝ }
-    ensures { λ r. ⌜ ((fs : List Finding) → Holds (now (table .entry)) n fs → Holds (now (table .exit)) r (fs ++ (found (record { equation = equation; fault = usedElsewhere x (valueOf c) (valueOf d) }) ∷ []))) ⌝ }
+    ensures { λ r. ⌜ ((fs : List Finding) → FindingsHeld (now (table .entry)) n fs → FindingsHeld (now (table .exit)) r (fs ++ (found (record { equation = equation; fault = usedElsewhere x (valueOf c) (valueOf d) }) ∷ []))) ⌝ }
 {
     push(
         table,
@@ -118,7 +125,7 @@ pub fn push_used(table: &mut [u32], n: usize, equation: u32, x: u32, c: Clock, d
 // Fault 3: a when of the condition k where d is expected.
 pub fn push_when(table: &mut [u32], n: usize, equation: u32, k: Condition, d: Clock) -> usize
     ensures { λ r. ⌜ length (now (table .exit)) ≡ length (now (table .entry)) ⌝ }
-    ensures { λ r. ⌜ ((fs : List Finding) → Holds (now (table .entry)) n fs → Holds (now (table .exit)) r (fs ++ (found (record { equation = equation; fault = whenElsewhere k (valueOf d) }) ∷ []))) ⌝ }
+    ensures { λ r. ⌜ ((fs : List Finding) → FindingsHeld (now (table .entry)) n fs → FindingsHeld (now (table .exit)) r (fs ++ (found (record { equation = equation; fault = whenElsewhere k (valueOf d) }) ∷ []))) ⌝ }
 {
     let test = k.test;
     let flag = flat::word_of(test);
@@ -146,7 +153,7 @@ pub fn push_clock_name(
     d: Clock,
 ) -> usize
     ensures { λ r. ⌜ length (now (table .exit)) ≡ length (now (table .entry)) ⌝ }
-    ensures { λ r. ⌜ ((fs : List Finding) → Holds (now (table .entry)) n fs → Holds (now (table .exit)) r (fs ++ (found (record { equation = equation; fault = clockNameElsewhere x (valueOf c) (valueOf d) }) ∷ []))) ⌝ }
+    ensures { λ r. ⌜ ((fs : List Finding) → FindingsHeld (now (table .entry)) n fs → FindingsHeld (now (table .exit)) r (fs ++ (found (record { equation = equation; fault = clockNameElsewhere x (valueOf c) (valueOf d) }) ∷ []))) ⌝ }
 {
     push(
         table,
@@ -165,7 +172,7 @@ pub fn push_clock_name(
 // The clock of a `pre` or `->`.
 pub fn push_site(table: &mut [u32], n: usize, d: Clock) -> usize
     ensures { λ r. ⌜ length (now (table .exit)) ≡ length (now (table .entry)) ⌝ }
-    ensures { λ r. ⌜ ((fs : List Finding) → Holds (now (table .entry)) n fs → Holds (now (table .exit)) r (fs ++ (site (valueOf d) ∷ []))) ⌝ }
+    ensures { λ r. ⌜ ((fs : List Finding) → FindingsHeld (now (table .entry)) n fs → FindingsHeld (now (table .exit)) r (fs ++ (site (valueOf d) ∷ []))) ⌝ }
 {
     push(
         table,
@@ -184,7 +191,7 @@ pub fn push_site(table: &mut [u32], n: usize, d: Clock) -> usize
 // Too deep a clock.
 pub fn push_deep(table: &mut [u32], n: usize) -> usize
     ensures { λ r. ⌜ length (now (table .exit)) ≡ length (now (table .entry)) ⌝ }
-    ensures { λ r. ⌜ ((fs : List Finding) → Holds (now (table .entry)) n fs → Holds (now (table .exit)) r (fs ++ (tooDeep ∷ []))) ⌝ }
+    ensures { λ r. ⌜ ((fs : List Finding) → FindingsHeld (now (table .entry)) n fs → FindingsHeld (now (table .exit)) r (fs ++ (tooDeep ∷ []))) ⌝ }
 {
     let b = clock::base();
     push(
@@ -205,10 +212,10 @@ pub fn push_deep(table: &mut [u32], n: usize) -> usize
 fn kind_at(t: &[u32], i: usize) -> u32
     ensures { λ r. ⌜ r ≡ getD (now (t .entry)) (38 * i) 0 ⌝ }
 {
-    if t.len() / 38 < i {
+    if t.len() / ROW < i {
         return 0;
     }
-    flat::word_at(t, 38 * i)
+    flat::word_at(t, ROW * i)
 }
 
 // Word j of row i.
@@ -216,10 +223,10 @@ fn word_at(t: &[u32], i: usize, j: usize) -> u32
     requires { ⌜ j < 38 ⌝ }
     ensures { λ r. ⌜ r ≡ getD (now (t .entry)) (38 * i + j) 0 ⌝ }
 {
-    if t.len() / 38 < i {
+    if t.len() / ROW < i {
         return 0;
     }
-    let b = 38 * i;
+    let b = ROW * i;
     flat::word_at(t, b + j)
 }
 
@@ -228,10 +235,10 @@ fn clock_at(t: &[u32], i: usize, j: usize) -> Clock
     requires { ⌜ j < 38 ⌝ }
     ensures { λ r. ⌜ valueOf r ≡ clockIn (now (t .entry)) (38 * i + j) ⌝ }
 {
-    if t.len() / 38 < i {
+    if t.len() / ROW < i {
         return clock::base();
     }
-    let b = 38 * i;
+    let b = ROW * i;
     flat::load(t, b + j)
 }
 
@@ -274,8 +281,8 @@ fn fault_in(table: &[u32], i: usize) -> Fault
     let k = kind_at(table, i);
     let x = word_at(table, i, 1);
     let w = word_at(table, i, 2);
-    let c = clock_at(table, i, 4);
-    let d = clock_at(table, i, 21);
+    let c = clock_at(table, i, ON);
+    let d = clock_at(table, i, EXPECTED);
     if k == 1 {
         let port = w == 1;
         return fault::left_elsewhere(x, c, d, port);
@@ -333,23 +340,23 @@ pub fn nth_fault(table: &[u32], n: usize, j: usize) -> Found
 // A clock behind those of a table of clocks, if there is room: how many it has then.
 fn append(rows: &mut [u32], m: usize, c: Clock) -> usize
     ensures { λ r. ⌜ length (now (rows .exit)) ≡ length (now (rows .entry)) ⌝ }
-    ensures { λ r. ⌜ ((cs : List clocks.Clock) → Has (now (rows .entry)) m cs → Has (now (rows .exit)) r (cs ++ (valueOf c ∷ []))) ⌝ }
+    ensures { λ r. ⌜ ((cs : List clocks.Clock) → RowsHold (now (rows .entry)) m cs → RowsHold (now (rows .exit)) r (cs ++ (valueOf c ∷ []))) ⌝ }
 {
-    let room = rows.len() / 17;
+    let room = rows.len() / flat::WORDS;
     if room < m {
         return m;
     }
     if room <= m {
         return m + 1;
     }
-    flat::store(rows, 17 * m, c);
+    flat::store(rows, flat::WORDS * m, c);
     m + 1
 }
 
 // All the clocks of `pre` and `->` other than base, in order, behind those of a table of clocks: how many it has then.
 pub fn list_sites(table: &[u32], n: usize, rows: &mut [u32], m: usize) -> usize
     ensures { λ r. ⌜ length (now (rows .exit)) ≡ length (now (rows .entry)) ⌝ }
-    ensures { λ r. ⌜ ((cs : List clocks.Clock) → Has (now (rows .entry)) m cs → Has (now (rows .exit)) r (cs ++ sites (findingsIn (now (table .entry)) n))) ⌝ }
+    ensures { λ r. ⌜ ((cs : List clocks.Clock) → RowsHold (now (rows .entry)) m cs → RowsHold (now (rows .exit)) r (cs ++ sites (findingsIn (now (table .entry)) n))) ⌝ }
 {
     let mut i: usize = 0;
     let mut at = m;
@@ -359,7 +366,7 @@ pub fn list_sites(table: &[u32], n: usize, rows: &mut [u32], m: usize) -> usize
             i += 1;
             continue;
         }
-        let c = clock_at(table, i, 21);
+        let c = clock_at(table, i, EXPECTED);
         let on_base = clock::is_base(c);
         if on_base {
             i += 1;

@@ -1,5 +1,5 @@
--- A node's faults one by one: its clock faults, else the first that rewriting meets; what a question on a fault's text asks for is at
--- the end (`fault-there`, `fault-missing`). Assumes nothing.
+-- A node's faults one by one: its clock faults, else the first that rewriting meets.
+-- Assumes nothing.
 use Prim.Native.Nat.{ℕ, zero, suc, _+_, _≤_, _<_}
 use mathlib.Core.Path.{_≡_, refl, sym, ap, ap₂, _∙_, subst}
 use mathlib.Core.List.{List, [], _∷_}
@@ -20,25 +20,24 @@ use Rattle.definitions.specs.Answer.{Input, clockings}
 use Rattle.shapes.proofs.Clockless.{no-node-faults}
 use Rattle.layout.specs.declared.NodeLayout.{NodeLayout}
 use Rattle.layout.specs.declared.SheetLayout.{SheetLayout}
-use Rattle.layout.specs.Laid.{Laid, LaidSheet, Places}
+use Rattle.layout.specs.Laid.{LaidNode, LaidSheet, Places}
 use Rattle.typedefs.specs.Table.{Table}
-use Rattle.defaults.specs.Has.{Has}
+use Rattle.defaults.specs.Has.{DefaultsKnown}
 use Rattle.listing.proofs.Laws.{clocked-many}
 use Rattle.findings.specs.Findings.{findingsIn, noFault}
 use Rattle.infer_clocks.specs.declared.NodeClocked.{NodeClocked}
-use Rattle.infer_clocks.specs.Clocked.{Tells, Sole, Clocked as Clocks′}
+use Rattle.infer_clocks.specs.Clocked.{ClocksStand, Sole, ClockedOrDeep}
 use Rattle.stateless.specs.Faults.{rightFault, atEquation, oldFault}
-use Rattle.stateless.specs.Sheets.{NodeHere, withinAll, oneOf, faultsBy}
+use Rattle.stateless.specs.Sheets.{withinAll, oneOf, faultsBy}
 use Rattle.stateless.proofs.Nodes.{clockings-form, node-here, same-clocking, not-too-deep, clocked, all-within, node-faults, rewriting-faulty}
 use Rattle.stateless.proofs.Stops as stops
 use Rattle.fault.specs.Value.{faultOf}
 use Rattle.environment.specs.Environment.{Agrees}
 use Rattle.rewriting_faults.specs.declared.FirstFault.{FirstFault}
-use Rattle.rewriting_faults.specs.Met.{toldOf, InScope}
+use Rattle.rewriting_faults.specs.Met.{firstFaultOf, InScope}
 use Rattle.query.specs.Standing.{Roomy}
 use Rattle.first_faults.specs.declared.Tables.{Tables}
-use Rattle.first_faults.specs.declared.FaultFound.{FaultFound}
-use Rattle.first_faults.specs.Faults.{Tabled, foundOf, faultIn}
+use Rattle.first_faults.specs.Faults.{SheetTables, faultIn}
 
 -- ---- an item of a list
 pub item-none : {A : Type 0} (l : List A) (j : ℕ) → length l ≤ j → getElem? l j ≡ none
@@ -81,12 +80,12 @@ module _ (types : List TypeDef) (nodes : List Node) (n : Node) (condact : ℕ) w
       go (some g) e r = let x = ap (λ (y : NodeFault). y .equation) (Option·some-injective (record { equation = i; fault = g }) f e) in omega (arith, x)
 
 -- the sheet and a node of it
-in-scope : (gs vs : List ℕ) (t : Tables) (r : Input) (n : Node) (q : ℕ) (l : NodeLayout) → Tabled gs vs t r → Laid (t .names) (tokens gs vs) n q l
+in-scope : (gs vs : List ℕ) (t : Tables) (r : Input) (n : Node) (q : ℕ) (l : NodeLayout) → SheetTables gs vs t r → LaidNode (t .names) (tokens gs vs) n q l
     → InScope gs vs (t .places) (t .defs) (t .has) (record { names = t .names; nodes = t .nodes; types = t .types; layout = l }) (r .sheet .types) (r .sheet .nodes) n
 in-scope gs vs t r n q l h d = record { standing = h .nodes; end = q; laid = d; table = h .types; defaulted = h .defaulted }
 
 -- the first fault that rewriting meets, told with one of the node's equations
-module _ (gs vs env : List ℕ) (t : Tables) (r : Input) (n : Node) (q : ℕ) (l : NodeLayout) (k : Clocking) (h : Tabled gs vs t r) (d : Laid (t .names) (tokens gs vs) n q l) (c : clocking n ≡ formed k) where
+module _ (gs vs env : List ℕ) (t : Tables) (r : Input) (n : Node) (q : ℕ) (l : NodeLayout) (k : Clocking) (h : SheetTables gs vs t r) (d : LaidNode (t .names) (tokens gs vs) n q l) (c : clocking n ≡ formed k) where
   told-within : (b : Bool) (e : ℕ) (f : Fault)
       → choose b (some (record { equation = e; fault = f })) none ≡ oldFault (r .sheet .types) (r .sheet .nodes) n (condactId (r .names)) 0 (k .equations) → b ≡ true → e < l .equations .count
   told-within true e f o u =
@@ -96,8 +95,8 @@ module _ (gs vs env : List ℕ) (t : Tables) (r : Input) (n : Node) (q : ℕ) (l
   told-within false e f o u = let z : _≡_ {A = ℕ} 0 1 = cc in absurd (omega arith)
 
   pub rewriting-met : (f : FirstFault) (o : Option NodeFault) → Agrees env (t .names) (k .names) → clockFaults (k .findings) ≡ []
-      → ((types : List TypeDef) (nodes : List Node) (n : Node) (clocks : Clocks) (cs : List Clocked) → InScope gs vs (t .places) (t .defs) (t .has) (record { names = t .names; nodes = t .nodes; types = t .types; layout = l }) types nodes n → Agrees env (t .names) clocks → clockedBy clocks (n .equations) ≡ formed cs → withinAll cs ≡ true → toldOf f ≡ oldFault types nodes n (t .condact) 0 cs)
-      → ((f .found ≡ true → f .equation < l .equations .count) → o ≡ toldOf f)
+      → ((types : List TypeDef) (nodes : List Node) (n : Node) (clocks : Clocks) (cs : List Clocked) → InScope gs vs (t .places) (t .defs) (t .has) (record { names = t .names; nodes = t .nodes; types = t .types; layout = l }) types nodes n → Agrees env (t .names) clocks → clockedBy clocks (n .equations) ≡ formed cs → withinAll cs ≡ true → firstFaultOf f ≡ oldFault types nodes n (t .condact) 0 cs)
+      → ((f .found ≡ true → f .equation < l .equations .count) → o ≡ firstFaultOf f)
       → o ≡ oldFault (r .sheet .types) (r .sheet .nodes) n (condactId (r .names)) 0 (k .equations)
   rewriting-met f o a z F W =
       let m = F (r .sheet .types) (r .sheet .nodes) n (k .names) (k .equations) (in-scope gs vs t r n q l h d) a (clocked n k c) (all-within n k c z) ∙ ap (λ (x : ℕ). oldFault (r .sheet .types) (r .sheet .nodes) n x 0 (k .equations)) (h .condact) in
@@ -155,28 +154,28 @@ module _ (r : Input) (n : Node) (k : Clocking) (t : List ℕ) (m count j : ℕ) 
         ∙ by-first (stops.faultOf (r .sheet) (r .names) (record { node = n; clocking = k }))))
 
 -- ---- a node whose clocks are formed, by what inference tells
-clocks-as : (env tb : List ℕ) (M : ℕ) (a b : NodeClocked) (v : Formed Clocking) → a ≡ b → Clocks′ env tb M a v → Clocks′ env tb M b v
-clocks-as env tb M a b v e c = subst (λ (x : NodeClocked). Clocks′ env tb M x v) e c
+clocks-as : (env tb : List ℕ) (M : ℕ) (a b : NodeClocked) (v : Formed Clocking) → a ≡ b → ClockedOrDeep env tb M a v → ClockedOrDeep env tb M b v
+clocks-as env tb M a b v e c = subst (λ (x : NodeClocked). ClockedOrDeep env tb M x v) e c
 
-module _ (env tb : List ℕ) (M : ℕ) (n : Node) (k : Clocking) (a : NodeClocked) (f : clocking n ≡ formed k) (C : Clocks′ env tb M a (clocking n)) where
+module _ (env tb : List ℕ) (M : ℕ) (n : Node) (k : Clocking) (a : NodeClocked) (f : clocking n ≡ formed k) (C : ClockedOrDeep env tb M a (clocking n)) where
   pub none-deep : a ≡ NodeClocked.Deep → ⊥
-  unfolding Clocks′
+  unfolding ClockedOrDeep
   none-deep e = not-too-deep n k f (clocks-as env tb M a NodeClocked.Deep (clocking n) e C)
 
-  pub tells : (passes m : ℕ) → a ≡ NodeClocked.Clocked passes m → Tells env tb M passes m k
-  unfolding Clocks′
+  pub tells : (passes m : ℕ) → a ≡ NodeClocked.Clocked passes m → ClocksStand env tb M passes m k
+  unfolding ClockedOrDeep
   tells passes m e =
       let c = clocks-as env tb M a (NodeClocked.Clocked passes m) (clocking n) e C in
-      subst (λ (x : Clocking). Tells env tb M passes m x) (same-clocking n (c .0) k (c .1) f) (c .2)
+      subst (λ (x : Clocking). ClocksStand env tb M passes m x) (same-clocking n (c .0) k (c .1) f) (c .2)
 
 -- ---- node k
-module _ (gs vs : List ℕ) (t : Tables) (r : Input) (ns : List ClockedNode) (h : Tabled gs vs t r) (f : clockings 0 (r .sheet .nodes) ≡ accepted ns) (k j : ℕ) where
+module _ (gs vs : List ℕ) (t : Tables) (r : Input) (ns : List ClockedNode) (h : SheetTables gs vs t r) (f : clockings 0 (r .sheet .nodes) ≡ accepted ns) (k j : ℕ) where
   pub past-nodes : (o : Option NodeFault) → t .nodes ≤ k → o ≡ none → o ≡ faultIn r (getElem? ns k) j
   past-nodes o l e = e ∙ sym (ap (λ (x : Option ClockedNode). faultIn r x j) (item-none ns k (omega (arith, l, clockings-form 0 (r .sheet .nodes) ns f .same-length, h .nodes .count))))
 
   pub at-node : (o : Option NodeFault) (l : NodeLayout) → k < t .nodes
-      → ((n : Node) (q : ℕ) → node (t .names) (tokens gs vs) (getD (t .places) k 0) ≡ got n q → Laid (t .names) (tokens gs vs) n q l)
-      → ((n : Node) (q : ℕ) (c : Clocking) → Laid (t .names) (tokens gs vs) n q l → clocking n ≡ formed c → o ≡ getElem? (nodeFaults (r .names) (r .sheet) (record { node = n; clocking = c })) j)
+      → ((n : Node) (q : ℕ) → node (t .names) (tokens gs vs) (getD (t .places) k 0) ≡ got n q → LaidNode (t .names) (tokens gs vs) n q l)
+      → ((n : Node) (q : ℕ) (c : Clocking) → LaidNode (t .names) (tokens gs vs) n q l → clocking n ≡ formed c → o ≡ getElem? (nodeFaults (r .names) (r .sheet) (record { node = n; clocking = c })) j)
       → o ≡ faultIn r (getElem? ns k) j
   at-node o l few L F =
       let here = node-here (clockings-form 0 (r .sheet .nodes) ns f) k (omega (arith, few, h .nodes .count)) in
@@ -185,9 +184,9 @@ module _ (gs vs : List ℕ) (t : Tables) (r : Input) (ns : List ClockedNode) (h 
       ∙ sym (ap (λ (x : Option ClockedNode). faultIn r x j) (here .here))
 
 -- it is laid out where it stands
-pub laid-at : {P : Type 0} (gs vs : List ℕ) (t : Tables) (r : Input) → Tabled gs vs t r → (k : ℕ) (n : Node) → getElem? (r .sheet .nodes) k ≡ some n → (l : NodeLayout)
-    → ((n : Node) (q : ℕ) → node (t .names) (tokens gs vs) (getD (t .places) k 0) ≡ got n q → Laid (t .names) (tokens gs vs) n q l)
-    → ((q : ℕ) → Laid (t .names) (tokens gs vs) n q l → P) → P
+pub laid-at : {P : Type 0} (gs vs : List ℕ) (t : Tables) (r : Input) → SheetTables gs vs t r → (k : ℕ) (n : Node) → getElem? (r .sheet .nodes) k ≡ some n → (l : NodeLayout)
+    → ((n : Node) (q : ℕ) → node (t .names) (tokens gs vs) (getD (t .places) k 0) ≡ got n q → LaidNode (t .names) (tokens gs vs) n q l)
+    → ((q : ℕ) → LaidNode (t .names) (tokens gs vs) n q l → P) → P
 laid-at gs vs t r h k n e l L F = let p = h .nodes .each .stands k n e in F (p .0) (L n (p .0) (p .1))
 
 -- the clocks of the only node are those of node k
@@ -207,9 +206,9 @@ same-times R ts n w count at q l a b c g = let e : n ≡ count = b (omega arith)
 pub tabled : (gs vs : List ℕ) (M condact types nodes w v : ℕ) (places defs has : List ℕ) (s : SheetLayout) (r : Input) → LaidSheet M (tokens gs vs) (r .sheet) s
     → w ≡ s .types .count → (types ≤ 32) × (w ≤ 32 → types ≡ w) → v ≡ s .nodes .count → (nodes ≤ 16) × (v ≤ 16 → nodes ≡ v)
     → ((l : List TypeDef) (q : ℕ) → times types (typeDef M) (tokens gs vs) (s .types .at) ≡ got l q → Table M (tokens gs vs) defs types l)
-    → ((l : List TypeDef) → Table M (tokens gs vs) defs types l → Has l types types has)
+    → ((l : List TypeDef) → Table M (tokens gs vs) defs types l → DefaultsKnown l types types has)
     → ((l : List Node) (q : ℕ) → times nodes (node M) (tokens gs vs) (s .nodes .at) ≡ got l q → Places (node M) (tokens gs vs) places l)
-    → condact ≡ condactId (r .names) → Tabled gs vs (record { names = M; condact = condact; nodes = nodes; types = types; places = places; defs = defs; has = has }) r
+    → condact ≡ condactId (r .names) → SheetTables gs vs (record { names = M; condact = condact; nodes = nodes; types = types; places = places; defs = defs; has = has }) r
 tabled gs vs M condact types nodes w v places defs has s r h a b c d D H P e =
     let table = D (r .sheet .types) (s .types .end) (same-times (typeDef M) (tokens gs vs) types w (s .types .count) (s .types .at) (s .types .end) (r .sheet .types) a (b .1) (h .few-types) (h .types .items)) in
     let few = h .few-nodes in
@@ -220,19 +219,3 @@ tabled gs vs M condact types nodes w v places defs has s r h a b c d D H P e =
 -- the working tables keep their room
 pub roomy-still : (M many : ℕ) (env table env′ table′ : List ℕ) → Roomy M many env table → length env′ ≡ length env → length table′ ≡ length table → Roomy M many env′ table′
 roomy-still M many env table env′ table′ r a b = record { few = r .few; clocks = omega (arith, r .clocks, a); found = omega (arith, r .found, b) }
-
--- ---- for the text of a fault: what is told of fault j of a node that there is
-module _ (r : Input) {ns : List ClockedNode} {k : ℕ} (u : NodeHere (r .sheet .nodes) ns k) (j : ℕ) (a : FaultFound) (h : foundOf a ≡ faultIn r (getElem? ns k) j) where
-  pub fault-told : foundOf a ≡ getElem? (nodeFaults (r .names) (r .sheet) (u .clocked)) j
-  fault-told = h ∙ ap (λ (x : Option ClockedNode). faultIn r x j) (u .here)
-
-  pub fault-there : a .found ≡ true → getElem? (nodeFaults (r .names) (r .sheet) (u .clocked)) j ≡ some (record { equation = a .equation; fault = faultOf (a .fault) })
-  fault-there e = sym fault-told ∙ ap (λ (b : Bool). choose b (some (record { equation = a .equation; fault = faultOf (a .fault) })) none) e
-
-  pub fault-missing : a .found ≡ false → length (nodeFaults (r .names) (r .sheet) (u .clocked)) ≤ j
-  fault-missing e = past (nodeFaults (r .names) (r .sheet) (u .clocked)) j (sym fault-told ∙ ap (λ (b : Bool). choose b (some (record { equation = a .equation; fault = faultOf (a .fault) })) none) e)
-    where
-      past : (l : List NodeFault) (j : ℕ) → getElem? l j ≡ none → length l ≤ j
-      past [] j e = omega arith
-      past (f ∷ l) zero e = let z : _≡_ {A = ℕ} 0 1 = cc in absurd (omega arith)
-      past (f ∷ l) (suc j) e = let x = past l j e in omega (arith, x)

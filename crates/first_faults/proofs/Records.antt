@@ -26,7 +26,7 @@ use Rattle.stateless.specs.Sheets.{firstFaultsFrom}
 use Rattle.stateless.proofs.Nodes.{clockings-form, node-here, all-before, faults-end, faults-front}
 use Rattle.query.specs.Words.{recordWords, entriesOver}
 use Rattle.query.proofs.Words.{join-last}
-use Rattle.first_faults.specs.declared.Walked.{Walked}
+use Rattle.first_faults.specs.declared.NodesWalked.{NodesWalked}
 use Rattle.first_faults.specs.Faults.{faultIn, Recorded, Walks}
 
 -- ---- entries over a list
@@ -187,34 +187,34 @@ module _ (r : Input) (k : ℕ) (ahead : Ahead k (drop k (r .sheet .nodes)) (cloc
     pub walk-step : b ≡ false → Ahead (k + 1) (drop (k + 1) (r .sheet .nodes)) (clockings 0 (r .sheet .nodes))
     walk-step e = ahead-step k (drop k (r .sheet .nodes)) (clockings 0 (r .sheet .nodes)) ahead (here .0) (drop (k + 1) (r .sheet .nodes)) (here .1) b (here .2) e
 
-    pub walk-deep : (lent now : List ℕ) → b ≡ true → Walks r lent now (Walked.Deep k)
+    pub walk-deep : (lent now : List ℕ) → b ≡ true → Walks r lent now (NodesWalked.Deep k)
     unfolding Walks Deeply
     walk-deep lent now e = ahead-deep k (drop k (r .sheet .nodes)) (clockings 0 (r .sheet .nodes)) ahead (here .0) (drop (k + 1) (r .sheet .nodes)) (here .1) b (here .2) e
 
-  pub walk-end : (lent now : List ℕ) (m : ℕ) → length (r .sheet .nodes) ≤ k → ((ns : List ClockedNode) → clockings 0 (r .sheet .nodes) ≡ accepted ns → Recorded lent (firstFaultsFrom r 0 (take k ns)) m now) → Walks r lent now (Walked.Faulty m)
+  pub walk-end : (lent now : List ℕ) (m : ℕ) → length (r .sheet .nodes) ≤ k → ((ns : List ClockedNode) → clockings 0 (r .sheet .nodes) ≡ accepted ns → Recorded lent (firstFaultsFrom r 0 (take k ns)) m now) → Walks r lent now (NodesWalked.Faulty m)
   unfolding Walks Deeply
   walk-end lent now m past f =
       let n = ahead-end k (drop k (r .sheet .nodes)) (clockings 0 (r .sheet .nodes)) ahead (drop-of-length-le (r .sheet .nodes) {i = k} past) in
       (n .0, n .1, first-end r (n .0) (n .1) lent k m now past (f (n .0) (n .1)))
 
 -- ---- what was found, recorded in one list and copied over another
-module _ (w : Walked) where
-  pub walks-deep : (r : Input) (first kept lent now : List ℕ) (k : ℕ) → w ≡ Walked.Deep k → Walks r first kept w → Walks r lent now (Walked.Deep k)
+module _ (w : NodesWalked) where
+  pub walks-deep : (r : Input) (first kept lent now : List ℕ) (k : ℕ) → w ≡ NodesWalked.Deep k → Walks r first kept w → Walks r lent now (NodesWalked.Deep k)
   unfolding Walks
   walks-deep r first kept lent now k e h = rw e at h
 
-  pub walks-copied : (r : Input) (first kept lent now : List ℕ) (m : ℕ) → w ≡ Walked.Faulty m → Walks r first kept w → ((lent′ : List ℕ) (l : List FaultRecord) → Recorded lent′ l m kept → Recorded lent l m now) → Walks r lent now (Walked.Faulty m)
+  pub walks-copied : (r : Input) (first kept lent now : List ℕ) (m : ℕ) → w ≡ NodesWalked.Faulty m → Walks r first kept w → ((lent′ : List ℕ) (l : List FaultRecord) → Recorded lent′ l m kept → Recorded lent l m now) → Walks r lent now (NodesWalked.Faulty m)
   unfolding Walks
   walks-copied r first kept lent now m e h copy =
-      let x : Walks r first kept (Walked.Faulty m) = rw e at h in
+      let x : Walks r first kept (NodesWalked.Faulty m) = rw e at h in
       (x .0, x .1, copy first (firstFaultsFrom r 0 (x .0)) (x .2))
 
 -- which of the two it is
-pub deep-uncounted : (k m : ℕ) → Walked.Deep k ≡ Walked.Faulty m → m ≤ 16
+pub deep-uncounted : (k m : ℕ) → NodesWalked.Deep k ≡ NodesWalked.Faulty m → m ≤ 16
 deep-uncounted k m e = let z : _≡_ {A = ℕ} 0 1 = cc in absurd (omega arith)
 
-pub faulty-counted : (n : ℕ) → n ≤ 16 → (m : ℕ) → Walked.Faulty n ≡ Walked.Faulty m → m ≤ 16
+pub faulty-counted : (n : ℕ) → n ≤ 16 → (m : ℕ) → NodesWalked.Faulty n ≡ NodesWalked.Faulty m → m ≤ 16
 faulty-counted n h m e = let x : n ≡ m = cc in omega arith
 
-pub not-deep : {A : Type 0} (m k : ℕ) → Walked.Faulty m ≡ Walked.Deep k → A
+pub not-deep : {A : Type 0} (m k : ℕ) → NodesWalked.Faulty m ≡ NodesWalked.Deep k → A
 not-deep m k e = let z : _≡_ {A = ℕ} 0 1 = cc in absurd (omega arith)

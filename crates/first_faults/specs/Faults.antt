@@ -14,20 +14,20 @@ use Rattle.definitions.specs.Refusals.{accepted, refused}
 use Rattle.definitions.specs.Answer.{Input, clockings}
 use Rattle.fault.specs.Value.{faultOf}
 use Rattle.typedefs.specs.Table.{Table}
-use Rattle.defaults.specs.Has.{Has}
-use Rattle.callees.specs.Callees.{Standing}
+use Rattle.defaults.specs.Has.{DefaultsKnown}
+use Rattle.callees.specs.Callees.{NodesStand}
 use Rattle.stateless.specs.Sheets.{firstFaultsFrom}
 use Rattle.query.specs.Words.{recordWords, entriesOver}
 use Rattle.first_faults.specs.declared.Tables.{Tables}
 use Rattle.first_faults.specs.declared.FaultFound.{FaultFound}
-use Rattle.first_faults.specs.declared.Walked.{Walked}
+use Rattle.first_faults.specs.declared.NodesWalked.{NodesWalked}
 
 -- the sheet r in its tables: its nodes and its types' definitions stand where these say, which of the definitions have a default, and
 -- the id of `condact` among its names
-pub record Tabled (gs vs : List ℕ) (t : Tables) (r : Input) : Type 0 where
-  pub nodes : Standing (t .names) gs vs (t .places) (t .nodes) (r .sheet .nodes)
+pub record SheetTables (gs vs : List ℕ) (t : Tables) (r : Input) : Type 0 where
+  pub nodes : NodesStand (t .names) gs vs (t .places) (t .nodes) (r .sheet .nodes)
   pub types : Table (t .names) (tokens gs vs) (t .defs) (t .types) (r .sheet .types)
-  pub defaulted : Has (r .sheet .types) (t .types) (t .types) (t .has)
+  pub defaulted : DefaultsKnown (r .sheet .types) (t .types) (t .types) (t .has)
   pub condact : t .condact ≡ condactId (r .names)
 
 -- the fault that an answer says, with its equation
@@ -46,6 +46,6 @@ pub record Recorded (lent : List ℕ) (fs : List FaultRecord) (m : ℕ) (now : L
 
 -- what was found over all nodes: the first in which too deep a clock is formed; or how many are faulty, and each one's first fault is
 -- recorded over a lent list
-unfoldable pub Walks : Input → List ℕ → List ℕ → Walked → Type 0
-Walks r lent now (Walked.Deep k) = clockings 0 (r .sheet .nodes) ≡ refused (Refusal.Deep k)
-Walks r lent now (Walked.Faulty m) = (ns : List ClockedNode) × (clockings 0 (r .sheet .nodes) ≡ accepted ns) × Recorded lent (firstFaultsFrom r 0 ns) m now
+unfoldable pub Walks : Input → List ℕ → List ℕ → NodesWalked → Type 0
+Walks r lent now (NodesWalked.Deep k) = clockings 0 (r .sheet .nodes) ≡ refused (Refusal.Deep k)
+Walks r lent now (NodesWalked.Faulty m) = (ns : List ClockedNode) × (clockings 0 (r .sheet .nodes) ≡ accepted ns) × Recorded lent (firstFaultsFrom r 0 ns) m now

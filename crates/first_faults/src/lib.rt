@@ -1,6 +1,8 @@
 // The faults of an accepted sheet's nodes: fault j of node k, where all clocks are formed; and each faulty node's first fault, or the
 // first node in which too deep a clock is formed.
 // `tags` and `values` are as long as each other. `env` and `table` are the tables that clocks and findings stand in.
+use definitions::MOST_NAMES;
+use definitions::MOST_NODES;
 use fault::Fault;
 use infer_clocks::NodeClocked;
 use layout::NodeLayout;
@@ -24,12 +26,12 @@ ghost use Rattle.definitions.specs.Answer.{Input, clockings, firstOf};
 ghost use Rattle.environment.specs.Environment.{Agrees};
 ghost use Rattle.spelling.specs.Writing.{overAt};
 ghost use Rattle.findings.specs.Findings.{findingsIn};
-ghost use Rattle.layout.specs.Laid.{Laid};
-ghost use Rattle.infer_clocks.specs.Clocked.{isDeep, Tells, Sole};
+ghost use Rattle.layout.specs.Laid.{LaidNode};
+ghost use Rattle.infer_clocks.specs.Clocked.{isDeep, ClocksStand, Sole};
 ghost use Rattle.stateless.specs.Faults.{oldFault};
-ghost use Rattle.rewriting_faults.specs.Met.{toldOf};
+ghost use Rattle.rewriting_faults.specs.Met.{firstFaultOf};
 ghost use Rattle.query.specs.Standing.{Roomy};
-ghost use Rattle.first_faults.specs.Faults.{Tabled, foundOf, faultIn, Recorded, Walks};
+ghost use Rattle.first_faults.specs.Faults.{SheetTables, foundOf, faultIn, Recorded, Walks};
 
 // A sheet: how many names it has and the id of `condact` among them, how many nodes and types' definitions; where each of these
 // stands, and for each definition 1 if it has a default.
@@ -38,7 +40,7 @@ pub struct Tables {
     pub condact: u32,
     pub nodes: usize,
     pub types: usize,
-    pub places: [usize; 16],
+    pub places: [usize; MOST_NODES],
     pub defs: [usize; 32],
     pub has: [u8; 32],
 }
@@ -57,7 +59,7 @@ pub struct NodeFound {
 }
 
 // A sheet: the first node in which too deep a clock is formed, or how many nodes are faulty.
-pub enum Walked {
+pub enum NodesWalked {
     Deep(usize),
     Faulty(usize),
 }
@@ -90,7 +92,7 @@ fn word_below(x: usize, n: u32) -> u32
 pub fn tables_of(tags: &[u8], values: &[u32], names: u32, condact: u32) -> Tables
     requires { ⌜ length (now values) ≡ length (now tags) ⌝ }
     ensures { λ r. ⌜ (r .names ≡ names) × (r .nodes ≤ 16) × (r .types ≤ 32) ⌝ }
-    ensures { λ r. ⌜ ((i : Input) (q : ℕ) → sheet names (tokens (now (tags .entry)) (now (values .entry))) 0 ≡ got (i .sheet) q → condact ≡ condactId (i .names) → Tabled (now (tags .entry)) (now (values .entry)) r i) ⌝ }
+    ensures { λ r. ⌜ ((i : Input) (q : ℕ) → sheet names (tokens (now (tags .entry)) (now (values .entry))) 0 ≡ got (i .sheet) q → condact ≡ condactId (i .names) → SheetTables (now (tags .entry)) (now (values .entry)) r i) ⌝ }
 {
     let whole = layout::sheet_at(tags, values, names);
     let t = whole.types;
@@ -149,7 +151,7 @@ fn clock_fault(table: &[u32], n: usize, m: usize, j: usize) -> FaultFound
 
 // What rewriting met in one of so many equations.
 fn met_fault(f: FirstFault, count: u32) -> FaultFound
-    ensures { λ r. ⌜ ((f .found ≡ true → f .equation < count) → foundOf r ≡ toldOf f) ⌝ }
+    ensures { λ r. ⌜ ((f .found ≡ true → f .equation < count) → foundOf r ≡ firstFaultOf f) ⌝ }
 {
     let found = f.found;
     let fault = f.fault;
@@ -165,7 +167,7 @@ fn met_fault(f: FirstFault, count: u32) -> FaultFound
 fn rewriting_fault(tags: &[u8], values: &[u32], t: Tables, l: NodeLayout, env: &[u32]) -> FaultFound
     requires { ⌜ length (now values) ≡ length (now tags) ⌝ }
     requires { ⌜ (t .nodes ≤ 16) × (t .types ≤ 32) ⌝ }
-    ensures { λ r. ⌜ ((i : Input) (n : Node) (q : ℕ) (k : Clocking) → Tabled (now (tags .entry)) (now (values .entry)) t i → Laid (t .names) (tokens (now (tags .entry)) (now (values .entry))) n q l → clocking n ≡ formed k → Agrees (now (env .entry)) (t .names) (k .names) → clockFaults (k .findings) ≡ [] → foundOf r ≡ oldFault (i .sheet .types) (i .sheet .nodes) n (condactId (i .names)) 0 (k .equations)) ⌝ }
+    ensures { λ r. ⌜ ((i : Input) (n : Node) (q : ℕ) (k : Clocking) → SheetTables (now (tags .entry)) (now (values .entry)) t i → LaidNode (t .names) (tokens (now (tags .entry)) (now (values .entry))) n q l → clocking n ≡ formed k → Agrees (now (env .entry)) (t .names) (k .names) → clockFaults (k .findings) ≡ [] → foundOf r ≡ oldFault (i .sheet .types) (i .sheet .nodes) n (condactId (i .names)) 0 (k .equations)) ⌝ }
 {
     let places = t.places;
     let defs = t.defs;
@@ -195,7 +197,7 @@ fn clocked_fault(
 ) -> FaultFound
     requires { ⌜ length (now values) ≡ length (now tags) ⌝ }
     requires { ⌜ (t .nodes ≤ 16) × (t .types ≤ 32) ⌝ }
-    ensures { λ r. ⌜ ((i : Input) (node : Node) (q : ℕ) (k : Clocking) (passes : ℕ) → Tabled (now (tags .entry)) (now (values .entry)) t i → Laid (t .names) (tokens (now (tags .entry)) (now (values .entry))) node q l → usesClocks node ≡ true → clocking node ≡ formed k → Tells (now (env .entry)) (now (table .entry)) (t .names) passes n k → foundOf r ≡ getElem? (nodeFaults (i .names) (i .sheet) (record { node = node; clocking = k })) j) ⌝ }
+    ensures { λ r. ⌜ ((i : Input) (node : Node) (q : ℕ) (k : Clocking) (passes : ℕ) → SheetTables (now (tags .entry)) (now (values .entry)) t i → LaidNode (t .names) (tokens (now (tags .entry)) (now (values .entry))) node q l → usesClocks node ≡ true → clocking node ≡ formed k → ClocksStand (now (env .entry)) (now (table .entry)) (t .names) passes n k → foundOf r ≡ getElem? (nodeFaults (i .names) (i .sheet) (record { node = node; clocking = k })) j) ⌝ }
 {
     let m = findings::fault_count(table, n);
     if 0 < m {
@@ -219,12 +221,12 @@ fn laid_found(
 ) -> NodeFound
     requires { ⌜ length (now values) ≡ length (now tags) ⌝ }
     requires { ⌜ (t .nodes ≤ 16) × (t .types ≤ 32) ⌝ }
-    ensures { λ r. ⌜ ((node : Node) (q : ℕ) → Laid (t .names) (tokens (now (tags .entry)) (now (values .entry))) node q l → Roomy (t .names) (length (now (tags .entry))) (now (env .entry)) (now (table .entry)) → r .deep ≡ isDeep (clocking node)) ⌝ }
-    ensures { λ r. ⌜ ((i : Input) (node : Node) (q : ℕ) (k : Clocking) → Tabled (now (tags .entry)) (now (values .entry)) t i → Laid (t .names) (tokens (now (tags .entry)) (now (values .entry))) node q l → usesClocks node ≡ true → clocking node ≡ formed k → Roomy (t .names) (length (now (tags .entry))) (now (env .entry)) (now (table .entry)) → foundOf (r .fault) ≡ getElem? (nodeFaults (i .names) (i .sheet) (record { node = node; clocking = k })) j) ⌝ }
-    ensures { λ _. ⌜ ((node : Node) (q : ℕ) (k : Clocking) → Laid (t .names) (tokens (now (tags .entry)) (now (values .entry))) node q l → clocking node ≡ formed k → Roomy (t .names) (length (now (tags .entry))) (now (env .entry)) (now (table .entry)) → Agrees (now (env .exit)) (t .names) (k .names)) ⌝ }
+    ensures { λ r. ⌜ ((node : Node) (q : ℕ) → LaidNode (t .names) (tokens (now (tags .entry)) (now (values .entry))) node q l → Roomy (t .names) (length (now (tags .entry))) (now (env .entry)) (now (table .entry)) → r .deep ≡ isDeep (clocking node)) ⌝ }
+    ensures { λ r. ⌜ ((i : Input) (node : Node) (q : ℕ) (k : Clocking) → SheetTables (now (tags .entry)) (now (values .entry)) t i → LaidNode (t .names) (tokens (now (tags .entry)) (now (values .entry))) node q l → usesClocks node ≡ true → clocking node ≡ formed k → Roomy (t .names) (length (now (tags .entry))) (now (env .entry)) (now (table .entry)) → foundOf (r .fault) ≡ getElem? (nodeFaults (i .names) (i .sheet) (record { node = node; clocking = k })) j) ⌝ }
+    ensures { λ _. ⌜ ((node : Node) (q : ℕ) (k : Clocking) → LaidNode (t .names) (tokens (now (tags .entry)) (now (values .entry))) node q l → clocking node ≡ formed k → Roomy (t .names) (length (now (tags .entry))) (now (env .entry)) (now (table .entry)) → Agrees (now (env .exit)) (t .names) (k .names)) ⌝ }
 {
-    let mut marks = [0u8; 1024];
-    let mut ports = [0u32; 1024];
+    let mut marks = [0u8; MOST_NAMES];
+    let mut ports = [0u32; MOST_NAMES];
     let clocked = infer_clocks::clock_laid(
         tags,
         values,
@@ -259,9 +261,9 @@ fn node_found(
 ) -> NodeFound
     requires { ⌜ length (now values) ≡ length (now tags) ⌝ }
     requires { ⌜ (t .nodes ≤ 16) × (t .types ≤ 32) ⌝ }
-    ensures { λ r. ⌜ ((i : Input) (n : Node) → Tabled (now (tags .entry)) (now (values .entry)) t i → getElem? (i .sheet .nodes) k ≡ some n → Roomy (t .names) (length (now (tags .entry))) (now (env .entry)) (now (table .entry)) → r .deep ≡ isDeep (clocking n)) ⌝ }
-    ensures { λ r. ⌜ ((i : Input) (ns : List ClockedNode) → Tabled (now (tags .entry)) (now (values .entry)) t i → clockings 0 (i .sheet .nodes) ≡ accepted ns → Roomy (t .names) (length (now (tags .entry))) (now (env .entry)) (now (table .entry)) → foundOf (r .fault) ≡ faultIn i (getElem? ns k) j) ⌝ }
-    ensures { λ _. ⌜ ((i : Input) (n : Node) (c : Clocking) → Tabled (now (tags .entry)) (now (values .entry)) t i → getElem? (i .sheet .nodes) k ≡ some n → clocking n ≡ formed c → usesClocks n ≡ true → Roomy (t .names) (length (now (tags .entry))) (now (env .entry)) (now (table .entry)) → Agrees (now (env .exit)) (t .names) (c .names)) ⌝ }
+    ensures { λ r. ⌜ ((i : Input) (n : Node) → SheetTables (now (tags .entry)) (now (values .entry)) t i → getElem? (i .sheet .nodes) k ≡ some n → Roomy (t .names) (length (now (tags .entry))) (now (env .entry)) (now (table .entry)) → r .deep ≡ isDeep (clocking n)) ⌝ }
+    ensures { λ r. ⌜ ((i : Input) (ns : List ClockedNode) → SheetTables (now (tags .entry)) (now (values .entry)) t i → clockings 0 (i .sheet .nodes) ≡ accepted ns → Roomy (t .names) (length (now (tags .entry))) (now (env .entry)) (now (table .entry)) → foundOf (r .fault) ≡ faultIn i (getElem? ns k) j) ⌝ }
+    ensures { λ _. ⌜ ((i : Input) (n : Node) (c : Clocking) → SheetTables (now (tags .entry)) (now (values .entry)) t i → getElem? (i .sheet .nodes) k ≡ some n → clocking n ≡ formed c → usesClocks n ≡ true → Roomy (t .names) (length (now (tags .entry))) (now (env .entry)) (now (table .entry)) → Agrees (now (env .exit)) (t .names) (c .names)) ⌝ }
 {
     if t.nodes <= k {
         return nothing_found();
@@ -288,7 +290,7 @@ pub fn fault_at(
 ) -> FaultFound
     requires { ⌜ length (now values) ≡ length (now tags) ⌝ }
     requires { ⌜ (t .nodes ≤ 16) × (t .types ≤ 32) ⌝ }
-    ensures { λ r. ⌜ ((i : Input) (ns : List ClockedNode) → Tabled (now (tags .entry)) (now (values .entry)) t i → clockings 0 (i .sheet .nodes) ≡ accepted ns → Roomy (t .names) (length (now (tags .entry))) (now (env .entry)) (now (table .entry)) → foundOf r ≡ faultIn i (getElem? ns k) j) ⌝ }
+    ensures { λ r. ⌜ ((i : Input) (ns : List ClockedNode) → SheetTables (now (tags .entry)) (now (values .entry)) t i → clockings 0 (i .sheet .nodes) ≡ accepted ns → Roomy (t .names) (length (now (tags .entry))) (now (env .entry)) (now (table .entry)) → foundOf r ≡ faultIn i (getElem? ns k) j) ⌝ }
 {
     let n = node_found(tags, values, t, k, j, env, table);
     n.fault
@@ -332,26 +334,26 @@ fn walk_nodes(
     env: &mut [u32],
     table: &mut [u32],
     list: &mut [u32],
-) -> Walked
+) -> NodesWalked
     requires { ⌜ length (now values) ≡ length (now tags) ⌝ }
     requires { ⌜ (t .nodes ≤ 16) × (t .types ≤ 32) ⌝ }
-    ensures { λ r. ⌜ ((m : ℕ) → r ≡ Walked.Faulty m → m ≤ 16) ⌝ }
-    ensures { λ r. ⌜ ((i : Input) → Tabled (now (tags .entry)) (now (values .entry)) t i → Roomy (t .names) (length (now (tags .entry))) (now (env .entry)) (now (table .entry)) → Walks i (now (list .entry)) (now (list .exit)) r) ⌝ }
-    ensures { λ _. ⌜ ((i : Input) → Tabled (now (tags .entry)) (now (values .entry)) t i → Roomy (t .names) (length (now (tags .entry))) (now (env .entry)) (now (table .entry)) → Sole (now (env .exit)) (t .names) (i .sheet .nodes)) ⌝ }
+    ensures { λ r. ⌜ ((m : ℕ) → r ≡ NodesWalked.Faulty m → m ≤ 16) ⌝ }
+    ensures { λ r. ⌜ ((i : Input) → SheetTables (now (tags .entry)) (now (values .entry)) t i → Roomy (t .names) (length (now (tags .entry))) (now (env .entry)) (now (table .entry)) → Walks i (now (list .entry)) (now (list .exit)) r) ⌝ }
+    ensures { λ _. ⌜ ((i : Input) → SheetTables (now (tags .entry)) (now (values .entry)) t i → Roomy (t .names) (length (now (tags .entry))) (now (env .entry)) (now (table .entry)) → Sole (now (env .exit)) (t .names) (i .sheet .nodes)) ⌝ }
 {
     let mut m: usize = 0;
     let mut k: usize = 0;
     while k < t.nodes {
         let f = node_found(tags, values, t, k, 0, env, table);
         if f.deep {
-            return Walked::Deep(k);
+            return NodesWalked::Deep(k);
         }
         let fault = f.fault;
         let node = word_below(k, 16);
         m = add_fault(list, m, node, fault);
         k += 1;
     }
-    Walked::Faulty(m)
+    NodesWalked::Faulty(m)
 }
 
 // The first n words over the front of a list.
@@ -385,21 +387,21 @@ pub fn write_first_faults(
     env: &mut [u32],
     table: &mut [u32],
     list: &mut [u32],
-) -> Walked
+) -> NodesWalked
     requires { ⌜ length (now values) ≡ length (now tags) ⌝ }
     requires { ⌜ (t .nodes ≤ 16) × (t .types ≤ 32) ⌝ }
-    ensures { λ r. ⌜ ((k : ℕ) → r ≡ Walked.Deep k → now (list .exit) ≡ now (list .entry)) ⌝ }
-    ensures { λ r. ⌜ ((i : Input) → Tabled (now (tags .entry)) (now (values .entry)) t i → Roomy (t .names) (length (now (tags .entry))) (now (env .entry)) (now (table .entry)) → Walks i (now (list .entry)) (now (list .exit)) r) ⌝ }
-    ensures { λ _. ⌜ ((i : Input) → Tabled (now (tags .entry)) (now (values .entry)) t i → Roomy (t .names) (length (now (tags .entry))) (now (env .entry)) (now (table .entry)) → Sole (now (env .exit)) (t .names) (i .sheet .nodes)) ⌝ }
+    ensures { λ r. ⌜ ((k : ℕ) → r ≡ NodesWalked.Deep k → now (list .exit) ≡ now (list .entry)) ⌝ }
+    ensures { λ r. ⌜ ((i : Input) → SheetTables (now (tags .entry)) (now (values .entry)) t i → Roomy (t .names) (length (now (tags .entry))) (now (env .entry)) (now (table .entry)) → Walks i (now (list .entry)) (now (list .exit)) r) ⌝ }
+    ensures { λ _. ⌜ ((i : Input) → SheetTables (now (tags .entry)) (now (values .entry)) t i → Roomy (t .names) (length (now (tags .entry))) (now (env .entry)) (now (table .entry)) → Sole (now (env .exit)) (t .names) (i .sheet .nodes)) ⌝ }
 {
     // a node after faulty ones may be the deep one, and then the lent list keeps its words
     let mut kept = [0u32; 48];
     let w = walk_nodes(tags, values, t, env, table, &mut kept);
     match w {
-        Walked::Deep(k) => Walked::Deep(k),
-        Walked::Faulty(m) => {
+        NodesWalked::Deep(k) => NodesWalked::Deep(k),
+        NodesWalked::Faulty(m) => {
             copy_records(&kept, m, list);
-            Walked::Faulty(m)
+            NodesWalked::Faulty(m)
         }
     }
 }

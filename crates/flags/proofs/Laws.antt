@@ -3,7 +3,6 @@
 use mathlib.Core.Path.{_≡_, refl, sym, _∙_, ap}
 use mathlib.Core.List.{List, [], _∷_, _++_, map, append-nil}
 use mathlib.Core.Bool.{Bool, true, false}
-use mathlib.Core.Logic.{inl}
 use Prim.Native.Nat.{ℕ, suc, _+_, _-_, _*_, _≤_, _<_}
 use native.Mathlib.Omega.{arith}
 use lib.ListN.{length, getD}
@@ -18,28 +17,27 @@ use Rattle.definitions.specs.declared.TypeToken.{TypeToken}
 use Rattle.definitions.specs.declared.UnaryOp.{UnaryOp}
 use Rattle.definitions.specs.Lists.{choose, join}
 use Rattle.definitions.specs.Tree.{Ty, Expr}
-use Rattle.definitions.specs.Clock.{Clock, base, _/_, depth, parent, isBase, sameTest}
+use Rattle.definitions.specs.Clock.{Clock, base, _↓_, depth, parent, isBase, sameTest}
 use Rattle.definitions.specs.Declock.{clockPlace, andOf, conditionExpr}
 use Rattle.definitions.specs.Output.{tyTokens, declaredTokens, exprTokens, formTokens, equationTokens}
 use Rattle.clock.specs.Value.{at, clockAt, capped}
 use Rattle.clock.proofs.Laws.{last-at}
-use Rattle.rows.specs.Rows.{clocksIn, Has}
+use Rattle.rows.specs.Rows.{clocksIn}
 use Rattle.order.specs.Order.{picked}
 use Rattle.stateless.specs.Yield.{Ids}
 use Rattle.stateless.specs.Locals.{activationBy, firstTickBy, flagLocals, firstLocals, localDeclared, localEquation}
 use Rattle.emit.specs.Out.{Out, emits}
 use Rattle.emit.proofs.Laws.{emits-append, emits-none}
-use Rattle.flags.specs.Tabled.{Tabled}
+use Rattle.flags.specs.Tabled.{FlagIds}
 
 -- one after the other
 pub after : (o o₁ o₂ : Out) (a b : List Token) → o₁ ≡ emits o a → o₂ ≡ emits o₁ b → o₂ ≡ emits o (a ++ b)
 after o o₁ o₂ a b e f = f ∙ (ap (λ (x : Out). emits x b) e ∙ emits-append o a b)
 
 -- the id at a clock's place
-pub id-found : (rows : List ℕ) (n : ℕ) (ids : List ℕ) (id : Clock → ℕ) (c : Clock) (p x : ℕ) → Tabled rows n ids id
-    → ((cs : List Clock) → 17 * n ≤ length rows → Has rows n cs → p ≡ clockPlace c cs) → x ≡ getD ids p 0 → x ≡ id c
-unfolding Has
-id-found rows n ids id c p x t f e = e ∙ (ap (λ (j : ℕ). getD ids j 0) (f (clocksIn rows n) (t .room) (inl (t .room, refl))) ∙ sym (t .stands c))
+pub id-found : (rows : List ℕ) (n : ℕ) (ids : List ℕ) (id : Clock → ℕ) (c : Clock) (x : ℕ) → FlagIds rows n ids id
+    → (17 * n ≤ length rows → x ≡ getD ids (clockPlace c (clocksIn rows n)) 0) → x ≡ id c
+id-found rows n ids id c x t f = f (t .room) ∙ sym (t .stands c)
 
 -- ---- a condition
 abbrev variable : ℕ → Token
@@ -68,13 +66,13 @@ parentTokens id c = choose (isBase c) [] (Token.Expression (ExprToken.Binary Bin
 
 top : (c : Clock) → depth c ≤ 1 → isBase (parent c) ≡ true
 top base h = refl
-top (base / k) h = refl
-top (c / l / k) h = absurd (omega arith)
+top (base ↓ k) h = refl
+top (c ↓ l ↓ k) h = absurd (omega arith)
 
 deeper : (c : Clock) → 1 < depth c → isBase (parent c) ≡ false
 deeper base h = absurd (omega arith)
-deeper (base / k) h = absurd (omega arith)
-deeper (c / l / k) h = refl
+deeper (base ↓ k) h = absurd (omega arith)
+deeper (c ↓ l ↓ k) h = refl
 
 pub parent-none : (o : Out) (id : Clock → ℕ) (c : Clock) (d : ℕ) → d ≡ depth c → d ≤ 1 → o ≡ emits o (parentTokens id (parent c))
 parent-none o id c d q h = sym (emits-none o) ∙ rw (top c (omega arith))
@@ -92,9 +90,9 @@ module _ (i : Ids) (o o₁ : Out) (c : Clock) where
     where
       go : (d : Clock) → depth d ≡ 0 → o₁ ≡ emits o (exprTokens (activationBy i d))
       go base y = e
-      go (d / k) y = absurd (omega arith)
+      go (d ↓ k) y = absurd (omega arith)
 
-  activation-tokens : (p : Clock) (k : Condition) → parentTokens (i .flag) p ++ exprTokens (conditionExpr k) ≡ exprTokens (activationBy i (p / k))
+  activation-tokens : (p : Clock) (k : Condition) → parentTokens (i .flag) p ++ exprTokens (conditionExpr k) ≡ exprTokens (activationBy i (p ↓ k))
   unfolding exprTokens formTokens
   activation-tokens p k = go (isBase p)
     where
@@ -103,13 +101,13 @@ module _ (i : Ids) (o o₁ : Out) (c : Clock) where
       go true = refl
       go false = ap (λ (l : List Token). Token.Expression (ExprToken.Binary BinOp.And) ∷ variable (i .flag p) ∷ l) (sym (append-nil (exprTokens (conditionExpr k))))
 
-  pub on-condition : (o₂ : Out) (p : Clock) (k : Condition) → c ≡ p / k → o₁ ≡ emits o (parentTokens (i .flag) (parent c)) → o₂ ≡ emits o₁ (exprTokens (conditionExpr k)) → o₂ ≡ emits o (exprTokens (activationBy i c))
+  pub on-condition : (o₂ : Out) (p : Clock) (k : Condition) → c ≡ p ↓ k → o₁ ≡ emits o (parentTokens (i .flag) (parent c)) → o₂ ≡ emits o₁ (exprTokens (conditionExpr k)) → o₂ ≡ emits o (exprTokens (activationBy i c))
   on-condition o₂ p k q e f =
       after o o₁ o₂ _ _ (e ∙ ap (λ (d : Clock). emits o (parentTokens (i .flag) (parent d))) q) f
       ∙ (ap (emits o) (activation-tokens p k) ∙ ap (λ (d : Clock). emits o (exprTokens (activationBy i d))) (sym q))
 
 -- a struct's clock is its last condition over the others
-pub last-value : (ks : List Condition) (d r : ℕ) → r ≡ capped d → (r ≡ 0 → ⊥) → clockAt ks (capped d) ≡ clockAt ks (r - 1) / at ks (r - 1)
+pub last-value : (ks : List Condition) (d r : ℕ) → r ≡ capped d → (r ≡ 0 → ⊥) → clockAt ks (capped d) ≡ clockAt ks (r - 1) ↓ at ks (r - 1)
 last-value ks d r e z = let y : capped d ≡ 0 → ⊥ = λ w. z (e ∙ w) in last-at ks (capped d) y ∙ rw e
 
 -- ---- the first tick of a clock

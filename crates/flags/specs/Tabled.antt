@@ -8,6 +8,6 @@ use Rattle.definitions.specs.Declock.{clockPlace}
 use Rattle.rows.specs.Rows.{clocksIn}
 
 -- the id of a clock's flag stands at the clock's place among the first n rows
-pub record Tabled (rows : List ℕ) (n : ℕ) (ids : List ℕ) (id : Clock → ℕ) : Type 0 where
+pub record FlagIds (rows : List ℕ) (n : ℕ) (ids : List ℕ) (id : Clock → ℕ) : Type 0 where
   pub room : 17 * n ≤ length rows
   pub stands : (c : Clock) → id c ≡ getD ids (clockPlace c (clocksIn rows n)) 0

@@ -10,6 +10,7 @@ use definitions::Test;
 use definitions::Token;
 use definitions::TypeToken;
 use definitions::UnaryOp;
+use definitions::WORKING_TOKENS;
 ghost use mathlib.Core.Path.{_≡_};
 ghost use mathlib.Core.List.{[], _∷_, map};
 ghost use Prim.Native.Nat.{ℕ};
@@ -24,15 +25,7 @@ ghost use Rattle.order.specs.Order.{rowOf, picked};
 ghost use Rattle.stateless.specs.Yield.{Ids};
 ghost use Rattle.stateless.specs.Locals.{activationBy, firstTickBy, flagLocals, firstLocals, localDeclared, localEquation};
 ghost use Rattle.emit.specs.Out.{out, emits};
-ghost use Rattle.flags.specs.Tabled.{Tabled};
-
-// The id of a clock's flag.
-pub fn id_of(rows: &[u32], n: usize, ids: &[u32], c: Clock) -> u32
-    ensures { λ r. ⌜ ((id : clocks.Clock → ℕ) → Tabled (now (rows .entry)) n (now (ids .entry)) id → r ≡ id (valueOf c)) ⌝ }
-{
-    let place = rows::find(rows, n, c);
-    flat::word_at(ids, place)
-}
+ghost use Rattle.flags.specs.Tabled.{FlagIds};
 
 fn wide(x: u32) -> usize
     ensures { λ r. ⌜ r ≡ x ⌝ }
@@ -50,7 +43,12 @@ fn row_at(rows: &[u32], chain: &[u32], i: usize) -> Clock
 }
 
 // A flag is a Bool.
-fn put_declaration(otags: &mut [u8; 8192], ovalues: &mut [u32; 8192], at: usize, x: u32) -> usize
+fn put_declaration(
+    otags: &mut [u8; WORKING_TOKENS],
+    ovalues: &mut [u32; WORKING_TOKENS],
+    at: usize,
+    x: u32,
+) -> usize
     ensures { λ r. ⌜ out (now (otags .exit)) (now (ovalues .exit)) r ≡ emits (out (now (otags .entry)) (now (ovalues .entry)) at) (Token.Name x ∷ Token.Type (TypeToken.Basic Primitive.Bool) ∷ []) ⌝ }
 {
     let next = emit::emit(otags, ovalues, at, Token::Name(x));
@@ -64,8 +62,8 @@ fn put_declaration(otags: &mut [u8; 8192], ovalues: &mut [u32; 8192], at: usize,
 
 // The declarations of activation flags or of first-tick flags.
 pub fn put_declarations(
-    otags: &mut [u8; 8192],
-    ovalues: &mut [u32; 8192],
+    otags: &mut [u8; WORKING_TOKENS],
+    ovalues: &mut [u32; WORKING_TOKENS],
     at: usize,
     rows: &[u32],
     n: usize,
@@ -73,14 +71,14 @@ pub fn put_declarations(
     chain: &[u32],
     m: usize,
 ) -> usize
-    ensures { λ r. ⌜ ((i : Ids) → Tabled (now (rows .entry)) n (now (ids .entry)) (i .flag) → out (now (otags .exit)) (now (ovalues .exit)) r ≡ emits (out (now (otags .entry)) (now (ovalues .entry)) at) (join (map declaredTokens (map localDeclared (flagLocals i (picked (rowOf (now (rows .entry))) (now (chain .entry)) 0 m)))))) ⌝ }
-    ensures { λ r. ⌜ ((i : Ids) → Tabled (now (rows .entry)) n (now (ids .entry)) (i .first) → out (now (otags .exit)) (now (ovalues .exit)) r ≡ emits (out (now (otags .entry)) (now (ovalues .entry)) at) (join (map declaredTokens (map localDeclared (firstLocals i (picked (rowOf (now (rows .entry))) (now (chain .entry)) 0 m)))))) ⌝ }
+    ensures { λ r. ⌜ ((i : Ids) → FlagIds (now (rows .entry)) n (now (ids .entry)) (i .flag) → out (now (otags .exit)) (now (ovalues .exit)) r ≡ emits (out (now (otags .entry)) (now (ovalues .entry)) at) (join (map declaredTokens (map localDeclared (flagLocals i (picked (rowOf (now (rows .entry))) (now (chain .entry)) 0 m)))))) ⌝ }
+    ensures { λ r. ⌜ ((i : Ids) → FlagIds (now (rows .entry)) n (now (ids .entry)) (i .first) → out (now (otags .exit)) (now (ovalues .exit)) r ≡ emits (out (now (otags .entry)) (now (ovalues .entry)) at) (join (map declaredTokens (map localDeclared (firstLocals i (picked (rowOf (now (rows .entry))) (now (chain .entry)) 0 m)))))) ⌝ }
 {
     let mut next = at;
     let mut i: usize = 0;
     while i < m {
         let c = row_at(rows, chain, i);
-        let x = id_of(rows, n, ids, c);
+        let x = needs::flag_id(rows, n, ids, c);
         next = put_declaration(otags, ovalues, next, x);
         i += 1;
     }
@@ -88,7 +86,12 @@ pub fn put_declarations(
 }
 
 // The left side of a flag's equation.
-fn put_left(otags: &mut [u8; 8192], ovalues: &mut [u32; 8192], at: usize, x: u32) -> usize
+fn put_left(
+    otags: &mut [u8; WORKING_TOKENS],
+    ovalues: &mut [u32; WORKING_TOKENS],
+    at: usize,
+    x: u32,
+) -> usize
     ensures { λ r. ⌜ out (now (otags .exit)) (now (ovalues .exit)) r ≡ emits (out (now (otags .entry)) (now (ovalues .entry)) at) (Token.Count 1 ∷ Token.Name x ∷ []) ⌝ }
 {
     let next = emit::emit(otags, ovalues, at, Token::Count(1));
@@ -96,9 +99,9 @@ fn put_left(otags: &mut [u8; 8192], ovalues: &mut [u32; 8192], at: usize, x: u32
 }
 
 // A condition: its name, or not its name.
-pub fn put_condition(
-    otags: &mut [u8; 8192],
-    ovalues: &mut [u32; 8192],
+fn put_condition(
+    otags: &mut [u8; WORKING_TOKENS],
+    ovalues: &mut [u32; WORKING_TOKENS],
     at: usize,
     k: Condition,
 ) -> usize
@@ -121,22 +124,22 @@ pub fn put_condition(
 
 // `and` with the flag of a clock's parent, where that is not base.
 fn put_parent(
-    otags: &mut [u8; 8192],
-    ovalues: &mut [u32; 8192],
+    otags: &mut [u8; WORKING_TOKENS],
+    ovalues: &mut [u32; WORKING_TOKENS],
     at: usize,
     rows: &[u32],
     n: usize,
     ids: &[u32],
     c: Clock,
 ) -> usize
-    ensures { λ r. ⌜ ((id : clocks.Clock → ℕ) → Tabled (now (rows .entry)) n (now (ids .entry)) id → out (now (otags .exit)) (now (ovalues .exit)) r ≡ emits (out (now (otags .entry)) (now (ovalues .entry)) at) (choose (isBase (parent (valueOf c))) [] (Token.Expression (ExprToken.Binary BinOp.And) ∷ Token.Expression (ExprToken.Var (id (parent (valueOf c)))) ∷ []))) ⌝ }
+    ensures { λ r. ⌜ ((id : clocks.Clock → ℕ) → FlagIds (now (rows .entry)) n (now (ids .entry)) id → out (now (otags .exit)) (now (ovalues .exit)) r ≡ emits (out (now (otags .entry)) (now (ovalues .entry)) at) (choose (isBase (parent (valueOf c))) [] (Token.Expression (ExprToken.Binary BinOp.And) ∷ Token.Expression (ExprToken.Var (id (parent (valueOf c)))) ∷ []))) ⌝ }
 {
     let d = clock::depth_of(c);
     if d <= 1 {
         return at;
     }
     let up = clock::parent(c);
-    let x = id_of(rows, n, ids, up);
+    let x = needs::flag_id(rows, n, ids, up);
     let next = emit::emit(
         otags,
         ovalues,
@@ -147,7 +150,11 @@ fn put_parent(
 }
 
 // The constant true.
-fn put_true(otags: &mut [u8; 8192], ovalues: &mut [u32; 8192], at: usize) -> usize
+fn put_true(
+    otags: &mut [u8; WORKING_TOKENS],
+    ovalues: &mut [u32; WORKING_TOKENS],
+    at: usize,
+) -> usize
     ensures { λ r. ⌜ out (now (otags .exit)) (now (ovalues .exit)) r ≡ emits (out (now (otags .entry)) (now (ovalues .entry)) at) (Token.Expression (ExprToken.Const (Literal.Bool 1)) ∷ []) ⌝ }
 {
     emit::emit(
@@ -159,16 +166,16 @@ fn put_true(otags: &mut [u8; 8192], ovalues: &mut [u32; 8192], at: usize) -> usi
 }
 
 // When a clock is on: its condition, and its parent's flag; base always is.
-pub fn put_activation(
-    otags: &mut [u8; 8192],
-    ovalues: &mut [u32; 8192],
+fn put_activation(
+    otags: &mut [u8; WORKING_TOKENS],
+    ovalues: &mut [u32; WORKING_TOKENS],
     at: usize,
     rows: &[u32],
     n: usize,
     ids: &[u32],
     c: Clock,
 ) -> usize
-    ensures { λ r. ⌜ ((i : Ids) → Tabled (now (rows .entry)) n (now (ids .entry)) (i .flag) → out (now (otags .exit)) (now (ovalues .exit)) r ≡ emits (out (now (otags .entry)) (now (ovalues .entry)) at) (exprTokens (activationBy i (valueOf c)))) ⌝ }
+    ensures { λ r. ⌜ ((i : Ids) → FlagIds (now (rows .entry)) n (now (ids .entry)) (i .flag) → out (now (otags .exit)) (now (ovalues .exit)) r ≡ emits (out (now (otags .entry)) (now (ovalues .entry)) at) (exprTokens (activationBy i (valueOf c)))) ⌝ }
 {
     let d = clock::depth_of(c);
     if d == 0 {
@@ -182,8 +189,8 @@ pub fn put_activation(
 
 // The equations of activation flags.
 pub fn put_flag_equations(
-    otags: &mut [u8; 8192],
-    ovalues: &mut [u32; 8192],
+    otags: &mut [u8; WORKING_TOKENS],
+    ovalues: &mut [u32; WORKING_TOKENS],
     at: usize,
     rows: &[u32],
     n: usize,
@@ -191,13 +198,13 @@ pub fn put_flag_equations(
     chain: &[u32],
     m: usize,
 ) -> usize
-    ensures { λ r. ⌜ ((i : Ids) → Tabled (now (rows .entry)) n (now (ids .entry)) (i .flag) → out (now (otags .exit)) (now (ovalues .exit)) r ≡ emits (out (now (otags .entry)) (now (ovalues .entry)) at) (join (map equationTokens (map localEquation (flagLocals i (picked (rowOf (now (rows .entry))) (now (chain .entry)) 0 m)))))) ⌝ }
+    ensures { λ r. ⌜ ((i : Ids) → FlagIds (now (rows .entry)) n (now (ids .entry)) (i .flag) → out (now (otags .exit)) (now (ovalues .exit)) r ≡ emits (out (now (otags .entry)) (now (ovalues .entry)) at) (join (map equationTokens (map localEquation (flagLocals i (picked (rowOf (now (rows .entry))) (now (chain .entry)) 0 m)))))) ⌝ }
 {
     let mut next = at;
     let mut i: usize = 0;
     while i < m {
         let c = row_at(rows, chain, i);
-        let x = id_of(rows, n, ids, c);
+        let x = needs::flag_id(rows, n, ids, c);
         let left = put_left(otags, ovalues, next, x);
         next = put_activation(otags, ovalues, left, rows, n, ids, c);
         i += 1;
@@ -206,7 +213,12 @@ pub fn put_flag_equations(
 }
 
 // `pre` of a name.
-fn put_pre(otags: &mut [u8; 8192], ovalues: &mut [u32; 8192], at: usize, x: u32) -> usize
+fn put_pre(
+    otags: &mut [u8; WORKING_TOKENS],
+    ovalues: &mut [u32; WORKING_TOKENS],
+    at: usize,
+    x: u32,
+) -> usize
     ensures { λ r. ⌜ out (now (otags .exit)) (now (ovalues .exit)) r ≡ emits (out (now (otags .entry)) (now (ovalues .entry)) at) (Token.Expression ExprToken.Pre ∷ Token.Expression (ExprToken.Var x) ∷ []) ⌝ }
 {
     let next = emit::emit(otags, ovalues, at, Token::Expression(ExprToken::Pre));
@@ -214,9 +226,9 @@ fn put_pre(otags: &mut [u8; 8192], ovalues: &mut [u32; 8192], at: usize, x: u32)
 }
 
 // True until the clock with this flag has been on at a tick before.
-pub fn put_first_tick(
-    otags: &mut [u8; 8192],
-    ovalues: &mut [u32; 8192],
+fn put_first_tick(
+    otags: &mut [u8; WORKING_TOKENS],
+    ovalues: &mut [u32; WORKING_TOKENS],
     at: usize,
     first: u32,
     flag: u32,
@@ -243,8 +255,8 @@ pub fn put_first_tick(
 
 // The equations of first-tick flags. `firsts` and `firstids` are their table, `flags` and `flagids` that of activation flags.
 pub fn put_first_equations(
-    otags: &mut [u8; 8192],
-    ovalues: &mut [u32; 8192],
+    otags: &mut [u8; WORKING_TOKENS],
+    ovalues: &mut [u32; WORKING_TOKENS],
     at: usize,
     firsts: &[u32],
     nfirsts: usize,
@@ -255,14 +267,14 @@ pub fn put_first_equations(
     chain: &[u32],
     m: usize,
 ) -> usize
-    ensures { λ r. ⌜ ((i : Ids) → Tabled (now (firsts .entry)) nfirsts (now (firstids .entry)) (i .first) → Tabled (now (flags .entry)) nflags (now (flagids .entry)) (i .flag) → out (now (otags .exit)) (now (ovalues .exit)) r ≡ emits (out (now (otags .entry)) (now (ovalues .entry)) at) (join (map equationTokens (map localEquation (firstLocals i (picked (rowOf (now (firsts .entry))) (now (chain .entry)) 0 m)))))) ⌝ }
+    ensures { λ r. ⌜ ((i : Ids) → FlagIds (now (firsts .entry)) nfirsts (now (firstids .entry)) (i .first) → FlagIds (now (flags .entry)) nflags (now (flagids .entry)) (i .flag) → out (now (otags .exit)) (now (ovalues .exit)) r ≡ emits (out (now (otags .entry)) (now (ovalues .entry)) at) (join (map equationTokens (map localEquation (firstLocals i (picked (rowOf (now (firsts .entry))) (now (chain .entry)) 0 m)))))) ⌝ }
 {
     let mut next = at;
     let mut i: usize = 0;
     while i < m {
         let c = row_at(firsts, chain, i);
-        let first = id_of(firsts, nfirsts, firstids, c);
-        let flag = id_of(flags, nflags, flagids, c);
+        let first = needs::flag_id(firsts, nfirsts, firstids, c);
+        let flag = needs::flag_id(flags, nflags, flagids, c);
         let left = put_left(otags, ovalues, next, first);
         next = put_first_tick(otags, ovalues, left, first, flag);
         i += 1;

@@ -1,12 +1,12 @@
 -- A clock in seventeen words of a table.
 use Prim.Native.Nat.{ℕ, zero, suc, _+_, _-_}
-use mathlib.Core.List.{List, [], _∷_}
+use mathlib.Core.List.{List, [], _∷_, _++_}
 use lib.ListN.{getD}
 use lib.Dec.{eqb}
 use Rattle.definitions.specs.declared.Test.{Test}
 use Rattle.definitions.specs.declared.Condition.{Condition}
 use Rattle.definitions.specs.Lists.{choose}
-use Rattle.definitions.specs.Clock.{Clock}
+use Rattle.definitions.specs.Clock.{Clock, base, _↓_, depth}
 use Rattle.clock.specs.Value.{capped, clockAt}
 
 -- a test as a word, and back: 1 is on
@@ -33,3 +33,12 @@ depthIn t b = capped (getD t b 0 - 1)
 -- the clock at b
 abbrev pub clockIn : List ℕ → ℕ → Clock
 clockIn t b = clockAt (conditionsFrom t (b + 1) 8) (depthIn t b)
+
+-- the words of a clock's conditions, two each, from base outward
+unfoldable pub conditionWords : Clock → List ℕ
+conditionWords base = []
+conditionWords (c ↓ k) = conditionWords c ++ (k .name ∷ wordOf (k .test) ∷ [])
+
+-- the words of a clock, zeros behind them: one more than the number of its conditions, then theirs
+abbrev pub wordsOf : Clock → List ℕ
+wordsOf c = suc (depth c) ∷ conditionWords c

@@ -1,4 +1,4 @@
-// A clock in seventeen words of a table: the number of its conditions and one more, then two words a condition.
+// A clock in seventeen words of a table: the number of its conditions and one more, two words a condition, then zeros.
 use clock::Clock;
 use definitions::Condition;
 use definitions::Test;
@@ -6,9 +6,11 @@ ghost use mathlib.Core.Path.{_≡_};
 ghost use mathlib.Core.Logic.{_⊎_};
 ghost use Prim.Native.Nat.{ℕ, _+_, _-_, _≤_, _<_};
 ghost use lib.ListN.{length, getD, set};
-ghost use Rattle.definitions.specs.Clock.{sameClock};
 ghost use Rattle.clock.specs.Value.{capped, valueOf};
-ghost use Rattle.flat.specs.Flat.{testOf, wordOf, conditionAt, clockIn};
+ghost use Rattle.flat.specs.Flat.{testOf, wordOf, wordsOf, conditionAt, clockIn};
+
+// The words that a clock takes.
+pub const WORDS: usize = 17;
 
 // The word at i, 0 past the end.
 pub fn word_at(t: &[u32], i: usize) -> u32
@@ -56,7 +58,12 @@ pub fn depth_at(t: &[u32], b: usize) -> usize
     if w == 0 {
         return 0;
     }
-    if w <= 9 { (w - 1) as usize } else { 8 }
+    let d = (w - 1) as usize;
+    if d <= clock::DEEPEST {
+        d
+    } else {
+        clock::DEEPEST
+    }
 }
 
 // The clock at b.
@@ -80,36 +87,8 @@ pub fn load(t: &[u32], b: usize) -> Clock
     out
 }
 
-// Whether the clock at b is this one, compared from the last condition down.
-pub fn same_at(t: &[u32], b: usize, c: Clock) -> bool
-    ensures { λ r. ⌜ r ≡ sameClock (valueOf c) (clockIn (now (t .entry)) b) ⌝ }
-{
-    let d = clock::depth_of(c);
-    let e = depth_at(t, b);
-    if d != e {
-        return false;
-    }
-    if t.len() <= b {
-        return true;
-    }
-    let f = b + 1;
-    let mut i = d;
-    while 0 < i {
-        i -= 1;
-        let p = f + 2 * i;
-        let k = c.conditions[i];
-        let l = condition_at(t, p);
-        let alike = clock::same_condition(k, l);
-        if alike {
-            continue;
-        }
-        return false;
-    }
-    true
-}
-
 // The condition in the two words at p, from now on.
-pub fn store_condition(t: &mut [u32], p: usize, k: Condition)
+fn store_condition(t: &mut [u32], p: usize, k: Condition)
     requires { ⌜ p + 2 ≤ length (now t) ⌝ }
     ensures { λ r. ⌜ now (t .exit) ≡ set (set (now (t .entry)) p (k .name)) (p + 1) (wordOf (k .test)) ⌝ }
 {
@@ -119,65 +98,30 @@ pub fn store_condition(t: &mut [u32], p: usize, k: Condition)
     t[p + 1] = w;
 }
 
-// The clock at b, from now on; nothing else changes.
+// The clock at b, from now on, words past its conditions 0; nothing else changes.
 pub fn store(t: &mut [u32], b: usize, c: Clock)
     requires { ⌜ b + 17 ≤ length (now t) ⌝ }
     ensures { λ r. ⌜ length (now (t .exit)) ≡ length (now (t .entry)) ⌝ }
     ensures { λ r. ⌜ 0 < getD (now (t .exit)) b 0 ⌝ }
     ensures { λ r. ⌜ clockIn (now (t .exit)) b ≡ valueOf c ⌝ }
     ensures { λ r. ⌜ ((i : ℕ) → (i < b) ⊎ (b + 17 ≤ i) → getD (now (t .exit)) i 0 ≡ getD (now (t .entry)) i 0) ⌝ }
+    ensures { λ r. ⌜ ((i : ℕ) → i < 17 → getD (now (t .exit)) (b + i) 0 ≡ getD (wordsOf (valueOf c)) i 0) ⌝ }
 {
     let d = clock::depth_of(c);
     let w = (d + 1) as u32;
     t[b] = w;
     let f = b + 1;
     let mut i: usize = 0;
-    while i < d {
-        let k = c.conditions[i];
+    while i < clock::DEEPEST {
+        let mut k = Condition {
+            name: 0,
+            test: Test::Not,
+        };
+        if i < d {
+            k = c.conditions[i];
+        }
         let p = f + 2 * i;
         store_condition(t, p, k);
         i += 1;
     }
-}
-
-// Whether the clock at a is the one at b of another table, compared from the last condition down.
-pub fn same_in(t: &[u32], a: usize, u: &[u32], b: usize) -> bool
-    ensures { λ r. ⌜ r ≡ sameClock (clockIn (now (t .entry)) a) (clockIn (now (u .entry)) b) ⌝ }
-{
-    let d = depth_at(t, a);
-    let e = depth_at(u, b);
-    if d != e {
-        return false;
-    }
-    if t.len() <= a {
-        return true;
-    }
-    if u.len() <= b {
-        return true;
-    }
-    let f = a + 1;
-    let g = b + 1;
-    let mut i = d;
-    while 0 < i {
-        i -= 1;
-        let p = f + 2 * i;
-        let q = g + 2 * i;
-        let k = condition_at(t, p);
-        let l = condition_at(u, q);
-        let alike = clock::same_condition(k, l);
-        if alike {
-            continue;
-        }
-        return false;
-    }
-    true
-}
-
-// A clock in seventeen words.
-pub fn words_of(c: Clock) -> [u32; 17]
-    ensures { λ r. ⌜ clockIn r 0 ≡ valueOf c ⌝ }
-{
-    let mut t = [0; 17];
-    store(&mut t, 0, c);
-    t
 }

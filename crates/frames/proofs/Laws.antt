@@ -30,7 +30,7 @@ use Rattle.openings.specs.Planned.{choiceTokens, gateTokens}
 use Rattle.openings.proofs.Laws.{tree-all, tree-none, emits-then}
 use Rattle.left_defaults.proofs.Laws.{first-name}
 use Rattle.frames.specs.declared.Frame.{Frame}
-use Rattle.frames.specs.Framed.{severalFrame, flaggedFrame, frameOf, leadIn, Keeps, Defaulted, LeadOut}
+use Rattle.frames.specs.Framed.{severalFrame, flaggedFrame, frameOf, leadIn, DefaultThenHeld, Defaulted, LeadOut}
 
 -- ---- which frame
 module _ (b plain : Bool) (on : b ≡ plain) (condact flag : ℕ) (xs : List ℕ) (u : Shape) where
@@ -91,7 +91,7 @@ before-plain condact n f m o i = sym (emits-none o) ∙ ap (emits o) (nothing-in
 -- ---- what is written behind
 module _ (types : List TypeDef) (nodes : List Node) (node : Node) (xs : List ℕ) (l : List Token) where
   -- the left name's default and last value
-  pub kept-written : (M : ℕ) (gs vs : List ℕ) → length vs ≡ length gs → (left : Span) → Spans (name M) (tokens gs vs) xs left → Keeps types nodes node xs l → (x : ℕ) → x ≡ getD vs (left .at) 0 → (o o₁ o₂ o₃ : Out)
+  pub kept-written : (M : ℕ) (gs vs : List ℕ) → length vs ≡ length gs → (left : Span) → Spans (name M) (tokens gs vs) xs left → DefaultThenHeld types nodes node xs l → (x : ℕ) → x ≡ getD vs (left .at) 0 → (o o₁ o₂ o₃ : Out)
       → o₁ ≡ emits o (e ExprToken.Arrow ∷ []) → (leftFault types nodes node x ≡ none → o₂ ≡ emits o₁ (exprTokens (leftTree types nodes node x))) → o₃ ≡ emits o₂ (e ExprToken.Pre ∷ e (ExprToken.Var x) ∷ []) → o₃ ≡ emits o l
   kept-written M gs vs same left s k x i o o₁ o₂ o₃ f g h =
       let some-left : left .count ≡ 0 → ⊥ = λ z. omega (arith, s .many, ap length (k .alone), z) in
@@ -106,7 +106,7 @@ module _ (types : List TypeDef) (nodes : List Node) (node : Node) (xs : List ℕ
     unfolding LeadOut
     behind-plain o i = let z : l ≡ [] = rw i at out in sym (emits-none o) ∙ ap (emits o) (sym z)
 
-    pub behind-choice : (a : ℕ) → f ≡ Frame.Choose a → Keeps types nodes node xs l
+    pub behind-choice : (a : ℕ) → f ≡ Frame.Choose a → DefaultThenHeld types nodes node xs l
     unfolding LeadOut
     behind-choice a i = rw i at out
 

@@ -41,7 +41,7 @@ leadIn condact n (Frame.Gate a) = gateTokens condact n a
 
 module _ (types : List TypeDef) (nodes : List Node) (node : Node) where
   -- a left name's default, and then its value one tick before
-  pub record Keeps (xs : List ℕ) (l : List Token) : Type 0 where
+  pub record DefaultThenHeld (xs : List ℕ) (l : List Token) : Type 0 where
     pub name : ℕ
     pub alone : xs ≡ name ∷ []
     pub faultless : leftFault types nodes node name ≡ none
@@ -55,7 +55,7 @@ module _ (types : List TypeDef) (nodes : List Node) (node : Node) where
   -- what is written behind it, these being the left names
   unfoldable pub LeadOut : Frame → List ℕ → List Token → Type 0
   LeadOut Frame.Plain xs l = l ≡ []
-  LeadOut (Frame.Choose a) xs l = Keeps xs l
+  LeadOut (Frame.Choose a) xs l = DefaultThenHeld xs l
   LeadOut (Frame.Gate a) xs l = Defaulted xs l
 
   -- a right side's tokens in their frame

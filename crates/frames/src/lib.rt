@@ -3,7 +3,9 @@
 // clocks with flags, whose ids are in `flag_ids`. `otags` and `ovalues` are the output's tokens, of which w are written.
 use clock::Clock;
 use definitions::ExprToken;
+use definitions::MOST_NODES;
 use definitions::Token;
+use definitions::WORKING_TOKENS;
 use layout::NodeLayout;
 use layout::Span;
 use openings::Mode;
@@ -25,13 +27,13 @@ ghost use Rattle.rows.specs.Rows.{clocksIn};
 ghost use Rattle.operands.specs.Spread.{tree};
 ghost use Rattle.typedefs.specs.Table.{Table};
 ghost use Rattle.layout.specs.Spans.{Spans};
-ghost use Rattle.layout.specs.Laid.{Laid};
-ghost use Rattle.callees.specs.Callees.{Standing};
+ghost use Rattle.layout.specs.Laid.{LaidNode};
+ghost use Rattle.callees.specs.Callees.{NodesStand};
 ghost use Rattle.emit.specs.Out.{out, emits};
 ghost use Rattle.stateless.specs.Yield.{shapeAfter};
 ghost use Rattle.openings.specs.Shown.{inTree};
 ghost use Rattle.openings.specs.Planned.{twoMore};
-ghost use Rattle.frames.specs.Framed.{frameOf, leadIn, Keeps, LeadOut};
+ghost use Rattle.frames.specs.Framed.{frameOf, leadIn, DefaultThenHeld, LeadOut};
 
 // What stands around a right side: nothing; a choice by this flag between it and the left name's last value; a gate under this flag.
 pub enum Frame {
@@ -44,7 +46,7 @@ pub enum Frame {
 pub fn frame_of(
     tags: &[u8],
     values: &[u32],
-    places: &[usize; 16],
+    places: &[usize; MOST_NODES],
     flags: &[u32],
     flag_ids: &[u32],
     k: Sizes,
@@ -54,13 +56,13 @@ pub fn frame_of(
 ) -> Frame
     requires { ⌜ length (now values) ≡ length (now tags) ⌝ }
     requires { ⌜ k .nodes ≤ 16 ⌝ }
-    ensures { λ r. ⌜ ((xs : List ℕ) (e : Expr) (q : ℕ) (types : List TypeDef) (l : List Node) (node : Node) → count ≡ length xs → tree (k .names) (tokens (now (tags .entry)) (now (values .entry))) at ≡ got e q → Standing (k .names) (now (tags .entry)) (now (values .entry)) (now (places .entry)) (k .nodes) l → 17 * k .flags ≤ length (now (flags .entry)) → r ≡ frameOf (isBase (valueOf c)) (k .condact) (getD (now («flag_ids» .entry)) (clockPlace (valueOf c) (clocksIn (now (flags .entry)) (k .flags))) 0) xs (shapeAfter types l node (k .condact) (valueOf c) e)) ⌝ }
+    ensures { λ r. ⌜ ((xs : List ℕ) (e : Expr) (q : ℕ) (types : List TypeDef) (l : List Node) (node : Node) → count ≡ length xs → tree (k .names) (tokens (now (tags .entry)) (now (values .entry))) at ≡ got e q → NodesStand (k .names) (now (tags .entry)) (now (values .entry)) (now (places .entry)) (k .nodes) l → 17 * k .flags ≤ length (now (flags .entry)) → r ≡ frameOf (isBase (valueOf c)) (k .condact) (getD (now («flag_ids» .entry)) (clockPlace (valueOf c) (clocksIn (now (flags .entry)) (k .flags))) 0) xs (shapeAfter types l node (k .condact) (valueOf c) e)) ⌝ }
 {
     let plain = clock::is_base(c);
     if plain {
         return Frame::Plain;
     }
-    let flag = openings::flag_id(flags, k.flags, flag_ids, c);
+    let flag = needs::flag_id(flags, k.flags, flag_ids, c);
     if count == 1 {
         return Frame::Choose(flag);
     }
@@ -79,8 +81,8 @@ pub fn frame_of(
 
 // What is written before the right side of n left names.
 pub fn put_before(
-    otags: &mut [u8; 8192],
-    ovalues: &mut [u32; 8192],
+    otags: &mut [u8; WORKING_TOKENS],
+    ovalues: &mut [u32; WORKING_TOKENS],
     w: usize,
     mode: Mode,
     f: Frame,
@@ -104,7 +106,7 @@ pub fn put_before(
 }
 
 // A left name's default, and then its value one tick before.
-pub fn put_kept(
+fn put_kept(
     tags: &[u8],
     values: &[u32],
     names: u32,
@@ -112,13 +114,13 @@ pub fn put_kept(
     types: usize,
     node: NodeLayout,
     left: Span,
-    otags: &mut [u8; 8192],
-    ovalues: &mut [u32; 8192],
+    otags: &mut [u8; WORKING_TOKENS],
+    ovalues: &mut [u32; WORKING_TOKENS],
     w: usize,
 ) -> usize
     requires { ⌜ length (now values) ≡ length (now tags) ⌝ }
     requires { ⌜ types ≤ 32 ⌝ }
-    ensures { λ r. ⌜ ((ts : List TypeDef) (l : List Node) (n : Node) (u : ℕ) (xs : List ℕ) (ks : List Token) → Table names (tokens (now (tags .entry)) (now (values .entry))) (now («type_places» .entry)) types ts → Laid names (tokens (now (tags .entry)) (now (values .entry))) n u node → Spans (name names) (tokens (now (tags .entry)) (now (values .entry))) xs left → Keeps ts l n xs ks → out (now (otags .exit)) (now (ovalues .exit)) r ≡ emits (out (now (otags .entry)) (now (ovalues .entry)) w) ks) ⌝ }
+    ensures { λ r. ⌜ ((ts : List TypeDef) (l : List Node) (n : Node) (u : ℕ) (xs : List ℕ) (ks : List Token) → Table names (tokens (now (tags .entry)) (now (values .entry))) (now («type_places» .entry)) types ts → LaidNode names (tokens (now (tags .entry)) (now (values .entry))) n u node → Spans (name names) (tokens (now (tags .entry)) (now (values .entry))) xs left → DefaultThenHeld ts l n xs ks → out (now (otags .exit)) (now (ovalues .exit)) r ≡ emits (out (now (otags .entry)) (now (ovalues .entry)) w) ks) ⌝ }
 {
     let x = typedefs::value_at(values, left.at);
     let a = emit::emit(otags, ovalues, w, Token::Expression(ExprToken::Arrow));
@@ -154,13 +156,13 @@ pub fn put_behind(
     mode: Mode,
     f: Frame,
     left: Span,
-    otags: &mut [u8; 8192],
-    ovalues: &mut [u32; 8192],
+    otags: &mut [u8; WORKING_TOKENS],
+    ovalues: &mut [u32; WORKING_TOKENS],
     w: usize,
 ) -> usize
     requires { ⌜ length (now values) ≡ length (now tags) ⌝ }
     requires { ⌜ types ≤ 32 ⌝ }
-    ensures { λ r. ⌜ ((ts : List TypeDef) (l : List Node) (n : Node) (u : ℕ) (xs : List ℕ) (ks : List Token) → Table names (tokens (now (tags .entry)) (now (values .entry))) (now («type_places» .entry)) types ts → Laid names (tokens (now (tags .entry)) (now (values .entry))) n u node → Spans (name names) (tokens (now (tags .entry)) (now (values .entry))) xs left → LeadOut ts l n f xs ks → out (now (otags .exit)) (now (ovalues .exit)) r ≡ emits (out (now (otags .entry)) (now (ovalues .entry)) w) (inTree mode ks)) ⌝ }
+    ensures { λ r. ⌜ ((ts : List TypeDef) (l : List Node) (n : Node) (u : ℕ) (xs : List ℕ) (ks : List Token) → Table names (tokens (now (tags .entry)) (now (values .entry))) (now («type_places» .entry)) types ts → LaidNode names (tokens (now (tags .entry)) (now (values .entry))) n u node → Spans (name names) (tokens (now (tags .entry)) (now (values .entry))) xs left → LeadOut ts l n f xs ks → out (now (otags .exit)) (now (ovalues .exit)) r ≡ emits (out (now (otags .entry)) (now (ovalues .entry)) w) (inTree mode ks)) ⌝ }
 {
     let tree = openings::is_tree(mode);
     if tree {

@@ -10,15 +10,12 @@ use lib.Dec.{eqb, ltb}
 use lib.ListN.{length, getD, take, set, length-append}
 use lib.Seq.{getD-append-seam, take-all, take-suc-set}
 use borrow.Author.Tests.{eqb-true, eqb-false, ltb-true, ltb-false}
-use Rattle.definitions.specs.Lists.{choose, any, keep, sum, upFrom, Letters, sameLetters, decimal}
-use Rattle.definitions.specs.Bytes.{cut}
-use Rattle.definitions.specs.Tree.{Declared, Node}
-use Rattle.definitions.specs.Declock.{Stem, declared}
-use Rattle.definitions.specs.Output.{stemLetters, lettersOf, newLetters}
+use Rattle.definitions.specs.Lists.{choose, any, keep, upFrom, Letters, sameLetters, decimal}
+use Rattle.definitions.specs.Tree.{Node}
+use Rattle.definitions.specs.Declock.{Stem}
+use Rattle.definitions.specs.Output.{stemLetters, newLetters}
 use Rattle.spelling.proofs.Stems.{new-same}
-use Rattle.fresh.specs.Places.{startsFrom, lettersAt}
 use Rattle.fresh.specs.Free.{isFree, seek, nextFree, freeBelow, newNumber, newNumbers, takenOf}
-use Rattle.fresh.proofs.Places.{letters-name}
 
 -- ---- tests and lists
 same-letters : (x y : Letters) → sameLetters x y ≡ true → x ≡ y
@@ -285,10 +282,6 @@ module _ (taken : List Letters) (stem : Stem) (i from : ℕ) (e : freeBelow take
   pub numbers-next : {r : ℕ} → r ≡ nextFree taken stem from → freeBelow taken stem (r + 1) ≡ i + 1
   numbers-next {r} f = ap (λ n. freeBelow taken stem (n + 1)) f ∙ number-after taken stem from h ∙ ap (λ n. n + 1) e
 
-  -- the next number is not far
-  pub numbers-near : from ≤ i + length taken
-  numbers-near = omega (arith, below-many taken stem from (omega arith))
-
 pub numbers-end : (taken : List Letters) (stem : Stem) (i : ℕ) (out : List ℕ) → length out ≤ i → i ≤ length out → take i out ≡ newNumbers taken stem i → out ≡ newNumbers taken stem (length out)
 numbers-end taken stem i out a b g = let z : i ≡ length out = omega arith in rw z at (sym (take-all i out a) ∙ g)
 
@@ -300,12 +293,3 @@ map-length f (a ∷ l) = ap suc (map-length f l)
 pub seek-start : (f : ℕ → Letters) (ids : List ℕ) (stem : Stem) (k : ℕ) → nextFree (map f ids) stem k ≡ seek (map f ids) stem (length ids) k
 unfolding nextFree
 seek-start f ids stem k = ap (λ n. seek (map f ids) stem n k) (map-length f ids)
-
--- the names of a node's ids, by the starts, are its declared names
-pub taken-same : (lens letters starts ids : List ℕ) (node : Node) → starts ≡ startsFrom 0 lens → sum lens ≤ length letters → ids ≡ map (λ d. d .name) (declared node)
-    → map (lettersAt starts letters) ids ≡ takenOf (cut lens letters) node
-taken-same lens letters starts ids node e h f = rw (e, f) (go (declared node))
-  where
-    go : (ds : List Declared) → map (lettersAt (startsFrom 0 lens) letters) (map (λ d. d .name) ds) ≡ map (λ d. lettersOf (cut lens letters) (d .name)) ds
-    go [] = refl
-    go (d ∷ ds) = rw (letters-name lens letters (d .name) h) (ap (λ l. lettersOf (cut lens letters) (d .name) ∷ l) (go ds))

@@ -16,7 +16,7 @@ use Rattle.spelling.specs.Writing.{overAt}
 use Rattle.spelling.proofs.Writing.{over-nothing, over-then, over-set}
 use Rattle.names.specs.Places.{start, nameAt}
 use Rattle.names.proofs.Laws.{start-next, start-sum, end-within, part-name}
-use Rattle.fresh.specs.Places.{startsFrom, between, lettersAt, Spans}
+use Rattle.fresh.specs.Places.{startsFrom, between, lettersAt, NameSpans}
 
 -- ---- starts
 pub starts-length : (k : ℕ) (lens : List ℕ) → length (startsFrom k lens) ≡ length lens + 1
@@ -89,13 +89,13 @@ module _ (starts letters : List ℕ) (x a b : ℕ) (p : a ≡ getD starts x 0) (
   unfolding lettersAt
   at-words = rw (p, q)
 
-  pub span-fit : a ≤ b → b ≤ length letters → Spans letters (record { from = a; to = b }) (lettersAt starts letters x)
+  pub span-fit : a ≤ b → b ≤ length letters → NameSpans letters (record { from = a; to = b }) (lettersAt starts letters x)
   span-fit h k = record { order = h; end = k; part = between-fit letters a b h k ∙ at-words }
 
-  pub span-down : b < a → Spans letters (record { from = 0; to = 0 }) (lettersAt starts letters x)
+  pub span-down : b < a → NameSpans letters (record { from = 0; to = 0 }) (lettersAt starts letters x)
   span-down h = record { order = omega arith; end = omega arith; part = between-down letters a b h ∙ at-words }
 
-  pub span-long : a ≤ b → length letters < b → Spans letters (record { from = 0; to = 0 }) (lettersAt starts letters x)
+  pub span-long : a ≤ b → length letters < b → NameSpans letters (record { from = 0; to = 0 }) (lettersAt starts letters x)
   span-long h k = record { order = omega arith; end = omega arith; part = between-long letters a b h k ∙ at-words }
 
 -- ---- names cut out of letters

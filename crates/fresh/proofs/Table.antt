@@ -16,7 +16,7 @@ use Rattle.definitions.specs.Tree.{Sheet}
 use Rattle.definitions.specs.Output.{idOf, addName, addNames, withinLimits, sheetTokens, mostTokensOut}
 use Rattle.spelling.specs.Writing.{farthest, Put}
 use Rattle.spelling.proofs.Writing.{over-take, put-length, put-front, put-measure}
-use Rattle.fresh.specs.Table.{namesOf, within, Sound, Holds}
+use Rattle.fresh.specs.Table.{namesOf, within, Sound, NamesHeld}
 use Rattle.fresh.specs.declared.Counts.{Counts}
 use Rattle.fresh.proofs.Places.{cut-length}
 
@@ -126,7 +126,7 @@ within-more lens letters names name e =
 -- ---- a name is added
 module _ {lens letters : List ℕ} {c : Counts} (s : Sound lens letters c) (names : List Letters) (name : Letters) (e : names ≡ namesOf lens letters c) where
   pub added : {q : ℕ} {after : List ℕ} → c .names < length lens → length name ≤ length letters - c .letters → Put name (c .letters) letters q after
-      → Holds (set lens (c .names) (length name)) after (record { names = c .names + 1; letters = c .letters + length name; full = false }) (names ++ (name ∷ []))
+      → NamesHeld (set lens (c .names) (length name)) after (record { names = c .names + 1; letters = c .letters + length name; full = false }) (names ++ (name ∷ []))
   unfolding namesOf
   added {q} {after} h k u =
       let f : take (c .names + 1) (set lens (c .names) (length name)) ≡ take (c .names) lens ++ (length name ∷ []) = rw (add-one (c .names)) (take-suc-set lens (c .names) (length name) h) in
@@ -144,7 +144,7 @@ module _ {lens letters : List ℕ} {c : Counts} (s : Sound lens letters c) (name
         past = λ z. absurd (let y : _≡_ {A = ℕ} 0 1 = cc in omega arith);
       }
 
-  no-place : within lens letters (names ++ (name ∷ [])) ≡ false → Holds lens letters (record { names = c .names; letters = c .letters; full = true }) (names ++ (name ∷ []))
+  no-place : within lens letters (names ++ (name ∷ [])) ≡ false → NamesHeld lens letters (record { names = c .names; letters = c .letters; full = true }) (names ++ (name ∷ []))
   no-place f =
       record {
         sound = record { few = s .few; short = s .short; summed = s .summed; reached = s .reached };
@@ -152,10 +152,10 @@ module _ {lens letters : List ℕ} {c : Counts} (s : Sound lens letters c) (name
         past = λ _. f;
       }
 
-  pub no-letters : length letters - c .letters < length name → Holds lens letters (record { names = c .names; letters = c .letters; full = true }) (names ++ (name ∷ []))
+  pub no-letters : length letters - c .letters < length name → NamesHeld lens letters (record { names = c .names; letters = c .letters; full = true }) (names ++ (name ∷ []))
   no-letters h = no-place (within-not lens letters (names ++ (name ∷ [])) (λ a b. omega (arith, join-last names name, ap (λ l. length (join l)) e, names-letters s)))
 
-  pub no-name : length lens ≤ c .names → Holds lens letters (record { names = c .names; letters = c .letters; full = true }) (names ++ (name ∷ []))
+  pub no-name : length lens ≤ c .names → NamesHeld lens letters (record { names = c .names; letters = c .letters; full = true }) (names ++ (name ∷ []))
   no-name h = no-place (within-not lens letters (names ++ (name ∷ [])) (λ a b. omega (arith, length-append names (name ∷ []), ap length e, names-count s)))
 
 -- is a name among those in use? `find_name` says it
@@ -166,12 +166,12 @@ module _ {lens letters : List ℕ} {c : Counts} (s : Sound lens letters c) (name
   absent : c .names ≤ r → any (sameLetters name) (namesOf lens letters c) ≡ false
   absent h = place-out (sameLetters name) (namesOf lens letters c) (omega (arith, names-count s))
 
-module _ (name : Letters) {lens letters : List ℕ} {c : Counts} (names : List Letters) (h : Holds lens letters c names) where
+module _ (name : Letters) {lens letters : List ℕ} {c : Counts} (names : List Letters) (h : NamesHeld lens letters c names) where
   -- a full table stays as it is
-  pub stays-full : c .full ≡ true → Holds lens letters c (addName names name)
+  pub stays-full : c .full ≡ true → NamesHeld lens letters c (addName names name)
   stays-full e = go (any (sameLetters name) names)
     where
-      go : (t : Bool) → Holds lens letters c (choose t names (names ++ (name ∷ [])))
+      go : (t : Bool) → NamesHeld lens letters c (choose t names (names ++ (name ∷ [])))
       go true = h
       go false =
           record {
@@ -181,14 +181,14 @@ module _ (name : Letters) {lens letters : List ℕ} {c : Counts} (names : List L
           }
 
   -- a name present is not added
-  pub stays-there : {r : ℕ} → c .full ≡ false → r ≡ idOf (namesOf lens letters c) name → r < c .names → Holds lens letters c (addName names name)
+  pub stays-there : {r : ℕ} → c .full ≡ false → r ≡ idOf (namesOf lens letters c) name → r < c .names → NamesHeld lens letters c (addName names name)
   stays-there e f k =
       let g : any (sameLetters name) names ≡ true = ap (λ l. any (sameLetters name) l) (h .kept e) ∙ present (h .sound) name f k in
       rw g h
 
   -- any other is put behind
   pub goes-on : {r : ℕ} {lens₁ letters₁ : List ℕ} {c₁ : Counts} → c .full ≡ false → r ≡ idOf (namesOf lens letters c) name → c .names ≤ r
-      → ((ns : List Letters) → ns ≡ namesOf lens letters c → Holds lens₁ letters₁ c₁ (ns ++ (name ∷ []))) → Holds lens₁ letters₁ c₁ (addName names name)
+      → ((ns : List Letters) → ns ≡ namesOf lens letters c → NamesHeld lens₁ letters₁ c₁ (ns ++ (name ∷ []))) → NamesHeld lens₁ letters₁ c₁ (addName names name)
   goes-on e f k m =
       let g : any (sameLetters name) names ≡ false = ap (λ l. any (sameLetters name) l) (h .kept e) ∙ absent (h .sound) name f k in
       rw g (m names (h .kept e))
@@ -196,7 +196,7 @@ module _ (name : Letters) {lens letters : List ℕ} {c : Counts} (names : List L
 -- ---- a table of given names
 pub copied : {given text lens lens₁ letters letters₁ : List ℕ} {p q : ℕ} → sum given ≡ length text → length given ≤ length lens → length text ≤ length letters
     → length lens ≤ farthest → length letters ≤ farthest → Put given 0 lens p lens₁ → Put text 0 letters q letters₁
-    → Holds lens₁ letters₁ (record { names = length given; letters = length text; full = false }) (cut given text)
+    → NamesHeld lens₁ letters₁ (record { names = length given; letters = length text; full = false }) (cut given text)
 unfolding namesOf
 copied {given} {text} {lens} {lens₁} {letters} {letters₁} e a b c d u v =
     let f : take (length given) lens₁ ≡ given = rw (put-measure (omega arith) u) at (put-front a c u) in
@@ -208,11 +208,7 @@ copied {given} {text} {lens} {lens₁} {letters} {letters₁} e a b c d u v =
     }
 
 -- ---- what a table that is not full says of the names
-module _ {lens letters : List ℕ} {c : Counts} {names : List Letters} (h : Holds lens letters c names) (e : c .full ≡ false) where
-  pub holds-lengths : map length names ≡ take (c .names) lens
-  unfolding namesOf
-  holds-lengths = ap (λ l. map length l) (h .kept e) ∙ cut-lengths (take (c .names) lens) (take (c .letters) letters) (used (h .sound))
-
+module _ {lens letters : List ℕ} {c : Counts} {names : List Letters} (h : NamesHeld lens letters c names) (e : c .full ≡ false) where
   pub holds-letters : join names ≡ take (c .letters) letters
   unfolding namesOf
   holds-letters = ap join (h .kept e) ∙ cut-join (take (c .names) lens) (take (c .letters) letters) (used (h .sound))
@@ -224,7 +220,7 @@ module _ {lens letters : List ℕ} {c : Counts} {names : List Letters} (h : Hold
   holds-size = ap (λ l. length (join l)) (h .kept e) ∙ names-letters (h .sound)
 
 -- a table is full exactly where its names have no places
-pub holds-within : {lens letters : List ℕ} {c : Counts} {names : List Letters} → Holds lens letters c names → within lens letters names ≡ not (c .full)
+pub holds-within : {lens letters : List ℕ} {c : Counts} {names : List Letters} → NamesHeld lens letters c names → within lens letters names ≡ not (c .full)
 holds-within {lens} {letters} {c} {names} h = go (c .full) refl
   where
     go : (t : Bool) → c .full ≡ t → within lens letters names ≡ not t
@@ -240,7 +236,7 @@ add-last-name names [] n = refl
 add-last-name names (m ∷ ns) n = add-last-name (addName names m) ns n
 
 -- arrays of the output's limits: refusal 11 is that the table is full, or that there are too many tokens
-pub holds-limits : {lens letters : List ℕ} {c : Counts} {names : List Letters} (s : Sheet) → length lens ≡ mostNames → length letters ≡ mostLetters → Holds lens letters c names
+pub holds-limits : {lens letters : List ℕ} {c : Counts} {names : List Letters} (s : Sheet) → length lens ≡ mostNames → length letters ≡ mostLetters → NamesHeld lens letters c names
     → withinLimits names s ≡ (not (c .full) && leb (length (sheetTokens s)) mostTokensOut)
 unfolding withinLimits
 holds-limits {lens} {letters} {c} {names} s e f h = ap (λ t. t && leb (length (sheetTokens s)) mostTokensOut) (rw (e, f) at (holds-within h))

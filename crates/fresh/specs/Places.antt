@@ -23,7 +23,7 @@ unfolding between
 lettersAt starts letters x = between letters (getD starts x 0) (getD starts (x + 1) 0)
 
 -- where the letters of a name stand
-pub record Spans (letters : List ℕ) (s : Span) (name : Letters) : Type 0 where
+pub record NameSpans (letters : List ℕ) (s : Span) (name : Letters) : Type 0 where
   pub order : s .from ≤ s .to
   pub end : s .to ≤ length letters
   pub part : take (s .to - s .from) (drop (s .from) letters) ≡ name

@@ -27,7 +27,7 @@ pub record Sound (lens letters : List ℕ) (c : Counts) : Type 0 where
   pub reached : length letters ≤ farthest
 
 -- the table holds these names; or it is full, and there are no places for these names
-pub record Holds (lens letters : List ℕ) (c : Counts) (names : List Letters) : Type 0 where
+pub record NamesHeld (lens letters : List ℕ) (c : Counts) (names : List Letters) : Type 0 where
   pub sound : Sound lens letters c
   pub kept : c .full ≡ false → names ≡ namesOf lens letters c
   pub past : c .full ≡ true → within lens letters names ≡ false

@@ -8,8 +8,8 @@ ghost use Rattle.definitions.specs.Bytes.{cut};
 ghost use Rattle.definitions.specs.Output.{idOf, condactId, addName, stemLetters};
 ghost use Rattle.spelling.specs.Writing.{overAt, farthest, Put};
 ghost use Rattle.spelling.specs.Stems.{stemOf};
-ghost use Rattle.fresh.specs.Places.{startsFrom, lettersAt, Spans};
-ghost use Rattle.fresh.specs.Table.{Sound, Holds, namesOf};
+ghost use Rattle.fresh.specs.Places.{startsFrom, lettersAt, NameSpans};
+ghost use Rattle.fresh.specs.Table.{Sound, NamesHeld, namesOf};
 ghost use Rattle.fresh.specs.Free.{isFree, nextFree, newNumbers};
 use spelling::StemName;
 
@@ -65,7 +65,7 @@ pub fn fill_starts(lengths: &[u8], starts: &mut [u32])
 
 // Where the letters of name x stand.
 pub fn span_of(starts: &[u32], letters: &[u8], x: u32) -> Span
-    ensures { λ r. ⌜ Spans (now (letters .entry)) r (lettersAt (now (starts .entry)) (now (letters .entry)) x) ⌝ }
+    ensures { λ r. ⌜ NameSpans (now (letters .entry)) r (lettersAt (now (starts .entry)) (now (letters .entry)) x) ⌝ }
 {
     let i = wide_word(x);
     let from = word_at(starts, i);
@@ -90,7 +90,7 @@ pub fn put_name(out: &mut [u8], at: usize, starts: &[u32], letters: &[u8], x: u3
 }
 
 // Are these letters the name of one of these ids?
-pub fn is_among(starts: &[u32], letters: &[u8], ids: &[u32], name: &[u8]) -> bool
+fn is_among(starts: &[u32], letters: &[u8], ids: &[u32], name: &[u8]) -> bool
     ensures { λ r. ⌜ r ≡ any (sameLetters (now (name .entry))) (map (lettersAt (now (starts .entry)) (now (letters .entry))) (now (ids .entry))) ⌝ }
 {
     let mut i = 0;
@@ -116,7 +116,7 @@ fn is_free(starts: &[u32], letters: &[u8], ids: &[u32], stem: StemName, number: 
 }
 
 // The least number from `from` on that is free among these names.
-pub fn next_free(starts: &[u32], letters: &[u8], ids: &[u32], stem: StemName, from: u32) -> u32
+fn next_free(starts: &[u32], letters: &[u8], ids: &[u32], stem: StemName, from: u32) -> u32
     requires { ⌜ from + length (now ids) < 2 ^ 32 ⌝ }
     ensures { λ r. ⌜ r ≡ nextFree (map (lettersAt (now (starts .entry)) (now (letters .entry))) (now (ids .entry))) (stemOf stem) from ⌝ }
 {
@@ -148,7 +148,7 @@ pub fn fill_numbers(starts: &[u32], letters: &[u8], ids: &[u32], stem: StemName,
 }
 
 // A name's id: its place; the number of names, where it is none of them.
-pub fn find_name(lengths: &[u8], letters: &[u8], name: &[u8]) -> usize
+fn find_name(lengths: &[u8], letters: &[u8], name: &[u8]) -> usize
     requires { ⌜ sum (now lengths) ≤ length (now letters) ⌝ }
     ensures { λ r. ⌜ r ≡ idOf (cut (now (lengths .entry)) (now (letters .entry))) (now (name .entry)) ⌝ }
 {
@@ -187,7 +187,7 @@ pub fn find_condact(lengths: &[u8], letters: &[u8]) -> usize
 fn add_last(lengths: &mut [u8], letters: &mut [u8], c: Counts, name: &[u8]) -> Counts
     requires { ⌜ Sound (now lengths) (now letters) c ⌝ }
     requires { ⌜ length (now name) < 256 ⌝ }
-    ensures { λ r. ⌜ ((names : List Letters) → names ≡ namesOf (now (lengths .entry)) (now (letters .entry)) c → Holds (now (lengths .exit)) (now (letters .exit)) r (names ++ (now (name .entry) ∷ []))) ⌝ }
+    ensures { λ r. ⌜ ((names : List Letters) → names ≡ namesOf (now (lengths .entry)) (now (letters .entry)) c → NamesHeld (now (lengths .exit)) (now (letters .exit)) r (names ++ (now (name .entry) ∷ []))) ⌝ }
 {
     let m = c.names;
     let l = c.letters;
@@ -210,10 +210,10 @@ fn add_last(lengths: &mut [u8], letters: &mut [u8], c: Counts, name: &[u8]) -> C
 }
 
 // A name added; a name present is not added, and a full table stays as it is.
-pub fn add_name(lengths: &mut [u8], letters: &mut [u8], c: Counts, name: &[u8]) -> Counts
+fn add_name(lengths: &mut [u8], letters: &mut [u8], c: Counts, name: &[u8]) -> Counts
     requires { ⌜ Sound (now lengths) (now letters) c ⌝ }
     requires { ⌜ length (now name) < 256 ⌝ }
-    ensures { λ r. ⌜ ((names : List Letters) → Holds (now (lengths .entry)) (now (letters .entry)) c names → Holds (now (lengths .exit)) (now (letters .exit)) r (addName names (now (name .entry)))) ⌝ }
+    ensures { λ r. ⌜ ((names : List Letters) → NamesHeld (now (lengths .entry)) (now (letters .entry)) c names → NamesHeld (now (lengths .exit)) (now (letters .exit)) r (addName names (now (name .entry)))) ⌝ }
 {
     let m = c.names;
     let l = c.letters;
@@ -235,7 +235,7 @@ pub fn add_new(
     number: u32,
 ) -> Counts
     requires { ⌜ Sound (now lengths) (now letters) c ⌝ }
-    ensures { λ r. ⌜ ((names : List Letters) → Holds (now (lengths .entry)) (now (letters .entry)) c names → Holds (now (lengths .exit)) (now (letters .exit)) r (addName names (stemLetters (stemOf stem) ++ decimal number))) ⌝ }
+    ensures { λ r. ⌜ ((names : List Letters) → NamesHeld (now (lengths .entry)) (now (letters .entry)) c names → NamesHeld (now (lengths .exit)) (now (letters .exit)) r (addName names (stemLetters (stemOf stem) ++ decimal number))) ⌝ }
 {
     let mut name = [0u8; 32];
     let n = spelling::put_new_name(&mut name, 0, stem, number);
@@ -245,7 +245,7 @@ pub fn add_new(
 // `condact` added.
 pub fn add_condact(lengths: &mut [u8], letters: &mut [u8], c: Counts) -> Counts
     requires { ⌜ Sound (now lengths) (now letters) c ⌝ }
-    ensures { λ r. ⌜ ((names : List Letters) → Holds (now (lengths .entry)) (now (letters .entry)) c names → Holds (now (lengths .exit)) (now (letters .exit)) r (addName names (bytes "condact"))) ⌝ }
+    ensures { λ r. ⌜ ((names : List Letters) → NamesHeld (now (lengths .entry)) (now (letters .entry)) c names → NamesHeld (now (lengths .exit)) (now (letters .exit)) r (addName names (bytes "condact"))) ⌝ }
 {
     add_name(lengths, letters, c, b"condact")
 }
@@ -257,7 +257,7 @@ pub fn copy_names(given: &[u8], text: &[u8], lengths: &mut [u8], letters: &mut [
     requires { ⌜ length (now text) ≤ length (now letters) ⌝ }
     requires { ⌜ length (now lengths) ≤ farthest ⌝ }
     requires { ⌜ length (now letters) ≤ farthest ⌝ }
-    ensures { λ r. ⌜ Holds (now (lengths .exit)) (now (letters .exit)) r (cut (now (given .entry)) (now (text .entry))) ⌝ }
+    ensures { λ r. ⌜ NamesHeld (now (lengths .exit)) (now (letters .exit)) r (cut (now (given .entry)) (now (text .entry))) ⌝ }
 {
     spelling::put_all(lengths, 0, given);
     spelling::put_all(letters, 0, text);

@@ -21,7 +21,7 @@ use Rattle.definitions.specs.declared.DefinitionToken.{DefinitionToken}
 use Rattle.definitions.specs.declared.ExprToken.{ExprToken}
 use Rattle.definitions.specs.Lists.{choose}
 use Rattle.definitions.specs.Tokens.{TagValue, given, words, typeTokenOf, definitionTokenOf, exprTokenOf}
-use Rattle.definitions.specs.Tree.{Ty, Declared, Body, TypeDef, Head, Expr, Exprs, Equation, Probe, Node, Sheet}
+use Rattle.definitions.specs.Tree.{Ty, Declared, Body, TypeDef, Head, Expr, Exprs, Equation, Node, Sheet}
 use Rattle.definitions.specs.Reading.{Got, got, rejected, Reader, after, allowed, token, limited, times}
 use Rattle.definitions.specs.Grammar.{valueAt, tagged, counted, count, high, name, noArray, shortEnough, typed, ty, append, exprs, fields, constant, form, expr, kindAt}
 use Rattle.definitions.specs.Grammar.{declaration, declarations, definition, typeDef, equation, probe, node, sheet}
@@ -328,13 +328,6 @@ module _ (M : ℕ) (ts : List TagValue) (p : ℕ) where
       let l = after-got (times (n .0) (name M) ts (n .1)) _ e q (n .3) in
       let a = wrap-got (expr M 32 ts (l .1)) _ e q (l .3) in
       (n .0, n .1, l .0, l .1, a .0, n .2, l .2, a .1, a .2)
-
-  pub probe-got : (x : Probe) (q : ℕ) → probe M ts p ≡ got x q → (l s n : ℕ) × (name M ts p ≡ got l s) × (name M ts s ≡ got n q) × (x ≡ record { label = l; name = n })
-  unfolding probe
-  probe-got x q g =
-      let l = after-got (name M ts p) _ x q g in
-      let n = wrap-got (name M ts (l .1)) _ x q (l .3) in
-      (l .0, l .1, n .0, l .2, n .1, n .2)
 
   pub definition-got : (t : TypeDef) (q : ℕ) → typeDef M ts p ≡ got t q → (h : DefinitionToken) × (token (definitionTokenOf M) ts p ≡ got h (p + 1)) × (definition M h ts (p + 1) ≡ got t q)
   unfolding typeDef

@@ -26,7 +26,7 @@ use Rattle.grammar.specs.declared.Counted.{Counted}
 use Rattle.grammar.specs.declared.ExprHead.{ExprHead}
 use Rattle.grammar.specs.declared.TypeHead.{TypeHead}
 use Rattle.grammar.specs.declared.DefinitionHead.{DefinitionHead}
-use Rattle.grammar.specs.Outcome.{outcome, counts, listed, exprHead, typeHead, definitionHead}
+use Rattle.grammar.specs.Outcome.{outcome, counts, listed, ended, exprHead, typeHead, definitionHead}
 
 pub tokens-length : (ts vs : List ℕ) → length vs ≡ length ts → length (tokens ts vs) ≡ length ts
 unfolding tokens
@@ -172,16 +172,17 @@ counting x f r s n q e g h = then x f n q s (count-got x r n q e g) h
 pub uncounted : {B : Type 0} (x : Got ℕ) (f : ℕ → ℕ → Got B) (r : Counted) (t : Refusal) → r ≡ counts x → r ≡ Counted.Refused t → Read.Refused t ≡ outcome (after x f)
 uncounted x f r t e g = stop x f t (count-refused x r t e g)
 
--- a high word, and a count, by the word that stands there
+-- a high word is its outcome
+pub high-end : (ts : List TagValue) (p : ℕ) (o : Counted) (s : Read) → s ≡ ended o → o ≡ counts (tagged 5 words ts p) → s ≡ outcome (high ts p)
+unfolding high
+high-end ts p o s g h = g ∙ (ap ended h ∙ go (tagged 5 words ts p))
+  where
+    go : (x : Got ℕ) → ended (counts x) ≡ outcome x
+    go (got n q) = refl
+    go (rejected t) = refl
+
+-- a count, by the word that stands there
 module _ (ts : List TagValue) (p : ℕ) (r : Counted) where
-  pub high-got : (n q : ℕ) → r ≡ counts (tagged 5 words ts p) → r ≡ Counted.Count n q → Read.Next q ≡ outcome (high ts p)
-  unfolding high
-  high-got n q e g = rw (count-got (tagged 5 words ts p) r n q e g)
-
-  pub high-refused : (t : Refusal) → r ≡ counts (tagged 5 words ts p) → r ≡ Counted.Refused t → Read.Refused t ≡ outcome (high ts p)
-  unfolding high
-  high-refused t e g = rw (count-refused (tagged 5 words ts p) r t e g)
-
   module _ (tag low most : ℕ) (e : r ≡ counts (tagged tag words ts p)) where
     pub count-few : (n q : ℕ) → r ≡ Counted.Count n q → n < low → Counted.Refused (Refusal.Limit p) ≡ counts (counted tag low most ts p)
     unfolding counted limited

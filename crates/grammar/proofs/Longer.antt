@@ -18,7 +18,7 @@ use Rattle.definitions.specs.Tokens.{TagValue, exprTokenOf, typeTokenOf, defini
 use Rattle.definitions.specs.Tree.{Ty, Head, Expr, Exprs}
 use Rattle.definitions.specs.Reading.{got, rejected, Reader, _>>=_, return, allowed, atToken, token, limited, times}
 use Rattle.definitions.specs.Grammar.{tagged, counted, count, high, name, noArray, shortEnough, typed, ty, exprs, fields, constant, iteration, form, expr, mostCounted, deepestType}
-use Rattle.definitions.specs.Grammar.{kindAt, declaration, declarations, definition, typeDef, equation, probe, node}
+use Rattle.definitions.specs.Grammar.{declaration, definition, typeDef, equation, probe}
 use Rattle.definitions.specs.Bytes.{tokens}
 use Rattle.grammar.specs.declared.Read.{Read}
 use Rattle.grammar.specs.declared.Counted.{Counted}
@@ -191,10 +191,6 @@ module _ (M : ℕ) where
   unfolding declaration
   declaration-grows = grows-then (name M) _ (name-grows M) (λ n. keeps-then (ty M 8) _ (keeps _ (type-grows M 8)) (λ a. keeps-return _))
 
-  pub declarations-grows : (most : ℕ) → Grows (declarations M most)
-  unfolding declarations
-  declarations-grows most = grows-then (count most) _ (count-grows most) (λ n. times-keeps (declaration M) (keeps _ declaration-grows) n)
-
   pub probe-grows : Grows (probe M)
   unfolding probe
   probe-grows = grows-then (name M) _ (name-grows M) (λ l. keeps-then (name M) _ (keeps _ (name-grows M)) (λ n. keeps-return _))
@@ -216,16 +212,6 @@ module _ (M : ℕ) where
   pub definition-grows : Grows (typeDef M)
   unfolding typeDef
   definition-grows = grows-then (token (definitionTokenOf M)) _ (token-grows (definitionTokenOf M)) definition-keeps
-
-  pub node-grows : Grows (node M)
-  unfolding node
-  node-grows =
-      grows-then (tagged 40 M) _ (tagged-grows 40 M) (λ n. keeps-then (token kindAt) _ (keeps _ (token-grows kindAt)) (λ k.
-      keeps-then (declarations M 128) _ (keeps _ (declarations-grows 128)) (λ ins.
-      keeps-then (declarations M (128 - length ins)) _ (keeps _ (declarations-grows (128 - length ins))) (λ outs.
-      keeps-then (declarations M (128 - length ins - length outs)) _ (keeps _ (declarations-grows (128 - length ins - length outs))) (λ ls.
-      keeps-then (count 64) _ (keeps _ (count-grows 64)) (λ e. keeps-then (times e (equation M)) _ (times-keeps (equation M) (keeps _ equation-grows) e) (λ es.
-      keeps-then (count 64) _ (keeps _ (count-grows 64)) (λ m. keeps-then (times m (probe M)) _ (times-keeps (probe M) (keeps _ probe-grows) m) (λ ps. keeps-return _)))))))))
 
 -- the same of the code's answers, over the two arrays
 module _ (ts vs : List ℕ) (same : length vs ≡ length ts) where

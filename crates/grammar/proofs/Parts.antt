@@ -17,9 +17,10 @@ use Rattle.definitions.specs.Grammar.{tagged, counted, count, name, ty, kindAt,
 use Rattle.grammar.specs.declared.Read.{Read}
 use Rattle.grammar.specs.declared.Counted.{Counted}
 use Rattle.grammar.specs.declared.DefinitionHead.{DefinitionHead}
-use Rattle.grammar.specs.Outcome.{outcome, counts, listed, definitionHead}
-use Rattle.grammar.specs.Parts.{variants, ports, nodeProbes, body, sheetTypes, sheetNodes}
-use Rattle.grammar.proofs.Laws.{wrap, counting, uncounted, going, stopped, next-got, refused, count-got, count-refused, list-got, list-refused, definition-head-got, definition-head-refused, after-got, times-length}
+use Rattle.grammar.specs.declared.Item.{Item}
+use Rattle.grammar.specs.Outcome.{outcome, counts, listed, ended, definitionHead}
+use Rattle.grammar.specs.Parts.{part, items, ports, equations, body, sheetTypes, sheetNodes}
+use Rattle.grammar.proofs.Laws.{then, stop, wrap, counting, uncounted, going, stopped, next-got, refused, count-got, count-refused, list-got, list-refused, definition-head-got, definition-head-refused, after-got, times-length}
 use Rattle.grammar.proofs.Shapes.{alike}
 
 -- a count that was read is within its bounds
@@ -33,35 +34,6 @@ counted-within tag low most ts p n q g =
     go k s false b x y e = let z : _≡_ {A = ℕ} 0 1 = cc in absurd (omega arith)
     go k s true false x y e = let z : _≡_ {A = ℕ} 0 1 = cc in absurd (omega arith)
     go k s true true x y e = let i : k ≡ n = cc in (omega (arith, leb-true low k x), omega (arith, leb-true k most y))
-
--- names with their types behind their count
-module _ (M most : ℕ) (ts : List TagValue) (p : ℕ) where
-  -- there are no more than allowed
-  pub ports-most : (i : Counted) (n q : ℕ) → i ≡ listed (declarations M most ts p) → i ≡ Counted.Count n q → n ≤ most
-  unfolding declarations count
-  ports-most i n q e g =
-      let l = list-got (declarations M most ts p) i n q e g in
-      let m = after-got (counted 3 0 most ts p) _ (l .0) q (l .1) in
-      let k = times-length (declaration M) ts (m .0) (m .1) (l .0) q (m .3) in
-      let b = counted-within 3 0 most ts p (m .0) (m .1) (m .2) in
-      let h = l .2 in
-      omega arith
-
-  module _ (r : Counted) (e : r ≡ counts (counted 3 0 most ts p)) where
-    pub ports-uncounted : (t : Refusal) → r ≡ Counted.Refused t → Counted.Refused t ≡ listed (declarations M most ts p)
-    unfolding declarations count
-    ports-uncounted t g = rw (count-refused (counted 3 0 most ts p) r t e g)
-
-    module _ (n q : ℕ) (g : r ≡ Counted.Count n q) (f : Read) (h : f ≡ outcome (times n (declaration M) ts q)) where
-      pub ports-stop : (t : Refusal) → f ≡ Read.Refused t → Counted.Refused t ≡ listed (declarations M most ts p)
-      unfolding declarations count
-      ports-stop t i = rw (count-got (counted 3 0 most ts p) r n q e g, refused (times n (declaration M) ts q) f t h i)
-
-      pub ports-all : (u : ℕ) → f ≡ Read.Next u → Counted.Count n u ≡ listed (declarations M most ts p)
-      unfolding declarations count
-      ports-all u i =
-          let l = next-got (times n (declaration M) ts q) f u h i in
-          rw (count-got (counted 3 0 most ts p) r n q e g, l .1) (ap (λ (k : ℕ). Counted.Count k u) (sym (times-length (declaration M) ts n q (l .0) u (l .1))))
 
 -- a node's inputs, outputs and locals
 module _ (M : ℕ) (ts : List TagValue) (p : ℕ) (i : Counted) (ei : i ≡ listed (declarations M 128 ts p)) where
@@ -101,24 +73,17 @@ module _ (M : ℕ) (ts : List TagValue) (p : ℕ) (r : DefinitionHead) (i : r �
     is : (k : DefinitionToken) → h ≡ k → token (definitionTokenOf M) ts p ≡ got k q
     is k j = definition-head-got (token (definitionTokenOf M) ts p) r k q i (e ∙ ap (λ (y : DefinitionToken). DefinitionHead.Token y q) j)
 
-    pub definition-enum : (x : ℕ) (s : Read) → h ≡ DefinitionToken.Enum x → s ≡ outcome (variants M ts q) → s ≡ outcome (typeDef M ts p)
-    unfolding typeDef definition variants
-    definition-enum x s j f = rw (is (DefinitionToken.Enum x) j) (f ∙ alike (count mostCounted ts q) _ _ (λ n u. wrap (times n (name M) ts u) _))
+    pub definition-enum : (x : ℕ) (s : Read) → h ≡ DefinitionToken.Enum x → s ≡ outcome (items M Item.Name 0 64 ts q) → s ≡ outcome (typeDef M ts p)
+    unfolding typeDef definition items count
+    definition-enum x s j f = rw (is (DefinitionToken.Enum x) j) (f ∙ alike (counted 3 0 64 ts q) _ _ (λ n u. wrap (times n (name M) ts u) _))
+
+    pub definition-record : (x : ℕ) (s : Read) → h ≡ DefinitionToken.Record x → s ≡ outcome (items M Item.Declaration 0 64 ts q) → s ≡ outcome (typeDef M ts p)
+    unfolding typeDef definition items count
+    definition-record x s j f = rw (is (DefinitionToken.Record x) j) (f ∙ alike (counted 3 0 64 ts q) _ _ (λ n u. wrap (times n (declaration M) ts u) _))
 
     pub definition-alias : (x : ℕ) (s : Read) → h ≡ DefinitionToken.Alias x → s ≡ outcome (ty M 8 ts q) → s ≡ outcome (typeDef M ts p)
     unfolding typeDef definition
     definition-alias x s j f = rw (is (DefinitionToken.Alias x) j) (f ∙ wrap (ty M 8 ts q) _)
-
-    module _ (x : ℕ) (j : h ≡ DefinitionToken.Record x) (o : Counted) (eo : o ≡ listed (declarations M 64 ts q)) where
-      record-outcome : outcome (declarations M 64 ts q) ≡ outcome (typeDef M ts p)
-      unfolding typeDef definition declarations
-      record-outcome = rw (is (DefinitionToken.Record x) j) (alike (count 64 ts q) _ _ (λ n u. wrap (times n (declaration M) ts u) _))
-
-      pub definition-record : (n u : ℕ) → o ≡ Counted.Count n u → Read.Next u ≡ outcome (typeDef M ts p)
-      definition-record n u g = ap outcome (sym (list-got (declarations M 64 ts q) o n u eo g .1)) ∙ record-outcome
-
-      pub definition-no-record : (t : Refusal) → o ≡ Counted.Refused t → Read.Refused t ≡ outcome (typeDef M ts p)
-      definition-no-record t g = ap outcome (sym (list-refused (declarations M 64 ts q) o t eo g)) ∙ record-outcome
 
 -- readings in a row, bracketed otherwise
 again : {A B C : Type 0} (x : Got A) (f : A → ℕ → Got B) (g : B → ℕ → Got C) → after (after x f) g ≡ after x (λ a q. after (f a q) g)
@@ -133,13 +98,13 @@ rows x f g h e = ap outcome (again x f g) ∙ alike x _ _ e
 module _ (M : ℕ) (ts : List TagValue) (p : ℕ) where
   -- a node by its parts
   pub node-parts : outcome (after (tagged 40 M ts p) (λ n q. after (token kindAt ts q) (λ k s. after (ports M ts s) (λ ls u. body M ts u)))) ≡ outcome (node M ts p)
-  unfolding node ports body nodeProbes
+  unfolding node ports body equations items count
   node-parts =
       alike (tagged 40 M ts p) _ _ (λ n q. alike (token kindAt ts q) _ _ (λ k s.
       rows (declarations M 128 ts s) _ _ _ (λ ins a. rows (declarations M (128 - length ins) ts a) _ _ _ (λ outs b.
       alike (declarations M (128 - length ins - length outs) ts b) _ _ (λ ls c.
-      alike (count 64 ts c) _ _ (λ e d. alike (times e (equation M) ts d) _ _ (λ es f.
-      alike (count 64 ts f) _ _ (λ m g. wrap (times m (probe M) ts g) _))))))))
+      rows (counted 3 0 64 ts c) _ _ _ (λ e d. alike (times e (equation M) ts d) _ _ (λ es f.
+      alike (counted 3 0 64 ts f) _ _ (λ m g. wrap (times m (probe M) ts g) _))))))))
 
 -- what a sheet says at its end, where nothing may follow
 abbrev pub whole : {A : Type 0} → List TagValue → A → ℕ → Got A
@@ -161,8 +126,48 @@ module _ {A : Type 0} (R : Reader A) (tag low most : ℕ) (ts : List TagValue) (
   pub listed-stop : (t : Refusal) → r ≡ Counted.Refused t → Read.Refused t ≡ outcome (after (counted tag low most ts p) (λ n q. times n R ts q))
   listed-stop t g = uncounted (counted tag low most ts p) _ r t e g
 
-  pub listed-more : (n q : ℕ) (s : Read) → r ≡ Counted.Count n q → s ≡ outcome (times n R ts q) → s ≡ outcome (after (counted tag low most ts p) (λ n q. times n R ts q))
-  listed-more n q s g h = counting (counted tag low most ts p) _ r s n q e g h
+  pub listed-more : (n q : ℕ) → r ≡ Counted.Count n q → outcome (after (counted tag low most ts p) (λ n q. times n R ts q)) ≡ outcome (times n R ts q)
+  listed-more n q g = sym (counting (counted tag low most ts p) _ r (outcome (times n R ts q)) n q e g refl)
+
+-- the same of an item's list, the count told too
+module _ (M : ℕ) (i : Item) (low most : ℕ) (ts : List TagValue) (p : ℕ) where
+  -- there are no more than allowed
+  pub items-most : (o : Counted) (n q : ℕ) → o ≡ listed (items M i low most ts p) → o ≡ Counted.Count n q → n ≤ most
+  unfolding items
+  items-most o n q e g =
+      let l = list-got (items M i low most ts p) o n q e g in
+      let m = after-got (counted 3 low most ts p) _ (l .0) q (l .1) in
+      let k = times-length (part M i) ts (m .0) (m .1) (l .0) q (m .3) in
+      let b = counted-within 3 low most ts p (m .0) (m .1) (m .2) in
+      let h = l .2 in
+      omega arith
+
+  pub items-end : (o : Counted) (s : Read) → s ≡ ended o → o ≡ listed (items M i low most ts p) → s ≡ outcome (items M i low most ts p)
+  items-end o s g h = g ∙ (ap ended h ∙ go (items M i low most ts p))
+    where
+      go : {A : Type 0} (x : Got (List A)) → ended (listed x) ≡ outcome x
+      go (got l q) = refl
+      go (rejected t) = refl
+
+  module _ (r : Counted) (e : r ≡ counts (counted 3 low most ts p)) where
+    pub items-stop : (t : Refusal) → r ≡ Counted.Refused t → Counted.Refused t ≡ listed (items M i low most ts p)
+    unfolding items
+    items-stop t g = rw (count-refused (counted 3 low most ts p) r t e g)
+
+    module _ (n q : ℕ) (g : r ≡ Counted.Count n q) where
+      pub items-refused : (t : Refusal) → Read.Refused t ≡ outcome (times n (part M i) ts q) → Counted.Refused t ≡ listed (items M i low most ts p)
+      unfolding items
+      items-refused t h = rw (count-got (counted 3 low most ts p) r n q e g, refused (times n (part M i) ts q) _ t h refl)
+
+      pub items-all : (u : ℕ) → Read.Next u ≡ outcome (times n (part M i) ts q) → Counted.Count n u ≡ listed (items M i low most ts p)
+      unfolding items
+      items-all u h =
+          let l = next-got (times n (part M i) ts q) _ u h refl in
+          rw (count-got (counted 3 low most ts p) r n q e g, l .1) (ap (λ (k : ℕ). Counted.Count k u) (sym (times-length (part M i) ts n q (l .0) u (l .1))))
+
+-- an item, told which
+pub part-is : (M : ℕ) (ts : List TagValue) (p : ℕ) (i j : Item) (s : Read) → i ≡ j → s ≡ outcome (part M j ts p) → s ≡ outcome (part M i ts p)
+part-is M ts p i j s e h = rw e h
 
 module _ (M : ℕ) (ts : List TagValue) (p : ℕ) where
   -- a name, and what stands with it
@@ -183,35 +188,27 @@ module _ (M : ℕ) (ts : List TagValue) (p : ℕ) where
     unfolding probe
     probe-more q s g h = going (name M ts p) _ r s q e g (λ n. h ∙ wrap (name M ts q) _)
 
-  -- an equation
-  module _ (r : Counted) (e : r ≡ counts (counted 3 1 8 ts p)) where
+  -- an equation by its left names
+  equation-parts : outcome (after (items M Item.Name 1 8 ts p) (λ ls q. expr M 32 ts q)) ≡ outcome (equation M ts p)
+  unfolding equation items
+  equation-parts = rows (counted 3 1 8 ts p) _ _ _ (λ n q. alike (times n (name M) ts q) _ _ (λ ls s. wrap (expr M 32 ts s) _))
+
+  module _ (r : Counted) (e : r ≡ listed (items M Item.Name 1 8 ts p)) where
     pub equation-stop : (t : Refusal) → r ≡ Counted.Refused t → Read.Refused t ≡ outcome (equation M ts p)
-    unfolding equation
-    equation-stop t g = uncounted (counted 3 1 8 ts p) _ r t e g
+    equation-stop t g = stop (items M Item.Name 1 8 ts p) _ t (list-refused (items M Item.Name 1 8 ts p) r t e g) ∙ equation-parts
 
-    module _ (n q : ℕ) (g : r ≡ Counted.Count n q) (f : Read) (h : f ≡ outcome (times n (name M) ts q)) where
-      pub equation-left : (t : Refusal) → f ≡ Read.Refused t → Read.Refused t ≡ outcome (equation M ts p)
-      unfolding equation
-      equation-left t k = counting (counted 3 1 8 ts p) _ r _ n q e g (stopped (times n (name M) ts q) _ f t h k)
-
-      pub equation-more : (u : ℕ) (s : Read) → f ≡ Read.Next u → s ≡ outcome (expr M 32 ts u) → s ≡ outcome (equation M ts p)
-      unfolding equation
-      equation-more u s k i = counting (counted 3 1 8 ts p) _ r s n q e g (going (times n (name M) ts q) _ f s u h k (λ l. i ∙ wrap (expr M 32 ts u) _))
+    pub equation-more : (n q : ℕ) (s : Read) → r ≡ Counted.Count n q → s ≡ outcome (expr M 32 ts q) → s ≡ outcome (equation M ts p)
+    equation-more n q s g h = let l = list-got (items M Item.Name 1 8 ts p) r n q e g in then (items M Item.Name 1 8 ts p) _ (l .0) q s (l .1) h ∙ equation-parts
 
   -- a node's equations and probes
-  module _ (r : Counted) (e : r ≡ counts (counted 3 0 64 ts p)) where
-    pub body-stop : (t : Refusal) → r ≡ Counted.Refused t → Read.Refused t ≡ outcome (body M ts p)
-    unfolding body count
-    body-stop t g = uncounted (counted 3 0 64 ts p) _ r t e g
+  module _ (r : Read) (e : r ≡ outcome (equations M ts p)) where
+    pub body-stop : (t : Refusal) → r ≡ Read.Refused t → Read.Refused t ≡ outcome (body M ts p)
+    unfolding body
+    body-stop t g = stopped (equations M ts p) _ r t e g
 
-    module _ (n q : ℕ) (g : r ≡ Counted.Count n q) (f : Read) (h : f ≡ outcome (times n (equation M) ts q)) where
-      pub body-equations : (t : Refusal) → f ≡ Read.Refused t → Read.Refused t ≡ outcome (body M ts p)
-      unfolding body count
-      body-equations t k = counting (counted 3 0 64 ts p) _ r _ n q e g (stopped (times n (equation M) ts q) _ f t h k)
-
-      pub body-more : (u : ℕ) (s : Read) → f ≡ Read.Next u → s ≡ outcome (nodeProbes M ts u) → s ≡ outcome (body M ts p)
-      unfolding body count
-      body-more u s k i = counting (counted 3 0 64 ts p) _ r s n q e g (going (times n (equation M) ts q) _ f s u h k (λ l. i))
+    pub body-more : (q : ℕ) (s : Read) → r ≡ Read.Next q → s ≡ outcome (items M Item.Probe 0 64 ts q) → s ≡ outcome (body M ts p)
+    unfolding body
+    body-more q s g h = going (equations M ts p) _ r s q e g (λ l. h)
 
   -- a node
   module _ (r : Read) (e : r ≡ outcome (tagged 40 M ts p)) where

@@ -27,6 +27,11 @@ abbrev pub listed : {A : Type 0} → Got (List A) → Counted
 listed (got l q) = Counted.Count (length l) q
 listed (rejected r) = Counted.Refused r
 
+-- the next place alone
+abbrev pub ended : Counted → Read
+ended (Counted.Count n q) = Read.Next q
+ended (Counted.Refused r) = Read.Refused r
+
 -- the first token read, and the next place
 abbrev pub exprHead : Got ExprToken → ExprHead
 exprHead (got t q) = ExprHead.Token t q

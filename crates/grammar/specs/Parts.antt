@@ -2,15 +2,28 @@
 use Prim.Native.Nat.{ℕ, _-_}
 use mathlib.Core.List.{List}
 use lib.ListN.{length}
-use Rattle.definitions.specs.Tree.{Declared, TypeDef, Probe, Node}
+use Rattle.definitions.specs.Tree.{Declared, TypeDef, Equation, Probe, Node}
 use Rattle.definitions.specs.Reading.{Reader, _>>=_, times}
-use Rattle.definitions.specs.Grammar.{count, counted, name, declarations, typeDef, equation, probe, node, mostTypes, mostNodes, mostCounted, mostDeclared}
+use Rattle.definitions.specs.Grammar.{count, counted, name, declaration, declarations, typeDef, equation, probe, node, mostTypes, mostNodes, mostCounted, mostDeclared}
+use Rattle.grammar.specs.declared.Item.{Item}
+
+-- what an item of a list is
+abbrev pub PartOf : Item → Type 0
+PartOf Item.Name = ℕ
+PartOf Item.Declaration = Declared
+PartOf Item.Probe = Probe
 
 -- M is the number of names
 module _ (M : ℕ) where
-  -- an enum's names
-  unfoldable pub variants : Reader (List ℕ)
-  variants = count mostCounted >>= λ n. times n (name M)
+  -- an item of a list
+  abbrev pub part : (i : Item) → Reader (PartOf i)
+  part Item.Name = name M
+  part Item.Declaration = declaration M
+  part Item.Probe = probe M
+
+  -- a list behind its count, which is from low to most
+  unfoldable pub items : (i : Item) → ℕ → ℕ → Reader (List (PartOf i))
+  items i low most = counted 3 low most >>= λ n. times n (part i)
 
   -- a node's inputs, outputs and locals: the locals
   unfoldable pub ports : Reader (List Declared)
@@ -19,13 +32,13 @@ module _ (M : ℕ) where
       declarations M (mostDeclared - length ins) >>= λ outs.
       declarations M (mostDeclared - length ins - length outs)
 
-  -- a node's probes
-  unfoldable pub nodeProbes : Reader (List Probe)
-  nodeProbes = count mostCounted >>= λ p. times p (probe M)
+  -- a node's equations
+  unfoldable pub equations : Reader (List Equation)
+  equations = counted 3 0 mostCounted >>= λ e. times e (equation M)
 
   -- a node's equations and probes: the probes
   unfoldable pub body : Reader (List Probe)
-  body = count mostCounted >>= λ e. times e (equation M) >>= λ es. nodeProbes
+  body = equations >>= λ es. items Item.Probe 0 mostCounted
 
   -- a sheet's types
   unfoldable pub sheetTypes : Reader (List TypeDef)

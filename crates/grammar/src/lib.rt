@@ -15,11 +15,11 @@ ghost use Prim.Native.Nat.{_+_, _<_};
 ghost use lib.ListN.{length};
 ghost use Rattle.definitions.specs.Bytes.{tokens};
 ghost use Rattle.definitions.specs.Tokens.{words, exprTokenOf, typeTokenOf, definitionTokenOf};
-ghost use Rattle.definitions.specs.Reading.{token, times};
-ghost use Rattle.definitions.specs.Grammar.{tagged, counted, high, kindAt, ty, declaration, declarations, definition, typeDef, fields, expr, exprs, equation, probe, node, sheet, name};
-ghost use Rattle.grammar.specs.Outcome.{outcome, counts, listed, exprHead, typeHead, definitionHead};
+ghost use Rattle.definitions.specs.Reading.{token};
+ghost use Rattle.definitions.specs.Grammar.{tagged, counted, high, kindAt, ty, declaration, typeDef, fields, expr, exprs, equation, probe, node, sheet, name};
+ghost use Rattle.grammar.specs.Outcome.{outcome, counts, listed, ended, exprHead, typeHead, definitionHead};
 ghost use Rattle.grammar.specs.Shape.{shapeOf, literalShape, following};
-ghost use Rattle.grammar.specs.Parts.{variants, nodeProbes, ports, body, sheetTypes, sheetNodes};
+ghost use Rattle.grammar.specs.Parts.{part, items, equations, ports, body, sheetTypes, sheetNodes};
 
 // What a reading says: the next place, or a refusal.
 pub enum Read {
@@ -62,8 +62,15 @@ pub enum Shape {
     Iteration,
 }
 
+// What stands in a list: names, names with their types, labels with their names.
+enum Item {
+    Name,
+    Declaration,
+    Probe,
+}
+
 // A token of this tag whose value is an id.
-pub fn read_id(tags: &[u8], values: &[u32], names: u32, tag: u8, at: usize) -> Read
+fn read_id(tags: &[u8], values: &[u32], names: u32, tag: u8, at: usize) -> Read
     requires { ⌜ length (now values) ≡ length (now tags) ⌝ }
     ensures { λ r. ⌜ r ≡ outcome (tagged tag names (tokens (now (tags .entry)) (now (values .entry))) at) ⌝ }
 {
@@ -91,7 +98,7 @@ pub fn read_name(tags: &[u8], values: &[u32], names: u32, at: usize) -> Read
 }
 
 // A token of this tag: its value.
-pub fn read_word(tags: &[u8], values: &[u32], tag: u8, at: usize) -> Counted
+fn read_word(tags: &[u8], values: &[u32], tag: u8, at: usize) -> Counted
     requires { ⌜ length (now values) ≡ length (now tags) ⌝ }
     ensures { λ r. ⌜ r ≡ counts (tagged tag words (tokens (now (tags .entry)) (now (values .entry))) at) ⌝ }
 {
@@ -106,16 +113,22 @@ pub fn read_word(tags: &[u8], values: &[u32], tag: u8, at: usize) -> Counted
     }
 }
 
-// The high word of an int or a float.
-pub fn read_high(tags: &[u8], values: &[u32], at: usize) -> Read
-    requires { ⌜ length (now values) ≡ length (now tags) ⌝ }
-    ensures { λ r. ⌜ r ≡ outcome (high (tokens (now (tags .entry)) (now (values .entry))) at) ⌝ }
+// The place that follows what was counted.
+fn end_of(counted: Counted) -> Read
+    ensures { λ r. ⌜ r ≡ ended counted ⌝ }
 {
-    let word = read_word(tags, values, 5, at);
-    match word {
+    match counted {
         Counted::Count(_, next) => Read::Next(next),
         Counted::Refused(r) => Read::Refused(r),
     }
+}
+
+// The high word of an int or a float.
+fn read_high(tags: &[u8], values: &[u32], at: usize) -> Read
+    requires { ⌜ length (now values) ≡ length (now tags) ⌝ }
+    ensures { λ r. ⌜ r ≡ outcome (high (tokens (now (tags .entry)) (now (values .entry))) at) ⌝ }
+{
+    end_of(read_word(tags, values, 5, at))
 }
 
 // A token of this tag whose value is from `low` to `most`.
@@ -139,7 +152,7 @@ pub fn read_count(tags: &[u8], values: &[u32], tag: u8, low: u32, most: u32, at:
 }
 
 // A node's kind.
-pub fn read_kind(tags: &[u8], values: &[u32], at: usize) -> Read
+fn read_kind(tags: &[u8], values: &[u32], at: usize) -> Read
     requires { ⌜ length (now values) ≡ length (now tags) ⌝ }
     ensures { λ r. ⌜ r ≡ outcome (token kindAt (tokens (now (tags .entry)) (now (values .entry))) at) ⌝ }
 {
@@ -237,7 +250,7 @@ pub fn read_type(tags: &[u8], values: &[u32], names: u32, depth: u32, at: usize)
 }
 
 // What follows a constant.
-pub fn literal_shape(l: Literal) -> Shape
+fn literal_shape(l: Literal) -> Shape
     ensures { λ r. ⌜ r ≡ literalShape l ⌝ }
 {
     match l {
@@ -296,7 +309,7 @@ fn var_end(tags: &[u8], values: &[u32], names: u32, depth: u32, at: usize) -> us
 }
 
 // An expression at most `depth` deep.
-pub fn read_expr(tags: &[u8], values: &[u32], names: u32, depth: u32, at: usize) -> Read
+fn read_expr(tags: &[u8], values: &[u32], names: u32, depth: u32, at: usize) -> Read
     requires { ⌜ length (now values) ≡ length (now tags) ⌝ }
     ensures { λ r. ⌜ r ≡ outcome (expr names depth (tokens (now (tags .entry)) (now (values .entry))) at) ⌝ }
 {
@@ -317,7 +330,7 @@ pub fn read_expr(tags: &[u8], values: &[u32], names: u32, depth: u32, at: usize)
 }
 
 // What follows a first token of this shape, its operands at most `depth` deep.
-pub fn read_following(
+fn read_following(
     tags: &[u8],
     values: &[u32],
     names: u32,
@@ -339,7 +352,7 @@ pub fn read_following(
 }
 
 // A count and operands.
-pub fn read_items(tags: &[u8], values: &[u32], names: u32, depth: u32, at: usize) -> Read
+fn read_items(tags: &[u8], values: &[u32], names: u32, depth: u32, at: usize) -> Read
     requires { ⌜ length (now values) ≡ length (now tags) ⌝ }
     ensures { λ r. ⌜ r ≡ outcome (following names Shape.Items (expr names depth) (tokens (now (tags .entry)) (now (values .entry))) at) ⌝ }
 {
@@ -351,7 +364,7 @@ pub fn read_items(tags: &[u8], values: &[u32], names: u32, depth: u32, at: usize
 }
 
 // A count and fields.
-pub fn read_record(tags: &[u8], values: &[u32], names: u32, depth: u32, at: usize) -> Read
+fn read_record(tags: &[u8], values: &[u32], names: u32, depth: u32, at: usize) -> Read
     requires { ⌜ length (now values) ≡ length (now tags) ⌝ }
     ensures { λ r. ⌜ r ≡ outcome (following names Shape.Fields (expr names depth) (tokens (now (tags .entry)) (now (values .entry))) at) ⌝ }
 {
@@ -363,7 +376,7 @@ pub fn read_record(tags: &[u8], values: &[u32], names: u32, depth: u32, at: usiz
 }
 
 // A type and an operand.
-pub fn read_cast(tags: &[u8], values: &[u32], names: u32, depth: u32, at: usize) -> Read
+fn read_cast(tags: &[u8], values: &[u32], names: u32, depth: u32, at: usize) -> Read
     requires { ⌜ length (now values) ≡ length (now tags) ⌝ }
     ensures { λ r. ⌜ r ≡ outcome (following names Shape.Cast (expr names depth) (tokens (now (tags .entry)) (now (values .entry))) at) ⌝ }
 {
@@ -375,7 +388,7 @@ pub fn read_cast(tags: &[u8], values: &[u32], names: u32, depth: u32, at: usize)
 }
 
 // A count of start values with them, then a count and operands.
-pub fn read_iteration(tags: &[u8], values: &[u32], names: u32, depth: u32, at: usize) -> Read
+fn read_iteration(tags: &[u8], values: &[u32], names: u32, depth: u32, at: usize) -> Read
     requires { ⌜ length (now values) ≡ length (now tags) ⌝ }
     ensures { λ r. ⌜ r ≡ outcome (following names Shape.Iteration (expr names depth) (tokens (now (tags .entry)) (now (values .entry))) at) ⌝ }
 {
@@ -393,7 +406,7 @@ pub fn read_iteration(tags: &[u8], values: &[u32], names: u32, depth: u32, at: u
 }
 
 // So many expressions.
-pub fn read_exprs(tags: &[u8], values: &[u32], names: u32, depth: u32, left: u32, at: usize) -> Read
+fn read_exprs(tags: &[u8], values: &[u32], names: u32, depth: u32, left: u32, at: usize) -> Read
     requires { ⌜ length (now values) ≡ length (now tags) ⌝ }
     ensures { λ r. ⌜ r ≡ outcome (exprs left (expr names depth) (tokens (now (tags .entry)) (now (values .entry))) at) ⌝ }
 {
@@ -408,14 +421,7 @@ pub fn read_exprs(tags: &[u8], values: &[u32], names: u32, depth: u32, left: u32
 }
 
 // So many fields, each a name and a value.
-pub fn read_fields(
-    tags: &[u8],
-    values: &[u32],
-    names: u32,
-    depth: u32,
-    left: u32,
-    at: usize,
-) -> Read
+fn read_fields(tags: &[u8], values: &[u32], names: u32, depth: u32, left: u32, at: usize) -> Read
     requires { ⌜ length (now values) ≡ length (now tags) ⌝ }
     ensures { λ r. ⌜ r ≡ outcome (fields names left (expr names depth) (tokens (now (tags .entry)) (now (values .entry))) at) ⌝ }
 {
@@ -434,6 +440,7 @@ pub fn read_fields(
         Read::Refused(r) => Read::Refused(r),
     }
 }
+
 // A name and its type.
 pub fn read_declaration(tags: &[u8], values: &[u32], names: u32, at: usize) -> Read
     requires { ⌜ length (now values) ≡ length (now tags) ⌝ }
@@ -447,7 +454,7 @@ pub fn read_declaration(tags: &[u8], values: &[u32], names: u32, at: usize) -> R
 }
 
 // A label and a name.
-pub fn read_probe(tags: &[u8], values: &[u32], names: u32, at: usize) -> Read
+fn read_probe(tags: &[u8], values: &[u32], names: u32, at: usize) -> Read
     requires { ⌜ length (now values) ≡ length (now tags) ⌝ }
     ensures { λ r. ⌜ r ≡ outcome (probe names (tokens (now (tags .entry)) (now (values .entry))) at) ⌝ }
 {
@@ -458,116 +465,56 @@ pub fn read_probe(tags: &[u8], values: &[u32], names: u32, at: usize) -> Read
     }
 }
 
-// So many names.
-pub fn read_names(tags: &[u8], values: &[u32], names: u32, n: u32, at: usize) -> Read
+// An item of a list.
+fn read_item(tags: &[u8], values: &[u32], names: u32, item: Item, at: usize) -> Read
     requires { ⌜ length (now values) ≡ length (now tags) ⌝ }
-    ensures { λ r. ⌜ r ≡ outcome (times n (name names) (tokens (now (tags .entry)) (now (values .entry))) at) ⌝ }
+    ensures { λ r. ⌜ r ≡ outcome (part names item (tokens (now (tags .entry)) (now (values .entry))) at) ⌝ }
 {
-    let mut left = n;
-    let mut place = at;
-    while 0 < left {
-        let item = read_name(tags, values, names, place);
-        match item {
-            Read::Next(next) => {
-                place = next;
-                left -= 1;
-            }
-            Read::Refused(r) => {
-                return Read::Refused(r);
-            }
-        }
+    match item {
+        Item::Name => read_name(tags, values, names, at),
+        Item::Declaration => read_declaration(tags, values, names, at),
+        Item::Probe => read_probe(tags, values, names, at),
     }
-    Read::Next(place)
 }
 
-// So many names with their types.
-pub fn read_declarations(tags: &[u8], values: &[u32], names: u32, n: u32, at: usize) -> Read
+// A list behind its count, which is from `low` to `most`: the count.
+fn read_list(
+    tags: &[u8],
+    values: &[u32],
+    names: u32,
+    item: Item,
+    low: u32,
+    most: u32,
+    at: usize,
+) -> Counted
     requires { ⌜ length (now values) ≡ length (now tags) ⌝ }
-    ensures { λ r. ⌜ r ≡ outcome (times n (declaration names) (tokens (now (tags .entry)) (now (values .entry))) at) ⌝ }
+    ensures { λ r. ⌜ r ≡ listed (items names item low most (tokens (now (tags .entry)) (now (values .entry))) at) ⌝ }
 {
-    let mut left = n;
-    let mut place = at;
-    while 0 < left {
-        let item = read_declaration(tags, values, names, place);
-        match item {
-            Read::Next(next) => {
-                place = next;
-                left -= 1;
-            }
-            Read::Refused(r) => {
-                return Read::Refused(r);
-            }
-        }
-    }
-    Read::Next(place)
-}
-
-// So many probes.
-pub fn read_probes(tags: &[u8], values: &[u32], names: u32, n: u32, at: usize) -> Read
-    requires { ⌜ length (now values) ≡ length (now tags) ⌝ }
-    ensures { λ r. ⌜ r ≡ outcome (times n (probe names) (tokens (now (tags .entry)) (now (values .entry))) at) ⌝ }
-{
-    let mut left = n;
-    let mut place = at;
-    while 0 < left {
-        let item = read_probe(tags, values, names, place);
-        match item {
-            Read::Next(next) => {
-                place = next;
-                left -= 1;
-            }
-            Read::Refused(r) => {
-                return Read::Refused(r);
-            }
-        }
-    }
-    Read::Next(place)
-}
-
-// Names with their types behind their count, of which there are at most so many: the count.
-pub fn read_ports(tags: &[u8], values: &[u32], names: u32, most: u32, at: usize) -> Counted
-    requires { ⌜ length (now values) ≡ length (now tags) ⌝ }
-    ensures { λ r. ⌜ r ≡ listed (declarations names most (tokens (now (tags .entry)) (now (values .entry))) at) ⌝ }
-{
-    let count = read_count(tags, values, 3, 0, most, at);
+    let count = read_count(tags, values, 3, low, most, at);
     match count {
         Counted::Count(n, first) => {
-            let items = read_declarations(tags, values, names, n, first);
-            match items {
-                Read::Next(next) => Counted::Count(n, next),
-                Read::Refused(r) => Counted::Refused(r),
+            let mut left = n;
+            let mut place = first;
+            while 0 < left {
+                let one = read_item(tags, values, names, item, place);
+                match one {
+                    Read::Next(next) => {
+                        place = next;
+                        left -= 1;
+                    }
+                    Read::Refused(r) => {
+                        return Counted::Refused(r);
+                    }
+                }
             }
+            Counted::Count(n, place)
         }
         Counted::Refused(r) => Counted::Refused(r),
     }
 }
 
-// An enum's names behind their count.
-pub fn read_variants(tags: &[u8], values: &[u32], names: u32, at: usize) -> Read
-    requires { ⌜ length (now values) ≡ length (now tags) ⌝ }
-    ensures { λ r. ⌜ r ≡ outcome (variants names (tokens (now (tags .entry)) (now (values .entry))) at) ⌝ }
-{
-    let count = read_count(tags, values, 3, 0, 64, at);
-    match count {
-        Counted::Count(n, first) => read_names(tags, values, names, n, first),
-        Counted::Refused(r) => Read::Refused(r),
-    }
-}
-
-// A node's probes behind their count.
-pub fn read_node_probes(tags: &[u8], values: &[u32], names: u32, at: usize) -> Read
-    requires { ⌜ length (now values) ≡ length (now tags) ⌝ }
-    ensures { λ r. ⌜ r ≡ outcome (nodeProbes names (tokens (now (tags .entry)) (now (values .entry))) at) ⌝ }
-{
-    let count = read_count(tags, values, 3, 0, 64, at);
-    match count {
-        Counted::Count(n, first) => read_probes(tags, values, names, n, first),
-        Counted::Refused(r) => Read::Refused(r),
-    }
-}
-
 // A type's definition.
-pub fn read_definition(tags: &[u8], values: &[u32], names: u32, at: usize) -> Read
+fn read_definition(tags: &[u8], values: &[u32], names: u32, at: usize) -> Read
     requires { ⌜ length (now values) ≡ length (now tags) ⌝ }
     ensures { λ r. ⌜ r ≡ outcome (typeDef names (tokens (now (tags .entry)) (now (values .entry))) at) ⌝ }
 {
@@ -575,93 +522,89 @@ pub fn read_definition(tags: &[u8], values: &[u32], names: u32, at: usize) -> Re
     match head {
         DefinitionHead::Refused(r) => Read::Refused(r),
         DefinitionHead::Token(t, next) => match t {
-            DefinitionToken::Enum(_) => read_variants(tags, values, names, next),
-            DefinitionToken::Record(_) => {
-                let ports = read_ports(tags, values, names, 64, next);
-                match ports {
-                    Counted::Count(_, last) => Read::Next(last),
-                    Counted::Refused(r) => Read::Refused(r),
-                }
-            }
+            DefinitionToken::Enum(_) => end_of(read_list(
+                tags,
+                values,
+                names,
+                Item::Name,
+                0,
+                64,
+                next,
+            )),
+            DefinitionToken::Record(_) => end_of(read_list(
+                tags,
+                values,
+                names,
+                Item::Declaration,
+                0,
+                64,
+                next,
+            )),
             DefinitionToken::Alias(_) => read_type(tags, values, names, 8, next),
         },
     }
 }
 
 // A count of left names, the names, the right side.
-pub fn read_equation(tags: &[u8], values: &[u32], names: u32, at: usize) -> Read
+fn read_equation(tags: &[u8], values: &[u32], names: u32, at: usize) -> Read
     requires { ⌜ length (now values) ≡ length (now tags) ⌝ }
     ensures { λ r. ⌜ r ≡ outcome (equation names (tokens (now (tags .entry)) (now (values .entry))) at) ⌝ }
 {
-    let count = read_count(tags, values, 3, 1, 8, at);
+    let left = read_list(tags, values, names, Item::Name, 1, 8, at);
+    match left {
+        Counted::Count(_, next) => read_expr(tags, values, names, 32, next),
+        Counted::Refused(r) => Read::Refused(r),
+    }
+}
+
+// A node's equations behind their count.
+fn read_equations(tags: &[u8], values: &[u32], names: u32, at: usize) -> Read
+    requires { ⌜ length (now values) ≡ length (now tags) ⌝ }
+    ensures { λ r. ⌜ r ≡ outcome (equations names (tokens (now (tags .entry)) (now (values .entry))) at) ⌝ }
+{
+    let count = read_count(tags, values, 3, 0, 64, at);
     match count {
         Counted::Count(n, first) => {
-            let left = read_names(tags, values, names, n, first);
-            match left {
-                Read::Next(next) => read_expr(tags, values, names, 32, next),
-                Read::Refused(r) => Read::Refused(r),
+            let mut left = n;
+            let mut place = first;
+            while 0 < left {
+                let item = read_equation(tags, values, names, place);
+                match item {
+                    Read::Next(next) => {
+                        place = next;
+                        left -= 1;
+                    }
+                    Read::Refused(r) => {
+                        return Read::Refused(r);
+                    }
+                }
             }
+            Read::Next(place)
         }
         Counted::Refused(r) => Read::Refused(r),
     }
 }
 
-// So many equations.
-pub fn read_equations(tags: &[u8], values: &[u32], names: u32, n: u32, at: usize) -> Read
-    requires { ⌜ length (now values) ≡ length (now tags) ⌝ }
-    ensures { λ r. ⌜ r ≡ outcome (times n (equation names) (tokens (now (tags .entry)) (now (values .entry))) at) ⌝ }
-{
-    let mut left = n;
-    let mut place = at;
-    while 0 < left {
-        let item = read_equation(tags, values, names, place);
-        match item {
-            Read::Next(next) => {
-                place = next;
-                left -= 1;
-            }
-            Read::Refused(r) => {
-                return Read::Refused(r);
-            }
-        }
-    }
-    Read::Next(place)
-}
-
-// So many types' definitions.
-pub fn read_definitions(tags: &[u8], values: &[u32], names: u32, n: u32, at: usize) -> Read
-    requires { ⌜ length (now values) ≡ length (now tags) ⌝ }
-    ensures { λ r. ⌜ r ≡ outcome (times n (typeDef names) (tokens (now (tags .entry)) (now (values .entry))) at) ⌝ }
-{
-    let mut left = n;
-    let mut place = at;
-    while 0 < left {
-        let item = read_definition(tags, values, names, place);
-        match item {
-            Read::Next(next) => {
-                place = next;
-                left -= 1;
-            }
-            Read::Refused(r) => {
-                return Read::Refused(r);
-            }
-        }
-    }
-    Read::Next(place)
-}
-
 // A node's inputs, outputs and locals, of which there are at most 128 in all.
-pub fn read_interface(tags: &[u8], values: &[u32], names: u32, at: usize) -> Read
+fn read_interface(tags: &[u8], values: &[u32], names: u32, at: usize) -> Read
     requires { ⌜ length (now values) ≡ length (now tags) ⌝ }
     ensures { λ r. ⌜ r ≡ outcome (ports names (tokens (now (tags .entry)) (now (values .entry))) at) ⌝ }
 {
-    let inputs = read_ports(tags, values, names, 128, at);
+    let inputs = read_list(tags, values, names, Item::Declaration, 0, 128, at);
     match inputs {
         Counted::Count(a, p) => {
-            let outputs = read_ports(tags, values, names, 128 - a, p);
+            let outputs = read_list(tags, values, names, Item::Declaration, 0, 128 - a, p);
             match outputs {
                 Counted::Count(b, q) => {
-                    let locals = read_ports(tags, values, names, 128 - a - b, q);
+                    let locals = read_list(
+                        tags,
+                        values,
+                        names,
+                        Item::Declaration,
+                        0,
+                        128 - a - b,
+                        q,
+                    );
                     match locals {
                         Counted::Count(_, next) => Read::Next(next),
                         Counted::Refused(r) => Read::Refused(r),
@@ -674,26 +617,20 @@ pub fn read_interface(tags: &[u8], values: &[u32], names: u32, at: usize) -> Rea
     }
 }
 
-// A node's equations behind their count, then its probes.
-pub fn read_body(tags: &[u8], values: &[u32], names: u32, at: usize) -> Read
+// A node's equations, then its probes.
+fn read_body(tags: &[u8], values: &[u32], names: u32, at: usize) -> Read
     requires { ⌜ length (now values) ≡ length (now tags) ⌝ }
     ensures { λ r. ⌜ r ≡ outcome (body names (tokens (now (tags .entry)) (now (values .entry))) at) ⌝ }
 {
-    let count = read_count(tags, values, 3, 0, 64, at);
-    match count {
-        Counted::Count(n, first) => {
-            let equations = read_equations(tags, values, names, n, first);
-            match equations {
-                Read::Next(next) => read_node_probes(tags, values, names, next),
-                Read::Refused(r) => Read::Refused(r),
-            }
-        }
-        Counted::Refused(r) => Read::Refused(r),
+    let equations = read_equations(tags, values, names, at);
+    match equations {
+        Read::Next(next) => end_of(read_list(tags, values, names, Item::Probe, 0, 64, next)),
+        Read::Refused(r) => Read::Refused(r),
     }
 }
 
 // A node: its name and kind, its names with their types, its equations and probes.
-pub fn read_node(tags: &[u8], values: &[u32], names: u32, at: usize) -> Read
+fn read_node(tags: &[u8], values: &[u32], names: u32, at: usize) -> Read
     requires { ⌜ length (now values) ≡ length (now tags) ⌝ }
     ensures { λ r. ⌜ r ≡ outcome (node names (tokens (now (tags .entry)) (now (values .entry))) at) ⌝ }
 {
@@ -716,48 +653,58 @@ pub fn read_node(tags: &[u8], values: &[u32], names: u32, at: usize) -> Read
     }
 }
 
-// So many nodes.
-pub fn read_nodes(tags: &[u8], values: &[u32], names: u32, n: u32, at: usize) -> Read
-    requires { ⌜ length (now values) ≡ length (now tags) ⌝ }
-    ensures { λ r. ⌜ r ≡ outcome (times n (node names) (tokens (now (tags .entry)) (now (values .entry))) at) ⌝ }
-{
-    let mut left = n;
-    let mut place = at;
-    while 0 < left {
-        let item = read_node(tags, values, names, place);
-        match item {
-            Read::Next(next) => {
-                place = next;
-                left -= 1;
-            }
-            Read::Refused(r) => {
-                return Read::Refused(r);
-            }
-        }
-    }
-    Read::Next(place)
-}
-
 // The types behind their count.
-pub fn read_types(tags: &[u8], values: &[u32], names: u32, at: usize) -> Read
+fn read_types(tags: &[u8], values: &[u32], names: u32, at: usize) -> Read
     requires { ⌜ length (now values) ≡ length (now tags) ⌝ }
     ensures { λ r. ⌜ r ≡ outcome (sheetTypes names (tokens (now (tags .entry)) (now (values .entry))) at) ⌝ }
 {
     let count = read_count(tags, values, 1, 0, 32, at);
     match count {
-        Counted::Count(n, first) => read_definitions(tags, values, names, n, first),
+        Counted::Count(n, first) => {
+            let mut left = n;
+            let mut place = first;
+            while 0 < left {
+                let item = read_definition(tags, values, names, place);
+                match item {
+                    Read::Next(next) => {
+                        place = next;
+                        left -= 1;
+                    }
+                    Read::Refused(r) => {
+                        return Read::Refused(r);
+                    }
+                }
+            }
+            Read::Next(place)
+        }
         Counted::Refused(r) => Read::Refused(r),
     }
 }
 
 // The nodes behind their count.
-pub fn read_all_nodes(tags: &[u8], values: &[u32], names: u32, at: usize) -> Read
+fn read_nodes(tags: &[u8], values: &[u32], names: u32, at: usize) -> Read
     requires { ⌜ length (now values) ≡ length (now tags) ⌝ }
     ensures { λ r. ⌜ r ≡ outcome (sheetNodes names (tokens (now (tags .entry)) (now (values .entry))) at) ⌝ }
 {
     let count = read_count(tags, values, 2, 0, 16, at);
     match count {
-        Counted::Count(n, first) => read_nodes(tags, values, names, n, first),
+        Counted::Count(n, first) => {
+            let mut left = n;
+            let mut place = first;
+            while 0 < left {
+                let item = read_node(tags, values, names, place);
+                match item {
+                    Read::Next(next) => {
+                        place = next;
+                        left -= 1;
+                    }
+                    Read::Refused(r) => {
+                        return Read::Refused(r);
+                    }
+                }
+            }
+            Read::Next(place)
+        }
         Counted::Refused(r) => Read::Refused(r),
     }
 }
@@ -770,7 +717,7 @@ pub fn read_sheet(tags: &[u8], values: &[u32], names: u32) -> Read
     let types = read_types(tags, values, names, 0);
     match types {
         Read::Next(next) => {
-            let nodes = read_all_nodes(tags, values, names, next);
+            let nodes = read_nodes(tags, values, names, next);
             match nodes {
                 Read::Next(last) => if last == tags.len() {
                     Read::Next(last)

@@ -34,18 +34,18 @@ use Rattle.environment.specs.Environment.{Agrees}
 use Rattle.operands.specs.Spread.{tree}
 use Rattle.layout.specs.declared.EquationLayout.{EquationLayout}
 use Rattle.layout.specs.declared.NodeLayout.{NodeLayout}
-use Rattle.layout.specs.Laid.{Laid, LaidEquation}
-use Rattle.findings.specs.Findings.{findingsIn, Holds}
+use Rattle.layout.specs.Laid.{LaidNode, LaidEquation}
+use Rattle.findings.specs.Findings.{findingsIn, FindingsHeld}
 use Rattle.findings.proofs.Laws.{holds-none, holds-fits, length-from}
-use Rattle.rows.specs.Rows.{clocksFrom, clocksIn, Has}
+use Rattle.rows.specs.Rows.{clocksFrom, clocksIn, RowsHold}
 use Rattle.passes.specs.declared.Inference.{Inference}
 use Rattle.passes.specs.Passes.{Marked, Infers}
-use Rattle.checking.specs.Walk.{Marks}
+use Rattle.checking.specs.Walk.{PortMarks}
 use Rattle.checking.proofs.Size.{equations-fit}
 use Rattle.infer_clocks.specs.declared.Tally.{Tally}
 use Rattle.infer_clocks.specs.declared.NodeClocked.{NodeClocked}
 use Rattle.infer_clocks.specs.declared.Deepest.{Deepest}
-use Rattle.infer_clocks.specs.Clocked.{isDeep, foundIn, foundFrom, joined, Tallied, Clocked as Clocks′, Deeply}
+use Rattle.infer_clocks.specs.Clocked.{isDeep, foundIn, foundFrom, joined, Tallied, ClockedOrDeep, Deeply}
 
 -- ---- findings after findings
 module _ (fs gs : List Finding) where
@@ -96,7 +96,7 @@ module _ (n : Node) (clocks : Clocks) (t : List ℕ) (fs : List Finding) (i : �
   one-deep deep b h u j = rw (← h)
   one-deep (formed o) b h u j = let z : _≡_ {A = ℕ} 0 1 = cc in absurd (omega arith)
 
-  pub one-found : (v : Natural) (c : Clock) (m : ℕ) (b : Bool) → v ≡ natural clocks (e .right) → b ≡ isDeep v → b ≡ false → ((o : Option Clock) → v ≡ formed o → c ≡ orBase o) → Holds t m (fs ++ checkEquation n clocks i (record { clock = c; equation = e })) → Tallied t (Tally.Count m) (joined fs (foundIn n clocks i e))
+  pub one-found : (v : Natural) (c : Clock) (m : ℕ) (b : Bool) → v ≡ natural clocks (e .right) → b ≡ isDeep v → b ≡ false → ((o : Option Clock) → v ≡ formed o → c ≡ orBase o) → FindingsHeld t m (fs ++ checkEquation n clocks i (record { clock = c; equation = e })) → Tallied t (Tally.Count m) (joined fs (foundIn n clocks i e))
   unfolding Tallied foundIn
   one-found deep c m b h u j k w = let z : _≡_ {A = ℕ} 0 1 = cc in absurd (omega arith)
   one-found (formed o) c m b h u j k w = (fs ++ checkEquation n clocks i (record { clock = orBase o; equation = e }), rw (← h), rw (k o refl) at w)
@@ -139,7 +139,7 @@ pub record Going (M : ℕ) (ts : List TagValue) (n : Node) (clocks : Clocks) (t 
   pub rest : List Equation
   pub so-far : List Finding
   pub items : times left (equation M) ts place ≡ got rest q
-  pub holds : Holds t m so-far
+  pub holds : FindingsHeld t m so-far
   pub final : joined so-far (foundFrom n clocks i rest) ≡ v
 
 pub going-start : (M : ℕ) (ts : List TagValue) (n : Node) (clocks : Clocks) (t : List ℕ) (count at q : ℕ) (es : List Equation) → times count (equation M) ts at ≡ got es q → Going M ts n clocks t (count - 0) 0 at 0 q (foundFrom n clocks 0 es)
@@ -154,9 +154,9 @@ going-end M ts n clocks t left i place m q v z h =
     let f : formed (h .so-far ++ []) ≡ v = rw (e .0) at (h .final) in
     (h .so-far, sym f ∙ ap formed (append-nil (h .so-far)), h .holds)
 
-module _ (M : ℕ) (ts : List TagValue) (n : Node) (clocks : Clocks) (env marks t t′ : List ℕ) (count i place m q : ℕ) (v : Formed (List Finding)) (l : EquationLayout) (r : Tally) (z : i < count) (a : Agrees env M clocks) (b : Marks marks M n)
+module _ (M : ℕ) (ts : List TagValue) (n : Node) (clocks : Clocks) (env marks t t′ : List ℕ) (count i place m q : ℕ) (v : Formed (List Finding)) (l : EquationLayout) (r : Tally) (z : i < count) (a : Agrees env M clocks) (b : PortMarks marks M n)
     (L : (e : Equation) (q : ℕ) → equation M ts place ≡ got e q → LaidEquation M ts e q l)
-    (E : (n : Node) (clocks : Clocks) (e : Equation) (q : ℕ) (fs : List Finding) → Agrees env M clocks → Marks marks M n → equation M ts place ≡ got e q → tree M ts (l .right) ≡ got (e .right) q → Holds t m fs → Tallied t′ r (joined fs (foundIn n clocks i e)))
+    (E : (n : Node) (clocks : Clocks) (e : Equation) (q : ℕ) (fs : List Finding) → Agrees env M clocks → PortMarks marks M n → equation M ts place ≡ got e q → tree M ts (l .right) ≡ got (e .right) q → FindingsHeld t m fs → Tallied t′ r (joined fs (foundIn n clocks i e)))
     (h : Going M ts n clocks t (count - i) i place m q v) where
   pub going-step : (k : ℕ) → r ≡ Tally.Count k → Going M ts n clocks t′ (count - (i + 1)) (i + 1) (l .end) k q v
   unfolding Tallied foundFrom
@@ -181,7 +181,7 @@ module _ (M : ℕ) (ts : List TagValue) (n : Node) (clocks : Clocks) (env marks 
 
 -- ---- a node
 -- the marks of inputs and outputs, as words
-pub marks-widened : (marks words : List ℕ) (m : ℕ) (n : Node) → Marked marks m (ports n) → ((x : ℕ) → x < m → getD words x 0 ≡ getD marks x 0) → Marks words m n
+pub marks-widened : (marks words : List ℕ) (m : ℕ) (n : Node) → Marked marks m (ports n) → ((x : ℕ) → x < m → getD words x 0 ≡ getD marks x 0) → PortMarks words m n
 marks-widened marks words m n k h = record { same = λ x l. ap (λ (w : ℕ). eqb w 1) (h x l) ∙ k .same x l }
 
 -- what is said of a node's equations with their clocks
@@ -226,7 +226,7 @@ module _ (n : Node) where
               let d : length (join (numbered (checkEquation n (i .clocks)) 0 cs)) ≤ length ts = omega (arith, a, b .1) in
               (cs, y, node-said (formed cs) e, rw y at d)
 
-      module _ (env t : List ℕ) (m : ℕ) (room : 38 * length ts ≤ length t) (w : Holds t m fs) where
+      module _ (env t : List ℕ) (m : ℕ) (room : 38 * length ts ≤ length t) (w : FindingsHeld t m fs) where
         held : (38 * m ≤ length t) × (findingsIn t m ≡ fs)
         held = holds-fits t m fs (omega (arith, room, node-found .3)) w
 
@@ -237,8 +237,8 @@ module _ (n : Node) where
             let e : any isTooDeep (join (numbered (checkEquation n (i .clocks)) 0 (a .0))) ≡ true = ap (any isTooDeep) (a .1 ∙ sym (held .1)) ∙ b in
             a .2 ∙ rw e
 
-        pub findings-told : any isTooDeep (findingsIn t m) ≡ false → Agrees env M (i .clocks) → (p : ℕ) → i .passes ≡ p → Clocks′ env t M (NodeClocked.Clocked p m) (clocking n)
-        unfolding Clocks′
+        pub findings-told : any isTooDeep (findingsIn t m) ≡ false → Agrees env M (i .clocks) → (p : ℕ) → i .passes ≡ p → ClockedOrDeep env t M (NodeClocked.Clocked p m) (clocking n)
+        unfolding ClockedOrDeep
         findings-told b c p d =
             let a = node-found in
             let e : any isTooDeep (join (numbered (checkEquation n (i .clocks)) 0 (a .0))) ≡ false = ap (any isTooDeep) (a .1 ∙ sym (held .1)) ∙ b in (
@@ -252,7 +252,7 @@ tallied-deep : (t : List ℕ) (s : Tally) (v : Formed (List Finding)) → s ≡ 
 unfolding Tallied
 tallied-deep t s v e h = rw e at h
 
-tallied-count : (t : List ℕ) (s : Tally) (c : ℕ) (v : Formed (List Finding)) → s ≡ Tally.Count c → Tallied t s v → (fs : List Finding) × (v ≡ formed fs) × Holds t c fs
+tallied-count : (t : List ℕ) (s : Tally) (c : ℕ) (v : Formed (List Finding)) → s ≡ Tally.Count c → Tallied t s v → (fs : List Finding) × (v ≡ formed fs) × FindingsHeld t c fs
 unfolding Tallied
 tallied-count t s c v e h = rw e at h
 
@@ -264,14 +264,14 @@ pub room-stays : (ts vs t t′ : List ℕ) → length vs ≡ length ts → 38 * 
 room-stays ts vs t t′ e h k = omega (arith, tokens-length ts vs e, h, k)
 
 -- the code's answers: inference's r, then checking's s
-pub laid-deep : (M : ℕ) (n : Node) (env env′ t : List ℕ) (r : Inference) → r ≡ Inference.Deep → Infers env M r (inferred n) → Clocks′ env′ t M NodeClocked.Deep (clocking n)
-unfolding Infers Clocks′
+pub laid-deep : (M : ℕ) (n : Node) (env env′ t : List ℕ) (r : Inference) → r ≡ Inference.Deep → Infers env M r (inferred n) → ClockedOrDeep env′ t M NodeClocked.Deep (clocking n)
+unfolding Infers ClockedOrDeep
 laid-deep M n env env′ t r j i = let e : inferred n ≡ deep = rw j at i in node-deep n e
 
 module _ (M : ℕ) (ts : List TagValue) (n : Node) (env marks words t : List ℕ) (r : Inference) (s : Tally) (k count at q : ℕ)
     (j : r ≡ Inference.Passes k) (i : Infers env M r (inferred n)) (m : Marked marks M (ports n)) (w : (x : ℕ) → x < M → getD words x 0 ≡ getD marks x 0)
     (g : times count (equation M) ts at ≡ got (n .equations) q)
-    (C : (n : Node) (clocks : Clocks) (es : List Equation) (q : ℕ) → Agrees env M clocks → Marks words M n → times count (equation M) ts at ≡ got es q → Tallied t s (foundFrom n clocks 0 es)) where
+    (C : (n : Node) (clocks : Clocks) (es : List Equation) (q : ℕ) → Agrees env M clocks → PortMarks words M n → times count (equation M) ts at ≡ got es q → Tallied t s (foundFrom n clocks 0 es)) where
   made : (i : Inferred) × (inferred n ≡ formed i) × (i .passes ≡ k) × Agrees env M (i .clocks)
   unfolding Infers
   made = rw j at i
@@ -279,19 +279,19 @@ module _ (M : ℕ) (ts : List TagValue) (n : Node) (env marks words t : List ℕ
   tallied : Tallied t s (foundFrom n (made .0 .clocks) 0 (n .equations))
   tallied = C n (made .0 .clocks) (n .equations) q (made .3) (marks-widened marks words M n m w) g
 
-  pub laid-sunk : s ≡ Tally.Deep → Clocks′ env t M NodeClocked.Deep (clocking n)
-  unfolding Clocks′
+  pub laid-sunk : s ≡ Tally.Deep → ClockedOrDeep env t M NodeClocked.Deep (clocking n)
+  unfolding ClockedOrDeep
   laid-sunk e = equations-deep n (made .0) (made .1) (tallied-deep t s (foundFrom n (made .0 .clocks) 0 (n .equations)) e tallied)
 
   module _ (c : ℕ) (e : s ≡ Tally.Count c) (room : 38 * length ts ≤ length t) (b : Bool) (d : b ≡ any isTooDeep (findingsIn t c)) where
-    counted : (fs : List Finding) × (foundFrom n (made .0 .clocks) 0 (n .equations) ≡ formed fs) × Holds t c fs
+    counted : (fs : List Finding) × (foundFrom n (made .0 .clocks) 0 (n .equations) ≡ formed fs) × FindingsHeld t c fs
     counted = tallied-count t s c (foundFrom n (made .0 .clocks) 0 (n .equations)) e tallied
 
-    pub laid-found : b ≡ true → Clocks′ env t M NodeClocked.Deep (clocking n)
-    unfolding Clocks′
+    pub laid-found : b ≡ true → ClockedOrDeep env t M NodeClocked.Deep (clocking n)
+    unfolding ClockedOrDeep
     laid-found f = findings-deep n (made .0) (made .1) M ts count at q g (counted .0) (counted .1) env t c room (counted .2) (sym d ∙ f)
 
-    pub laid-told : b ≡ false → Clocks′ env t M (NodeClocked.Clocked k c) (clocking n)
+    pub laid-told : b ≡ false → ClockedOrDeep env t M (NodeClocked.Clocked k c) (clocking n)
     laid-told f = findings-told n (made .0) (made .1) M ts count at q g (counted .0) (counted .1) env t c room (counted .2) (sym d ∙ f) (made .3) k (made .2)
 
 -- ---- was too deep a clock formed in a node?
@@ -313,14 +313,14 @@ pub deep-unused : (n : Node) (b : Bool) → b ≡ any (λ e. samples (e .right))
 deep-unused n b e f = sym (ap isDeep (clockless n (sym (uses-by n b e) ∙ f) .1 .clocks))
 
 -- the code's answer says it
-module _ (M : ℕ) (n : Node) (env t : List ℕ) (r : NodeClocked) (h : Clocks′ env t M r (clocking n)) where
+module _ (M : ℕ) (n : Node) (env t : List ℕ) (r : NodeClocked) (h : ClockedOrDeep env t M r (clocking n)) where
   pub deep-told : r ≡ NodeClocked.Deep → true ≡ isDeep (clocking n)
-  unfolding Clocks′
+  unfolding ClockedOrDeep
   deep-told j = let x : clocking n ≡ deep = rw j at h in sym (ap isDeep x)
 
   pub deep-not-told : (p m : ℕ) → r ≡ NodeClocked.Clocked p m → false ≡ isDeep (clocking n)
-  unfolding Clocks′
-  deep-not-told p m j = let x : Clocks′ env t M (NodeClocked.Clocked p m) (clocking n) = rw j at h in sym (ap isDeep (x .1))
+  unfolding ClockedOrDeep
+  deep-not-told p m j = let x : ClockedOrDeep env t M (NodeClocked.Clocked p m) (clocking n) = rw j at h in sym (ap isDeep (x .1))
 
 -- the names' clocks alone, of a node whose clocks are formed
 pub names-formed : (M : ℕ) (n : Node) (env : List ℕ) (r : Inference) (k : Clocking) → clocking n ≡ formed k → Infers env M r (inferred n) → Agrees env M (k .names)
@@ -407,8 +407,8 @@ pub nodes-end : (M : ℕ) (ts : List TagValue) (left i place q : ℕ) (v : Answe
 nodes-end M ts left i place q v z h = ahead-end i (h .rest) v (h .ahead) (times-nil (node M) ts left place (h .rest) q z (h .items) .0)
 
 module _ (M : ℕ) (ts : List TagValue) (count i place q : ℕ) (v : Answer (List ClockedNode)) (l : NodeLayout) (b : Bool) (z : i < count)
-    (L : (n : Node) (q : ℕ) → node M ts place ≡ got n q → Laid M ts n q l)
-    (E : (n : Node) (q : ℕ) → Laid M ts n q l → b ≡ isDeep (clocking n))
+    (L : (n : Node) (q : ℕ) → node M ts place ≡ got n q → LaidNode M ts n q l)
+    (E : (n : Node) (q : ℕ) → LaidNode M ts n q l → b ≡ isDeep (clocking n))
     (h : Nodes M ts (count - i) i place q v) where
   pub nodes-step : b ≡ false → Nodes M ts (count - (i + 1)) (i + 1) (l .end) q v
   nodes-step j =
@@ -434,8 +434,8 @@ few-sites (site c ∷ l) = go (isBase c) (few-sites l)
     go true h = omega arith
     go false h = omega arith
 
-rows-exact : (t : List ℕ) (m : ℕ) (cs : List Clock) → 17 * length cs ≤ length t → Has t m cs → (clocksIn t m ≡ cs)
-unfolding Has
+rows-exact : (t : List ℕ) (m : ℕ) (cs : List Clock) → 17 * length cs ≤ length t → RowsHold t m cs → (clocksIn t m ≡ cs)
+unfolding RowsHold
 rows-exact t m cs l (inl h) = h .1
 rows-exact t m cs l (inr h) = absurd (omega (arith, h .1))
 
@@ -445,7 +445,7 @@ length-clocks t i zero = refl
 length-clocks t i (suc m) = ap suc (length-clocks t (i + 1) m)
 
 -- the sites of n findings in as many rows
-module _ (t rows rows′ : List ℕ) (n m : ℕ) (room : 17 * n ≤ length rows) (same : length rows′ ≡ length rows) (h : Has rows′ m (sites (findingsIn t n))) where
+module _ (t rows rows′ : List ℕ) (n m : ℕ) (room : 17 * n ≤ length rows) (same : length rows′ ≡ length rows) (h : RowsHold rows′ m (sites (findingsIn t n))) where
   pub sites-listed : clocksIn rows′ m ≡ sites (findingsIn t n)
   sites-listed = rows-exact rows′ m (sites (findingsIn t n)) (omega (arith, few-sites (findingsIn t n), length-from t 0 n, room, same)) h
 
@@ -456,6 +456,6 @@ module _ (t rows rows′ : List ℕ) (n m : ℕ) (room : 17 * n ≤ length rows)
   unfolding chains
   chains-sorted letters l e = e ∙ ap (inChainOrder letters) sites-listed
 
-pub has-none : (t : List ℕ) → Has t 0 []
-unfolding Has clocksFrom
+pub has-none : (t : List ℕ) → RowsHold t 0 []
+unfolding RowsHold clocksFrom
 has-none t = inl (omega arith, refl)

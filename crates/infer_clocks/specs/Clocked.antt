@@ -10,7 +10,7 @@ use Rattle.definitions.specs.Refusals.{Answer, accepted, refused}
 use Rattle.definitions.specs.InferClocks.{Formed, deep, formed, _>>=_, Clocks, Finding, Clocking, clocking, usesClocks, natural, orBase, checkEquation}
 use Rattle.definitions.specs.Output.{ClockedNode}
 use Rattle.environment.specs.Environment.{Agrees}
-use Rattle.findings.specs.Findings.{findingsIn, Holds}
+use Rattle.findings.specs.Findings.{findingsIn, FindingsHeld}
 use Rattle.infer_clocks.specs.declared.Tally.{Tally}
 use Rattle.infer_clocks.specs.declared.NodeClocked.{NodeClocked}
 use Rattle.infer_clocks.specs.declared.Deepest.{Deepest}
@@ -39,10 +39,10 @@ joined fs v = v >>= λ l. formed (fs ++ l)
 -- so many findings, which the table holds
 unfoldable pub Tallied : List ℕ → Tally → Formed (List Finding) → Type 0
 Tallied t Tally.Deep v = v ≡ deep
-Tallied t (Tally.Count n) v = (fs : List Finding) × (v ≡ formed fs) × Holds t n fs
+Tallied t (Tally.Count n) v = (fs : List Finding) × (v ≡ formed fs) × FindingsHeld t n fs
 
 -- a node's clocks: the number of passes, the names' clocks in one table, the findings in another
-pub record Tells (env t : List ℕ) (m passes n : ℕ) (k : Clocking) : Type 0 where
+pub record ClocksStand (env t : List ℕ) (m passes n : ℕ) (k : Clocking) : Type 0 where
   pub made : k .passes ≡ passes
   pub named : Agrees env m (k .names)
   pub room : 38 * n ≤ length t
@@ -52,9 +52,9 @@ pub record Tells (env t : List ℕ) (m passes n : ℕ) (k : Clocking) : Type 0 w
 pub record Sole (env : List ℕ) (m : ℕ) (nodes : List Node) : Type 0 where
   pub known : (n : Node) (k : Clocking) → nodes ≡ n ∷ [] → clocking n ≡ formed k → usesClocks n ≡ true → Agrees env m (k .names)
 
-unfoldable pub Clocked : List ℕ → List ℕ → ℕ → NodeClocked → Formed Clocking → Type 0
-Clocked env t m NodeClocked.Deep v = v ≡ deep
-Clocked env t m (NodeClocked.Clocked passes n) v = (k : Clocking) × (v ≡ formed k) × Tells env t m passes n k
+unfoldable pub ClockedOrDeep : List ℕ → List ℕ → ℕ → NodeClocked → Formed Clocking → Type 0
+ClockedOrDeep env t m NodeClocked.Deep v = v ≡ deep
+ClockedOrDeep env t m (NodeClocked.Clocked passes n) v = (k : Clocking) × (v ≡ formed k) × ClocksStand env t m passes n k
 
 -- the first node in which too deep a clock is formed
 unfoldable pub Deeply : Deepest → Answer (List ClockedNode) → Type 0

@@ -4,6 +4,7 @@
 use clock::Clock;
 use clock::Natural;
 use clock::Presence;
+use definitions::MOST_NAMES;
 use layout::NodeLayout;
 use passes::Inference;
 ghost use mathlib.Core.Path.{_≡_};
@@ -22,13 +23,13 @@ ghost use Rattle.definitions.specs.InferClocks.{Clocks, Finding, Clocking, form
 ghost use Rattle.definitions.specs.Answer.{clockings};
 ghost use Rattle.clock.specs.Value.{valueOf, naturalOf};
 ghost use Rattle.environment.specs.Environment.{Agrees};
-ghost use Rattle.findings.specs.Findings.{findingsIn, Holds};
+ghost use Rattle.findings.specs.Findings.{findingsIn, FindingsHeld};
 ghost use Rattle.fresh.specs.Places.{lettersAt};
 ghost use Rattle.order.specs.Order.{rowOf, picked};
 ghost use Rattle.operands.specs.Spread.{tree};
-ghost use Rattle.layout.specs.Laid.{Laid};
-ghost use Rattle.checking.specs.Walk.{Marks};
-ghost use Rattle.infer_clocks.specs.Clocked.{isDeep, foundIn, foundFrom, joined, Tallied, Clocked, Deeply};
+ghost use Rattle.layout.specs.Laid.{LaidNode};
+ghost use Rattle.checking.specs.Walk.{PortMarks};
+ghost use Rattle.infer_clocks.specs.Clocked.{isDeep, foundIn, foundFrom, joined, Tallied, ClockedOrDeep, Deeply};
 
 // Checking so far: too deep a natural clock was formed, or the number of findings.
 pub enum Tally {
@@ -77,8 +78,7 @@ pub fn equation_clock(tags: &[u8], values: &[u32], names: u32, env: &[u32], at: 
     requires { ⌜ length (now values) ≡ length (now tags) ⌝ }
     ensures { λ r. ⌜ ((e : Expr) (q : ℕ) (clocks : Clocks) (o : Option trees.Clock) → tree names (tokens (now (tags .entry)) (now (values .entry))) at ≡ got e q → Agrees (now (env .entry)) names clocks → rules.natural clocks e ≡ formed o → valueOf r ≡ orBase o) ⌝ }
 {
-    let f = natural::natural_clock(tags, values, names, env, at);
-    let n = f.natural;
+    let n = natural::natural_clock(tags, values, names, env, at);
     or_base(n)
 }
 
@@ -120,10 +120,9 @@ fn check_one(
     n: usize,
 ) -> Tally
     requires { ⌜ length (now values) ≡ length (now tags) ⌝ }
-    ensures { λ r. ⌜ ((node : Node) (clocks : Clocks) (e : Equation) (q : ℕ) (fs : List Finding) → Agrees (now (env .entry)) names clocks → Marks (now (ports .entry)) names node → equation names (tokens (now (tags .entry)) (now (values .entry))) at ≡ got e q → tree names (tokens (now (tags .entry)) (now (values .entry))) right ≡ got (e .right) q → Holds (now (table .entry)) n fs → Tallied (now (table .exit)) r (joined fs (foundIn node clocks number e))) ⌝ }
+    ensures { λ r. ⌜ ((node : Node) (clocks : Clocks) (e : Equation) (q : ℕ) (fs : List Finding) → Agrees (now (env .entry)) names clocks → PortMarks (now (ports .entry)) names node → equation names (tokens (now (tags .entry)) (now (values .entry))) at ≡ got e q → tree names (tokens (now (tags .entry)) (now (values .entry))) right ≡ got (e .right) q → FindingsHeld (now (table .entry)) n fs → Tallied (now (table .exit)) r (joined fs (foundIn node clocks number e))) ⌝ }
 {
-    let f = natural::natural_clock(tags, values, names, env, right);
-    let own = f.natural;
+    let own = natural::natural_clock(tags, values, names, env, right);
     if is_deep(own) {
         return Tally::Deep;
     }
@@ -144,7 +143,7 @@ fn check_all(
     at: usize,
 ) -> Tally
     requires { ⌜ length (now values) ≡ length (now tags) ⌝ }
-    ensures { λ r. ⌜ ((node : Node) (clocks : Clocks) (es : List Equation) (q : ℕ) → Agrees (now (env .entry)) names clocks → Marks (now (ports .entry)) names node → times count (equation names) (tokens (now (tags .entry)) (now (values .entry))) at ≡ got es q → Tallied (now (table .exit)) r (foundFrom node clocks 0 es)) ⌝ }
+    ensures { λ r. ⌜ ((node : Node) (clocks : Clocks) (es : List Equation) (q : ℕ) → Agrees (now (env .entry)) names clocks → PortMarks (now (ports .entry)) names node → times count (equation names) (tokens (now (tags .entry)) (now (values .entry))) at ≡ got es q → Tallied (now (table .exit)) r (foundFrom node clocks 0 es)) ⌝ }
 {
     let mut k: u32 = 0;
     let mut place = at;
@@ -180,7 +179,7 @@ pub fn clock_laid(
     table: &mut [u32],
 ) -> NodeClocked
     requires { ⌜ length (now values) ≡ length (now tags) ⌝ }
-    ensures { λ r. ⌜ ((n : Node) (q : ℕ) → Laid names (tokens (now (tags .entry)) (now (values .entry))) n q l → 17 * names ≤ length (now (env .entry)) → names ≤ length (now (marks .entry)) → names ≤ length (now (ports .entry)) → 38 * length (now (tags .entry)) ≤ length (now (table .entry)) → Clocked (now (env .exit)) (now (table .exit)) names r (clocking n)) ⌝ }
+    ensures { λ r. ⌜ ((n : Node) (q : ℕ) → LaidNode names (tokens (now (tags .entry)) (now (values .entry))) n q l → 17 * names ≤ length (now (env .entry)) → names ≤ length (now (marks .entry)) → names ≤ length (now (ports .entry)) → 38 * length (now (tags .entry)) ≤ length (now (table .entry)) → ClockedOrDeep (now (env .exit)) (now (table .exit)) names r (clocking n)) ⌝ }
 {
     let inferred = passes::infer(tags, values, names, l, env, marks);
     match inferred {
@@ -215,12 +214,12 @@ pub fn name_clocks(
 )
     requires { ⌜ length (now values) ≡ length (now tags) ⌝ }
     ensures { λ _. ⌜ (held ≡ true → now (env .exit) ≡ now (env .entry)) ⌝ }
-    ensures { λ _. ⌜ ((n : Node) (q : ℕ) (k : Clocking) → Laid names (tokens (now (tags .entry)) (now (values .entry))) n q l → 17 * names ≤ length (now (env .entry)) → names ≤ 1024 → clocking n ≡ formed k → (held ≡ true → Agrees (now (env .entry)) names (k .names)) → Agrees (now (env .exit)) names (k .names)) ⌝ }
+    ensures { λ _. ⌜ ((n : Node) (q : ℕ) (k : Clocking) → LaidNode names (tokens (now (tags .entry)) (now (values .entry))) n q l → 17 * names ≤ length (now (env .entry)) → names ≤ 1024 → clocking n ≡ formed k → (held ≡ true → Agrees (now (env .entry)) names (k .names)) → Agrees (now (env .exit)) names (k .names)) ⌝ }
 {
     if held {
         return;
     }
-    let mut marks = [0u8; 1024];
+    let mut marks = [0u8; MOST_NAMES];
     passes::infer(tags, values, names, l, env, &mut marks);
 }
 
@@ -236,7 +235,7 @@ fn deep_laid(
     table: &mut [u32],
 ) -> bool
     requires { ⌜ length (now values) ≡ length (now tags) ⌝ }
-    ensures { λ r. ⌜ ((n : Node) (q : ℕ) → Laid names (tokens (now (tags .entry)) (now (values .entry))) n q l → 17 * names ≤ length (now (env .entry)) → names ≤ length (now (marks .entry)) → names ≤ length (now (ports .entry)) → 38 * length (now (tags .entry)) ≤ length (now (table .entry)) → r ≡ isDeep (clocking n)) ⌝ }
+    ensures { λ r. ⌜ ((n : Node) (q : ℕ) → LaidNode names (tokens (now (tags .entry)) (now (values .entry))) n q l → 17 * names ≤ length (now (env .entry)) → names ≤ length (now (marks .entry)) → names ≤ length (now (ports .entry)) → 38 * length (now (tags .entry)) ≤ length (now (table .entry)) → r ≡ isDeep (clocking n)) ⌝ }
 {
     let e = l.equations;
     let uses = extents::equations_use_clocks(tags, values, e.count, e.at);

@@ -8,13 +8,13 @@ use lib.ListN.{length, take, drop}
 use lib.Seq.{length-take-le}
 use Rattle.definitions.specs.Lists.{sum}
 use Rattle.parts.specs.declared.Sizes.{Sizes}
-use Rattle.parts.specs.Answers.{sizesOf, Sized, Accepted}
+use Rattle.parts.specs.Answers.{sizesOf, SizedParts, Accepted}
 use Rattle.parts.proofs.Laws.{SizesFit, lengths-part, few-lengths}
 use Rattle.parts.proofs.Laws as parts-laws
 
 module _ (b : List ℕ) (s : Sizes) (a : Accepted b × (s ≡ sizesOf b)) where
-  sized : Sized b s
-  sized = subst⁻¹ (Sized b) (a .1) (a .0 .sized)
+  sized : SizedParts b s
+  sized = subst⁻¹ (SizedParts b) (a .1) (a .0 .sized)
 
   pub fit : SizesFit b s
   fit = parts-laws.fit b s sized

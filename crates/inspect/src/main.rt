@@ -1,36 +1,49 @@
 // Says what a sheet on standard input has: its sizes, its types and its nodes; or what it is refused for.
+use definitions::MOST_NODES;
 use definitions::NodeKind;
 use definitions::Refusal;
+use definitions::WORKING_TOKENS;
 use layout::NodeLayout;
 use libc::STDERR_FILENO;
 use libc::STDIN_FILENO;
 use libc::STDOUT_FILENO;
 use parts::Sizes;
 use sheet::SheetAnswer;
-use sheet::TypeKind;
-use sheet::TypeSummary;
+use typedefs::Defined;
 ghost use mathlib.Core.Path.{_≡_};
-ghost use Prim.Native.Nat.{_≤_};
+ghost use Prim.Native.Nat.{ℕ, _≤_};
 ghost use lib.ListN.{length};
 ghost use Rattle.definitions.specs.Lists.{sum};
+ghost use Rattle.definitions.specs.Bytes.{tokens};
+ghost use Rattle.definitions.specs.Tree.{TypeDef};
+ghost use Rattle.definitions.specs.Reading.{got};
+ghost use Rattle.definitions.specs.Grammar.{typeDef};
 ghost use Rattle.parts.specs.Answers.{Accepted, sizesOf};
+ghost use Rattle.inspect.specs.Summary.{typeSummary};
+
+// A type's definition in short: its name, what it is, and how many variants or fields it has, 1 for an alias.
+enum TypeKind {
+    Enum,
+    Record,
+    Alias,
+}
+
+struct TypeSummary {
+    name: u32,
+    kind: TypeKind,
+    count: u32,
+}
 
 fn wide(x: u32) -> usize {
     x as usize
 }
 
-// A space and a number.
-fn put_number(out: &mut [u8; 4096], at: usize, n: u64) -> usize {
-    let next = spelling::put(out, at, b' ');
-    spelling::put_decimal(out, next, n)
-}
-
 // `sheet M L T`
 fn put_sizes(out: &mut [u8; 4096], sizes: Sizes) -> usize {
     let a = spelling::put_all(out, 0, b"sheet");
-    let b = put_number(out, a, sizes.names as u64);
-    let c = put_number(out, b, sizes.letters as u64);
-    let d = put_number(out, c, sizes.tokens as u64);
+    let b = refusals::put_number(out, a, sizes.names);
+    let c = refusals::put_number(out, b, sizes.letters);
+    let d = refusals::put_number(out, c, sizes.tokens);
     spelling::put(out, d, b'\n')
 }
 
@@ -54,7 +67,7 @@ fn put_type(
     let b = fresh::put_name(out, a, starts, letters, t.name);
     let kind = t.kind;
     let c = put_type_kind(out, b, kind);
-    let d = put_number(out, c, t.count as u64);
+    let d = refusals::put_number(out, c, wide(t.count));
     spelling::put(out, d, b'\n')
 }
 
@@ -72,11 +85,11 @@ fn put_counts(out: &mut [u8; 4096], at: usize, n: NodeLayout) -> usize {
     let locals = n.locals;
     let equations = n.equations;
     let probes = n.probes;
-    let a = put_number(out, at, inputs.count as u64);
-    let b = put_number(out, a, outputs.count as u64);
-    let c = put_number(out, b, locals.count as u64);
-    let d = put_number(out, c, equations.count as u64);
-    put_number(out, d, probes.count as u64)
+    let a = refusals::put_number(out, at, wide(inputs.count));
+    let b = refusals::put_number(out, a, wide(outputs.count));
+    let c = refusals::put_number(out, b, wide(locals.count));
+    let d = refusals::put_number(out, c, wide(equations.count));
+    refusals::put_number(out, d, wide(probes.count))
 }
 
 fn put_clocks(out: &mut [u8; 4096], at: usize, uses: bool) -> usize {
@@ -104,6 +117,36 @@ fn put_node(
     put_clocks(out, d, uses)
 }
 
+// A type's definition in short.
+fn type_summary(tags: &[u8], values: &[u32], names: u32, at: usize) -> TypeSummary
+    requires { ⌜ length (now values) ≡ length (now tags) ⌝ }
+    ensures { λ r. ⌜ ((d : TypeDef) (q : ℕ) → typeDef names (tokens (now (tags .entry)) (now (values .entry))) at ≡ got d q → r ≡ typeSummary d) ⌝ }
+{
+    let found = typedefs::describe(tags, values, names, at);
+    match found {
+        Defined::Enum(x, n, _) => TypeSummary {
+            name: x,
+            kind: TypeKind::Enum,
+            count: n,
+        },
+        Defined::Record(x, n, _) => TypeSummary {
+            name: x,
+            kind: TypeKind::Record,
+            count: n,
+        },
+        Defined::Alias(x, _) => TypeSummary {
+            name: x,
+            kind: TypeKind::Alias,
+            count: 1,
+        },
+        Defined::Nothing => TypeSummary {
+            name: 0,
+            kind: TypeKind::Enum,
+            count: 0,
+        },
+    }
+}
+
 // A line for each type.
 fn put_types(
     out: &mut [u8; 4096],
@@ -126,7 +169,7 @@ fn put_types(
     let mut next = at;
     let mut i: usize = 0;
     while i < n {
-        let t = sheet::type_summary(tags, values, names, places[i]);
+        let t = type_summary(tags, values, names, places[i]);
         next = put_type(out, next, starts, letters, t);
         i += 1;
     }
@@ -148,7 +191,7 @@ fn put_nodes(
     let whole = layout::sheet_at(tags, values, names);
     let nodes = whole.nodes;
     let n = wide(nodes.count);
-    if 16 < n {
+    if MOST_NODES < n {
         return at;
     }
     let places = layout::node_places(tags, values, names, n, nodes.at);
@@ -192,14 +235,8 @@ fn put_lines(
 }
 
 // Writes the first n bytes.
-fn show_front(fd: i32, out: &[u8], n: usize) {
-    if n <= out.len() {
-        io::write_all(fd, &out[..n]);
-    }
-}
-
 fn show(fd: i32, out: &[u8; 4096], n: usize) {
-    show_front(fd, out, n)
+    io::write_all(fd, arguments::front(out, n));
 }
 
 // The lines of an accepted sheet, whose tokens stand at the front of these arrays.
@@ -220,7 +257,7 @@ fn put_front(out: &mut [u8; 4096], bytes: &[u8], tags: &[u8], values: &[u32], si
     )
 }
 
-fn report(bytes: &[u8], tags: &[u8; 8192], values: &[u32; 8192], sizes: Sizes)
+fn report(bytes: &[u8], tags: &[u8; WORKING_TOKENS], values: &[u32; WORKING_TOKENS], sizes: Sizes)
     requires { ⌜ Accepted (now bytes) × (sizes ≡ sizesOf (now bytes)) ⌝ }
 {
     let mut out = [0u8; 4096];
@@ -231,13 +268,13 @@ fn report(bytes: &[u8], tags: &[u8; 8192], values: &[u32; 8192], sizes: Sizes)
 // `refused NUMBER PLACE: REASON`
 fn refuse(r: Refusal) {
     let mut out = [0u8; 4096];
-    let end = arguments::put_reason(&mut out, r);
+    let end = refusals::put_reason(&mut out, r);
     show(STDERR_FILENO, &out, end);
 }
 
 fn inspect(bytes: &[u8]) {
-    let mut tags = [0u8; 8192];
-    let mut values = [0u32; 8192];
+    let mut tags = [0u8; WORKING_TOKENS];
+    let mut values = [0u32; WORKING_TOKENS];
     let answer = sheet::read(bytes, &mut tags, &mut values);
     match answer {
         SheetAnswer::Refused(r) => refuse(r),
@@ -263,7 +300,7 @@ rewrite --help lists the numbers. The exit status is 0 in both cases.
 
 // Is the first argument `--help`?
 fn asks_help() -> bool {
-    let mut word = [0u8; 16];
+    let mut word = [0u8; MOST_NODES];
     let n = os::arg(1, &mut word);
     names::same(&word[..n], b"--help")
 }

@@ -26,7 +26,7 @@ use Rattle.grammar.proofs.Got.{times-nil, times-cons, token-value, tagged-value
 use Rattle.typedefs.proofs.Laws.{placeAt, item}
 use Rattle.layout.specs.declared.Span.{Span}
 use Rattle.layout.specs.Spans.{pastIn, kindOr, kindIn, endOf, Spanned, Spans}
-use Rattle.layout.specs.Laid.{Laid, LaidEquation, LaidSheet, Places}
+use Rattle.layout.specs.Laid.{LaidNode, LaidEquation, LaidSheet, Places}
 
 past-is : (n p : ℕ) → p < n → pastIn n p ≡ p + 1
 past-is n p h = rw (lt-ltb p n h)
@@ -111,7 +111,7 @@ module _ (ts vs : List ℕ) (same-length : length vs ≡ length ts) where
         Spanned (equation M) ts vs (l .end) k → Spanned (probe M) ts vs (k .end) r →
         (x y : ℕ) (d : NodeKind) → x ≡ getD vs p 0 → y ≡ getD vs a 0 → d ≡ kindIn y →
         (n : Node) (q : ℕ) → node M (tokens ts vs) p ≡ got n q →
-        Laid M (tokens ts vs) n q (record { name = x; kind = d; inputs = i; outputs = o; locals = l; equations = k; probes = r; end = r .end })
+        LaidNode M (tokens ts vs) n q (record { name = x; kind = d; inputs = i; outputs = o; locals = l; equations = k; probes = r; end = r .end })
     unfolding count
     laid p a b ea eb i o l k r ei eo el ek er x y d ex ey ed n q g =
         let t = node-got M (tokens ts vs) p n q g in

@@ -14,7 +14,7 @@ use Rattle.layout.specs.declared.EquationLayout.{EquationLayout}
 use Rattle.layout.specs.declared.SheetLayout.{SheetLayout}
 
 -- a node that ends at q: its lists stand where the layout says
-pub record Laid (M : ℕ) (ts : List TagValue) (n : Node) (q : ℕ) (l : NodeLayout) : Type 0 where
+pub record LaidNode (M : ℕ) (ts : List TagValue) (n : Node) (q : ℕ) (l : NodeLayout) : Type 0 where
   pub named : l .name ≡ n .name
   pub kinded : l .kind ≡ n .kind
   pub inputs : Spans (declaration M) ts (n .inputs) (l .inputs)

@@ -1,5 +1,6 @@
 // Where the parts of an accepted sheet stand among its tokens: its types and nodes, a node's names, equations and probes.
 // `tags` and `values` are as long as each other; `names` is the number of names. Where nothing was read, an answer says nothing.
+use definitions::MOST_NODES;
 use definitions::NodeKind;
 use tokens::FoundKind;
 ghost use mathlib.Core.Path.{_≡_};
@@ -12,7 +13,7 @@ ghost use Rattle.definitions.specs.Reading.{got, times};
 ghost use Rattle.definitions.specs.Grammar.{name, declaration, equation, probe, node, sheet, typeDef};
 ghost use Rattle.typedefs.specs.Table.{Table};
 ghost use Rattle.layout.specs.Spans.{pastIn, kindIn, Spanned};
-ghost use Rattle.layout.specs.Laid.{Laid, LaidEquation, LaidSheet, Places};
+ghost use Rattle.layout.specs.Laid.{LaidNode, LaidEquation, LaidSheet, Places};
 
 // A list behind its count: where its first item stands, how many there are, and the place after the last.
 pub struct Span {
@@ -95,7 +96,7 @@ pub fn names_at(tags: &[u8], values: &[u32], names: u32, at: usize) -> Span
 }
 
 // Equations behind their count.
-pub fn equations_at(tags: &[u8], values: &[u32], names: u32, at: usize) -> Span
+fn equations_at(tags: &[u8], values: &[u32], names: u32, at: usize) -> Span
     requires { ⌜ length (now values) ≡ length (now tags) ⌝ }
     ensures { λ r. ⌜ Spanned (equation names) (now (tags .entry)) (now (values .entry)) at r ⌝ }
 {
@@ -110,7 +111,7 @@ pub fn equations_at(tags: &[u8], values: &[u32], names: u32, at: usize) -> Span
 }
 
 // Probes behind their count.
-pub fn probes_at(tags: &[u8], values: &[u32], names: u32, at: usize) -> Span
+fn probes_at(tags: &[u8], values: &[u32], names: u32, at: usize) -> Span
     requires { ⌜ length (now values) ≡ length (now tags) ⌝ }
     ensures { λ r. ⌜ Spanned (probe names) (now (tags .entry)) (now (values .entry)) at r ⌝ }
 {
@@ -125,7 +126,7 @@ pub fn probes_at(tags: &[u8], values: &[u32], names: u32, at: usize) -> Span
 }
 
 // Types' definitions behind their count.
-pub fn types_at(tags: &[u8], values: &[u32], names: u32, at: usize) -> Span
+fn types_at(tags: &[u8], values: &[u32], names: u32, at: usize) -> Span
     requires { ⌜ length (now values) ≡ length (now tags) ⌝ }
     ensures { λ r. ⌜ Spanned (typeDef names) (now (tags .entry)) (now (values .entry)) at r ⌝ }
 {
@@ -142,7 +143,7 @@ pub fn types_at(tags: &[u8], values: &[u32], names: u32, at: usize) -> Span
 // The parts of the node that stands at a place.
 pub fn node_at(tags: &[u8], values: &[u32], names: u32, at: usize) -> NodeLayout
     requires { ⌜ length (now values) ≡ length (now tags) ⌝ }
-    ensures { λ r. ⌜ ((n : Node) (q : ℕ) → node names (tokens (now (tags .entry)) (now (values .entry))) at ≡ got n q → Laid names (tokens (now (tags .entry)) (now (values .entry))) n q r) ⌝ }
+    ensures { λ r. ⌜ ((n : Node) (q : ℕ) → node names (tokens (now (tags .entry)) (now (values .entry))) at ≡ got n q → LaidNode names (tokens (now (tags .entry)) (now (values .entry))) n q r) ⌝ }
 {
     let second = past(tags, at);
     let third = past(tags, second);
@@ -191,12 +192,18 @@ pub fn sheet_at(tags: &[u8], values: &[u32], names: u32) -> SheetLayout
 }
 
 // The places of n nodes, of which the first stands at `at`.
-pub fn node_places(tags: &[u8], values: &[u32], names: u32, n: usize, at: usize) -> [usize; 16]
+pub fn node_places(
+    tags: &[u8],
+    values: &[u32],
+    names: u32,
+    n: usize,
+    at: usize,
+) -> [usize; MOST_NODES]
     requires { ⌜ length (now values) ≡ length (now tags) ⌝ }
     requires { ⌜ n ≤ 16 ⌝ }
     ensures { λ r. ⌜ ((l : List Node) (q : ℕ) → times n (node names) (tokens (now (tags .entry)) (now (values .entry))) at ≡ got l q → Places (node names) (tokens (now (tags .entry)) (now (values .entry))) r l) ⌝ }
 {
-    let mut places = [0usize; 16];
+    let mut places = [0usize; MOST_NODES];
     let mut place = at;
     let mut i: usize = 0;
     while i < n {

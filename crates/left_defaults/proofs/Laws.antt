@@ -25,14 +25,14 @@ use Rattle.grammar.proofs.Longer.{name-grows}
 use Rattle.grammar.proofs.Got.{times-nil, times-cons, tagged-value}
 use Rattle.layout.specs.declared.NodeLayout.{NodeLayout}
 use Rattle.layout.specs.Spans.{pastIn}
-use Rattle.layout.specs.Laid.{Laid}
+use Rattle.layout.specs.Laid.{LaidNode}
 use Rattle.operand_type.specs.declared.TypeFound.{TypeFound}
 use Rattle.operand_type.specs.Found.{IsFound}
 use Rattle.emit.specs.Out.{Out, emits}
 use Rattle.emit.proofs.Laws.{emits-append, emits-none}
 use Rattle.stateless.specs.Yield.{exprOr, defaultOr, leftTree, leftTrees}
 use Rattle.stateless.specs.Faults.{unless, leftTypeFault, leftFault, leftsFault}
-use Rattle.left_defaults.proofs.Typed.{declared-at}
+use Rattle.operand_type.proofs.Typed.{declared-at}
 
 -- ---- left names as they stand
 -- the first of k names stands as a value, and the others from the next place on
@@ -82,7 +82,7 @@ module _ (types : List TypeDef) (nodes : List Node) (node : Node) where
 
   -- by where its type was found
   module _ (M : ℕ) (ts : List TagValue) (x : ℕ) (free : leftFault types nodes node x ≡ none) (f : TypeFound) (found : IsFound M ts (lastType (declared node) x) f) (o o₁ : Out) where
-    pub wrote-declared : (u : ℕ) (lay : NodeLayout) → Laid M ts node u lay → (p : ℕ) → f ≡ TypeFound.At p →
+    pub wrote-declared : (u : ℕ) (lay : NodeLayout) → LaidNode M ts node u lay → (p : ℕ) → f ≡ TypeFound.At p →
         ((t : Ty) (q : ℕ) (e : Expr) → ty M 8 ts p ≡ got t q → default types t ≡ some e → o₁ ≡ emits o (exprTokens e)) → o₁ ≡ emits o (exprTokens (leftTree types nodes node x))
     wrote-declared u lay laid p i wrote =
         let a = left-is x free in

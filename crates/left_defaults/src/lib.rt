@@ -2,6 +2,7 @@
 // `tags` and `values` are the sheet's tokens, `names` is the number of its names; `places` are those of its types' definitions,
 // of which there are `types`; `node` is the node's layout. `otags` and `ovalues` are the output's tokens, of which w are written.
 use definitions::Token;
+use definitions::WORKING_TOKENS;
 use layout::NodeLayout;
 use layout::Span;
 use operand_type::TypeFound;
@@ -19,7 +20,7 @@ ghost use Rattle.definitions.specs.Output.{exprTokens, operandTokens, nameToken
 ghost use Rattle.definitions.specs.declared.Token.{Token};
 ghost use Rattle.typedefs.specs.Table.{Table};
 ghost use Rattle.layout.specs.Spans.{Spans};
-ghost use Rattle.layout.specs.Laid.{Laid};
+ghost use Rattle.layout.specs.Laid.{LaidNode};
 ghost use Rattle.emit.specs.Out.{out, emits};
 ghost use Rattle.stateless.specs.Yield.{leftTree, leftTrees};
 ghost use Rattle.stateless.specs.Faults.{leftFault, leftsFault};
@@ -33,13 +34,13 @@ pub fn put_left_default(
     types: usize,
     node: NodeLayout,
     x: u32,
-    otags: &mut [u8; 8192],
-    ovalues: &mut [u32; 8192],
+    otags: &mut [u8; WORKING_TOKENS],
+    ovalues: &mut [u32; WORKING_TOKENS],
     w: usize,
 ) -> usize
     requires { ⌜ length (now values) ≡ length (now tags) ⌝ }
     requires { ⌜ types ≤ 32 ⌝ }
-    ensures { λ r. ⌜ ((ts : List TypeDef) (l : List Node) (n : Node) (u : ℕ) → Table names (tokens (now (tags .entry)) (now (values .entry))) (now (places .entry)) types ts → Laid names (tokens (now (tags .entry)) (now (values .entry))) n u node → leftFault ts l n x ≡ none → out (now (otags .exit)) (now (ovalues .exit)) r ≡ emits (out (now (otags .entry)) (now (ovalues .entry)) w) (exprTokens (leftTree ts l n x))) ⌝ }
+    ensures { λ r. ⌜ ((ts : List TypeDef) (l : List Node) (n : Node) (u : ℕ) → Table names (tokens (now (tags .entry)) (now (values .entry))) (now (places .entry)) types ts → LaidNode names (tokens (now (tags .entry)) (now (values .entry))) n u node → leftFault ts l n x ≡ none → out (now (otags .exit)) (now (ovalues .exit)) r ≡ emits (out (now (otags .entry)) (now (ovalues .entry)) w) (exprTokens (leftTree ts l n x))) ⌝ }
 {
     let found = operand_type::last_type(tags, values, names, node, x);
     match found {
@@ -72,13 +73,13 @@ pub fn put_left_defaults(
     node: NodeLayout,
     count: u32,
     at: usize,
-    otags: &mut [u8; 8192],
-    ovalues: &mut [u32; 8192],
+    otags: &mut [u8; WORKING_TOKENS],
+    ovalues: &mut [u32; WORKING_TOKENS],
     w: usize,
 ) -> usize
     requires { ⌜ length (now values) ≡ length (now tags) ⌝ }
     requires { ⌜ types ≤ 32 ⌝ }
-    ensures { λ r. ⌜ ((ts : List TypeDef) (l : List Node) (n : Node) (u : ℕ) (xs : List ℕ) (q : ℕ) → Table names (tokens (now (tags .entry)) (now (values .entry))) (now (places .entry)) types ts → Laid names (tokens (now (tags .entry)) (now (values .entry))) n u node → times count (name names) (tokens (now (tags .entry)) (now (values .entry))) at ≡ got xs q → leftsFault ts l n xs ≡ none → out (now (otags .exit)) (now (ovalues .exit)) r ≡ emits (out (now (otags .entry)) (now (ovalues .entry)) w) (join (operandTokens (leftTrees ts l n xs)))) ⌝ }
+    ensures { λ r. ⌜ ((ts : List TypeDef) (l : List Node) (n : Node) (u : ℕ) (xs : List ℕ) (q : ℕ) → Table names (tokens (now (tags .entry)) (now (values .entry))) (now (places .entry)) types ts → LaidNode names (tokens (now (tags .entry)) (now (values .entry))) n u node → times count (name names) (tokens (now (tags .entry)) (now (values .entry))) at ≡ got xs q → leftsFault ts l n xs ≡ none → out (now (otags .exit)) (now (ovalues .exit)) r ≡ emits (out (now (otags .entry)) (now (ovalues .entry)) w) (join (operandTokens (leftTrees ts l n xs)))) ⌝ }
 {
     if count == 0 {
         return w;
@@ -113,14 +114,14 @@ pub fn put_left_defaults(
 }
 
 // So many names, one after another.
-pub fn put_names(
+fn put_names(
     tags: &[u8],
     values: &[u32],
     names: u32,
     count: u32,
     at: usize,
-    otags: &mut [u8; 8192],
-    ovalues: &mut [u32; 8192],
+    otags: &mut [u8; WORKING_TOKENS],
+    ovalues: &mut [u32; WORKING_TOKENS],
     w: usize,
 ) -> usize
     requires { ⌜ length (now values) ≡ length (now tags) ⌝ }
@@ -141,8 +142,8 @@ pub fn put_left(
     values: &[u32],
     names: u32,
     left: Span,
-    otags: &mut [u8; 8192],
-    ovalues: &mut [u32; 8192],
+    otags: &mut [u8; WORKING_TOKENS],
+    ovalues: &mut [u32; WORKING_TOKENS],
     w: usize,
 ) -> usize
     requires { ⌜ length (now values) ≡ length (now tags) ⌝ }

@@ -21,11 +21,11 @@ use Rattle.environment.specs.Environment.{Agrees}
 use Rattle.operands.specs.Spread.{tree}
 use Rattle.layout.specs.declared.EquationLayout.{EquationLayout}
 use Rattle.layout.specs.declared.NodeLayout.{NodeLayout}
-use Rattle.layout.specs.Laid.{Laid, LaidEquation}
+use Rattle.layout.specs.Laid.{LaidNode, LaidEquation}
 use Rattle.findings.specs.Findings.{faultIn, findingIn, findingsIn}
 use Rattle.findings.proofs.Laws.{none-yet, faults-one, faults-no}
 use Rattle.order.specs.Order.{rowOf, picked}
-use Rattle.infer_clocks.specs.Clocked.{Tells}
+use Rattle.infer_clocks.specs.Clocked.{ClocksStand}
 use Rattle.spelling.specs.Writing.{Put, farthest}
 use Rattle.spelling.proofs.Writing.{put-none}
 use Rattle.texts.specs.Pieces.{headLine, equationLine, chainLine}
@@ -198,7 +198,7 @@ head-same letters a a′ b b′ c c′ d d′ e f g h = rw (e, f, g, h)
 
 -- the head, the lines of equations, chains and faults are the node's listing
 pub node-put : (letters : ℕ → Letters) (i M : ℕ) (ts : List TagValue) (n : Node) (end : ℕ) (l : NodeLayout) (k : Clocking) (env t rows chain : List ℕ) (passes f m equations : ℕ) {p p₁ p₂ p₃ p₄ : ℕ} {s s₁ s₂ s₃ s₄ : List ℕ}
-    → Laid M ts n end l → clocking n ≡ formed k → Tells env t M passes f k → picked (rowOf rows) chain 0 m ≡ chains letters (findingsIn t f) → equations ≡ l .equations .count → length s ≤ farthest
+    → LaidNode M ts n end l → clocking n ≡ formed k → ClocksStand env t M passes f k → picked (rowOf rows) chain 0 m ≡ chains letters (findingsIn t f) → equations ≡ l .equations .count → length s ≤ farthest
     → Put (headLine letters (l .name) equations passes m) p s p₁ s₁
     → ((clocks : Clocks) (es : List Equation) (q : ℕ) (cs : List Clocked) → Agrees env M clocks → times (l .equations .count) (equation M) ts (l .equations .at) ≡ got es q → clockedBy clocks es ≡ formed cs → Put (join (numbered (equationLine letters) 0 (map (λ (c : Clocked). c .clock) cs))) p₁ s₁ p₂ s₂)
     → Put (join (map (chainLine letters) (picked (rowOf rows) chain 0 m))) p₂ s₂ p₃ s₃

@@ -23,12 +23,12 @@ use Rattle.environment.specs.Environment.{Agrees}
 use Rattle.flat.specs.Flat.{testOf, clockIn}
 use Rattle.flat.proofs.Laws.{depth-in}
 use Rattle.layout.specs.declared.NodeLayout.{NodeLayout}
-use Rattle.layout.specs.Laid.{Laid}
+use Rattle.layout.specs.Laid.{LaidNode}
 use Rattle.findings.specs.Findings.{faultAs, faultIn, findingsFrom, findingsIn}
 use Rattle.findings.proofs.Laws.{length-from}
 use Rattle.fresh.specs.Places.{lettersAt}
 use Rattle.order.specs.Order.{rowOf, picked}
-use Rattle.infer_clocks.specs.Clocked.{Tells}
+use Rattle.infer_clocks.specs.Clocked.{ClocksStand}
 use Rattle.spelling.specs.Writing.{Put, farthest}
 use Rattle.spelling.proofs.Writing.{over-past}
 use Rattle.texts.specs.declared.Lending.{Lending}
@@ -176,7 +176,7 @@ module _ (letters : ℕ → Letters) (short : (x : ℕ) → length (letters x) �
 
 -- the listing of a node within a sheet's limits
 pub node-fits : (starts letters : List ℕ) (i M : ℕ) (tags values : List ℕ) (n : Node) (end : ℕ) (l : NodeLayout) (k : Clocking) (env t rows chain : List ℕ) (passes f m : ℕ)
-    → length values ≡ length tags → Laid M (tokens tags values) n end l → clocking n ≡ formed k → Tells env t M passes f k → picked (rowOf rows) chain 0 m ≡ chains (lettersAt starts letters) (findingsIn t f)
+    → length values ≡ length tags → LaidNode M (tokens tags values) n end l → clocking n ≡ formed k → ClocksStand env t M passes f k → picked (rowOf rows) chain 0 m ≡ chains (lettersAt starts letters) (findingsIn t f)
     → ((clocks : Clocks) (es : List Equation) (q : ℕ) (cs : List Clocked) → Agrees env M clocks → times (l .equations .count) (equation M) (tokens tags values) (l .equations .at) ≡ got es q → clockedBy clocks es ≡ formed cs → Low (map (λ (c : Clocked). c .clock) cs))
     → length letters ≤ 16384 → length tags ≤ 4096 → f ≤ 4096 → length (nodeListing (lettersAt starts letters) i (record { node = n; clocking = k })) ≤ farthest
 unfolding nodeListing nodeClocks

@@ -19,8 +19,8 @@ ghost use Rattle.environment.specs.Environment.{Agrees};
 ghost use Rattle.findings.specs.Findings.{findingsIn};
 ghost use Rattle.fresh.specs.Places.{lettersAt};
 ghost use Rattle.order.specs.Order.{rowOf, picked};
-ghost use Rattle.layout.specs.Laid.{Laid};
-ghost use Rattle.infer_clocks.specs.Clocked.{Tells};
+ghost use Rattle.layout.specs.Laid.{LaidNode};
+ghost use Rattle.infer_clocks.specs.Clocked.{ClocksStand};
 ghost use Rattle.spelling.specs.Writing.{Put, farthest};
 ghost use Rattle.listing.specs.Low.{Low};
 ghost use Rattle.texts.specs.Lending.{Gives};
@@ -46,7 +46,7 @@ fn counted(at: usize) -> usize
 }
 
 // A line for each of the equations that stand there.
-pub fn put_equations(
+fn put_equations(
     out: &mut [u8],
     at: usize,
     starts: &[u32],
@@ -85,7 +85,7 @@ fn wide(x: u32) -> usize
 }
 
 // A line for each of n chains, each in the row that `chain` says.
-pub fn put_chains(
+fn put_chains(
     out: &mut [u8],
     at: usize,
     starts: &[u32],
@@ -110,7 +110,7 @@ pub fn put_chains(
 }
 
 // A line for each clock fault of a node.
-pub fn put_faults(
+fn put_faults(
     out: &mut [u8],
     at: usize,
     starts: &[u32],
@@ -157,8 +157,8 @@ pub fn put_node(
     requires { ⌜ length (now out) ≤ farthest ⌝ }
     requires { ⌜ length (now values) ≡ length (now tags) ⌝ }
     ensures { λ r. ⌜ r ≤ farthest ⌝ }
-    ensures { λ r. ⌜ ((node : Node) (q : ℕ) (k : Clocking) → Laid (told .names) (tokens (now (tags .entry)) (now (values .entry))) node q (told .layout) → clocking node ≡ formed k → Tells (now (env .entry)) (now (table .entry)) (told .names) (told .passes) (told .findings) k → picked (rowOf (now (rows .entry))) (now (chain .entry)) 0 m ≡ chains (lettersAt (now (starts .entry)) (now (letters .entry))) (findingsIn (now (table .entry)) (told .findings)) → Put (nodeListing (lettersAt (now (starts .entry)) (now (letters .entry))) (told .number) (record { node = node; clocking = k })) at (now (out .entry)) r (now (out .exit))) ⌝ }
-    ensures { λ r. ⌜ ((node : Node) (q : ℕ) (k : Clocking) → Laid (told .names) (tokens (now (tags .entry)) (now (values .entry))) node q (told .layout) → clocking node ≡ formed k → Tells (now (env .entry)) (now (table .entry)) (told .names) (told .passes) (told .findings) k → picked (rowOf (now (rows .entry))) (now (chain .entry)) 0 m ≡ chains (lettersAt (now (starts .entry)) (now (letters .entry))) (findingsIn (now (table .entry)) (told .findings)) → length (now (letters .entry)) ≤ 16384 → length (now (tags .entry)) ≤ 4096 → told .findings ≤ 4096 → length (nodeListing (lettersAt (now (starts .entry)) (now (letters .entry))) (told .number) (record { node = node; clocking = k })) ≤ farthest) ⌝ }
+    ensures { λ r. ⌜ ((node : Node) (q : ℕ) (k : Clocking) → LaidNode (told .names) (tokens (now (tags .entry)) (now (values .entry))) node q (told .layout) → clocking node ≡ formed k → ClocksStand (now (env .entry)) (now (table .entry)) (told .names) (told .passes) (told .findings) k → picked (rowOf (now (rows .entry))) (now (chain .entry)) 0 m ≡ chains (lettersAt (now (starts .entry)) (now (letters .entry))) (findingsIn (now (table .entry)) (told .findings)) → Put (nodeListing (lettersAt (now (starts .entry)) (now (letters .entry))) (told .number) (record { node = node; clocking = k })) at (now (out .entry)) r (now (out .exit))) ⌝ }
+    ensures { λ r. ⌜ ((node : Node) (q : ℕ) (k : Clocking) → LaidNode (told .names) (tokens (now (tags .entry)) (now (values .entry))) node q (told .layout) → clocking node ≡ formed k → ClocksStand (now (env .entry)) (now (table .entry)) (told .names) (told .passes) (told .findings) k → picked (rowOf (now (rows .entry))) (now (chain .entry)) 0 m ≡ chains (lettersAt (now (starts .entry)) (now (letters .entry))) (findingsIn (now (table .entry)) (told .findings)) → length (now (letters .entry)) ≤ 16384 → length (now (tags .entry)) ≤ 4096 → told .findings ≤ 4096 → length (nodeListing (lettersAt (now (starts .entry)) (now (letters .entry))) (told .number) (record { node = node; clocking = k })) ≤ farthest) ⌝ }
 {
     let l = told.layout;
     let e = l.equations;
@@ -184,7 +184,7 @@ pub fn measure_node(
 ) -> usize
     requires { ⌜ length (now values) ≡ length (now tags) ⌝ }
     ensures { λ r. ⌜ r ≤ farthest ⌝ }
-    ensures { λ r. ⌜ ((node : Node) (q : ℕ) (k : Clocking) → Laid (told .names) (tokens (now (tags .entry)) (now (values .entry))) node q (told .layout) → clocking node ≡ formed k → Tells (now (env .entry)) (now (table .entry)) (told .names) (told .passes) (told .findings) k → picked (rowOf (now (rows .entry))) (now (chain .entry)) 0 m ≡ chains (lettersAt (now (starts .entry)) (now (letters .entry))) (findingsIn (now (table .entry)) (told .findings)) → length (now (letters .entry)) ≤ 16384 → length (now (tags .entry)) ≤ 4096 → told .findings ≤ 4096 → r ≡ length (nodeListing (lettersAt (now (starts .entry)) (now (letters .entry))) (told .number) (record { node = node; clocking = k }))) ⌝ }
+    ensures { λ r. ⌜ ((node : Node) (q : ℕ) (k : Clocking) → LaidNode (told .names) (tokens (now (tags .entry)) (now (values .entry))) node q (told .layout) → clocking node ≡ formed k → ClocksStand (now (env .entry)) (now (table .entry)) (told .names) (told .passes) (told .findings) k → picked (rowOf (now (rows .entry))) (now (chain .entry)) 0 m ≡ chains (lettersAt (now (starts .entry)) (now (letters .entry))) (findingsIn (now (table .entry)) (told .findings)) → length (now (letters .entry)) ≤ 16384 → length (now (tags .entry)) ≤ 4096 → told .findings ≤ 4096 → r ≡ length (nodeListing (lettersAt (now (starts .entry)) (now (letters .entry))) (told .number) (record { node = node; clocking = k }))) ⌝ }
 {
     let mut none = [0u8; 1];
     put_node(
@@ -217,7 +217,7 @@ pub fn node_into(
     chain: &mut [u32],
 ) -> Lending
     requires { ⌜ length (now values) ≡ length (now tags) ⌝ }
-    ensures { λ r. ⌜ ((node : Node) (q : ℕ) (k : Clocking) → Laid (told .names) (tokens (now (tags .entry)) (now (values .entry))) node q (told .layout) → clocking node ≡ formed k → Tells (now (env .entry)) (now (table .entry)) (told .names) (told .passes) (told .findings) k → 17 * told .findings ≤ length (now (rows .entry)) → told .findings ≤ length (now (chain .entry)) → length (now (letters .entry)) ≤ 16384 → length (now (tags .entry)) ≤ 4096 → told .findings ≤ 4096 → Gives (nodeListing (lettersAt (now (starts .entry)) (now (letters .entry))) (told .number) (record { node = node; clocking = k })) (now (out .entry)) r (now (out .exit))) ⌝ }
+    ensures { λ r. ⌜ ((node : Node) (q : ℕ) (k : Clocking) → LaidNode (told .names) (tokens (now (tags .entry)) (now (values .entry))) node q (told .layout) → clocking node ≡ formed k → ClocksStand (now (env .entry)) (now (table .entry)) (told .names) (told .passes) (told .findings) k → 17 * told .findings ≤ length (now (rows .entry)) → told .findings ≤ length (now (chain .entry)) → length (now (letters .entry)) ≤ 16384 → length (now (tags .entry)) ≤ 4096 → told .findings ≤ 4096 → Gives (nodeListing (lettersAt (now (starts .entry)) (now (letters .entry))) (told .number) (record { node = node; clocking = k })) (now (out .entry)) r (now (out .exit))) ⌝ }
 {
     let m = infer_clocks::chain_rows(starts, letters, table, told.findings, rows, chain);
     let size = measure_node(

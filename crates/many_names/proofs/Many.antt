@@ -8,7 +8,7 @@ use native.Mathlib.Omega.{arith}
 use lib.ListN.{length, getD}
 use Rattle.definitions.specs.Lists.{choose, any, upFrom, Letters, sameLetters, bytes}
 use Rattle.definitions.specs.Tree.{Node}
-use Rattle.definitions.specs.Clock.{Clock, base, _/_, inChainOrder}
+use Rattle.definitions.specs.Clock.{Clock, base, _↓_, inChainOrder}
 use Rattle.definitions.specs.Declock.{Stem, ck, first, hold, clockPlace, declared}
 use Rattle.definitions.specs.Output.{addName, addNames, lettersOf, newLetters}
 use Rattle.shapes.specs.Shape.{All}
@@ -91,7 +91,7 @@ member-at (c ∷ cs) (suc j) h = List·Memᴰ·tail (member-at cs j (omega arith
 
 of-named : (N : ℕ) (c : Clock) → NamedClock N c → OfClock (λ x. x < N) c
 of-named N base o = o
-of-named N (c / k) o = (o .0, of-named N c (o .1))
+of-named N (c ↓ k) o = (o .0, of-named N c (o .1))
 
 module _ (names : List Letters) (node : Node) (w : Needs) where
   -- the name of the j-th clock is among those in chain order

@@ -6,7 +6,7 @@ use mathlib.Core.List.{List, [], _∷_, _++_, List·Memᴰ·head, List·Memᴰ·
 use lib.Dec.{eqb}
 use Rattle.definitions.specs.Lists.{choose, any}
 use Rattle.definitions.specs.Tree.{TypeDef, Expr, Exprs, Node}
-use Rattle.definitions.specs.Clock.{Clock, base, _/_, parent, isOn, isNot, isBase, sameClock}
+use Rattle.definitions.specs.Clock.{Clock, base, _↓_, parent, isOn, isNot, isBase, sameClock}
 use Rattle.definitions.specs.InferClocks.{Clocked}
 use Rattle.definitions.specs.Declock.{Shape, bare, other, calls, add, addWithParents, operatorOutputs}
 use Rattle.shapes.specs.Shape.{All, Shaped, Shapeds}
@@ -37,11 +37,11 @@ module _ (N : ℕ) where
   named-parents : (c : Clock) (cs : List Clock) → NamedClock N c → All (NamedClock N) cs → All (NamedClock N) (addWithParents c cs)
   unfolding addWithParents
   named-parents base cs o h = h
-  named-parents (c / k) cs o h = named-add (c / k) (addWithParents c cs) o (named-parents c cs (o .1) h)
+  named-parents (c ↓ k) cs o h = named-add (c ↓ k) (addWithParents c cs) o (named-parents c cs (o .1) h)
 
   named-parent : (c : Clock) → NamedClock N c → NamedClock N (parent c)
   named-parent base o = o
-  named-parent (c / k) o = o .1
+  named-parent (c ↓ k) o = o .1
 
   module _ (c : Clock) (o : NamedClock N c) where
     named-flag : (y : Needs) → NamedNeeds y → NamedNeeds (withFlag c y)
@@ -82,7 +82,7 @@ module _ (N : ℕ) where
       named-needed (Expr.arrow a b) c y o s h = named-settled c o (arrowTurn c) (needed nodes c b (needed nodes c a y)) (named-needed b c (needed nodes c a y) o (s .1) (named-needed a c y o (s .0) h))
       named-needed (Expr.call f es) c y o s h = named-settled c o (callTurn c (isThere (operatorOutputs nodes f))) (neededAll nodes c c es y) (named-all es c c y o o (s .0) h)
       named-needed (Expr.when k e) c y o s h = named-needed e (parent c) y (named-parent c o) (s .0) h
-      named-needed (Expr.merge x a b) c y o s h = named-needed b (c / isNot x) (needed nodes (c / isOn x) a y) (s .2, o) (s .1) (named-needed a (c / isOn x) y (s .2, o) (s .0) h)
+      named-needed (Expr.merge x a b) c y o s h = named-needed b (c ↓ isNot x) (needed nodes (c ↓ isOn x) a y) (s .2, o) (s .1) (named-needed a (c ↓ isOn x) y (s .2, o) (s .0) h)
 
       named-all : (es : Exprs) (c d : Clock) (y : Needs) → NamedClock N c → NamedClock N d → Shapeds N es → NamedNeeds y → NamedNeeds (neededAll nodes c d es y)
       named-all Exprs.end c d y o p s h = h

@@ -12,7 +12,7 @@ use lib.Dec.{eqb}
 use borrow.Author.Tests.{eqb-true, eqb-false, eq-eqb, ne-eqb}
 use Rattle.definitions.specs.Lists.{Letters, choose, any, sameLetters, sum}
 use Rattle.names.specs.Places.{start, nameAt, before}
-use Rattle.names.specs.Buckets.{mixed, hashed, bucketOf, bucketAt, lastIn, Chained, Headed}
+use Rattle.names.specs.Buckets.{mixed, hashed, bucketOf, bucketAt, lastIn, Chained, BucketHeads}
 use Rattle.names.proofs.Laws.{start-next, before-last, part-name}
 
 -- ---- the hash of letters
@@ -122,7 +122,7 @@ module _ (lens letters : List ℕ) where
     pub all-next : length next ≡ 1024
     pub all-starts : length starts ≡ 1024
     pub chained : Chained lens letters starts next i
-    pub headed : Headed lens letters heads i
+    pub headed : BucketHeads lens letters heads i
 
   pub filled-none : Filled (replicate 1024 0) (replicate 1024 0) (replicate 1024 0) 0
   unfolding lastIn
@@ -153,7 +153,7 @@ module _ (lens letters : List ℕ) where
         go true w = rw (eqb-true j i w) (getD-set-same next i last 0 (omega (arith, f .all-next)) ∙ last-of)
         go false w = getD-set-other next i j last 0 (eqb-false j i w) ∙ f .chained .follows j (omega (arith, eqb-false j i w))
 
-    headed-more : (m : ℕ) → m ≡ i + 1 → Headed lens letters (set heads b m) (i + 1)
+    headed-more : (m : ℕ) → m ≡ i + 1 → BucketHeads lens letters (set heads b m) (i + 1)
     headed-more m z a k = go (eqb a b) refl
       where
         go : (t : Bool) → eqb a b ≡ t → getD (set heads b m) a 0 ≡ lastIn (bucketAt lens letters) a (i + 1)

@@ -36,5 +36,5 @@ pub record Chained (lens letters starts next : List ℕ) (i : ℕ) : Type 0 wher
   pub follows : (j : ℕ) → j < i → getD next j 0 ≡ lastIn (bucketAt lens letters) (bucketAt lens letters j) j
 
 -- of each bucket: one past the last name before name i that is in it
-abbrev pub Headed : List ℕ → List ℕ → List ℕ → ℕ → Type 0
-Headed lens letters heads i = (b : ℕ) → b < 1024 → getD heads b 0 ≡ lastIn (bucketAt lens letters) b i
+abbrev pub BucketHeads : List ℕ → List ℕ → List ℕ → ℕ → Type 0
+BucketHeads lens letters heads i = (b : ℕ) → b < 1024 → getD heads b 0 ≡ lastIn (bucketAt lens letters) b i

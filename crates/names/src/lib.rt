@@ -20,7 +20,7 @@ fn between(low: u8, b: u8, high: u8) -> bool
 }
 
 // A letter or underscore.
-pub fn is_letter(b: u8) -> bool
+fn is_letter(b: u8) -> bool
     ensures { λ r. ⌜ r ≡ isLetter b ⌝ }
 {
     if between(65, b, 90) {
@@ -43,7 +43,7 @@ fn is_part(b: u8) -> bool
 }
 
 // Is it letters, digits and underscore, 1 to 32 of them, no digit first?
-pub fn well_formed(name: &[u8]) -> bool
+fn well_formed(name: &[u8]) -> bool
     ensures { λ r. ⌜ r ≡ wellFormed (now (name .entry)) ⌝ }
 {
     if name.len() == 0 {

@@ -1,6 +1,6 @@
--- The natural clock, arm by arm, and operands taken apart by their places.
+-- The natural clock, arm by arm, and the walk over operands.
 -- Assumes nothing.
-use Prim.Native.Nat.{ℕ, zero, suc, _+_, _-_, _≤_, _<_}
+use Prim.Native.Nat.{ℕ, _-_, _<_}
 use mathlib.Core.Path.{_≡_, refl, sym, _∙_, ap}
 use mathlib.Core.List.{List, [], _∷_}
 use mathlib.Core.Bool.{Bool, true, false}
@@ -15,17 +15,16 @@ use Rattle.definitions.specs.Bytes.{tokens}
 use Rattle.definitions.specs.Tokens.{TagValue}
 use Rattle.definitions.specs.Tree.{Expr, Exprs}
 use Rattle.definitions.specs.Reading.{got}
-use Rattle.definitions.specs.Clock.{Clock, base, _/_, depth, deepest}
+use Rattle.definitions.specs.Clock.{Clock, base, _↓_, depth, deepest}
 use Rattle.definitions.specs.InferClocks.{Natural, Clocks, clockOf, deep, formed, _or_, conditionOver, parentOf, natural, naturals}
 use Rattle.clock.specs.Value.{naturalOf}
 use Rattle.environment.specs.Environment.{envAt, Agrees}
-use Rattle.grammar.proofs.Laws.{tokens-length}
-use Rattle.grammar.proofs.Longer.{expr-grows}
 use Rattle.operands.specs.declared.Gap.{Gap}
 use Rattle.operands.specs.declared.Role.{Role}
 use Rattle.operands.specs.Role.{roleOfExpr, operandsOf}
 use Rattle.operands.specs.Spread.{tree, spread, later, operandAt, restAt}
-use Rattle.operands.proofs.Laws.{spread-nil, spread-cons, before-place, behind-place}
+use Rattle.operands.proofs.Laws.{spread-nil}
+use Rattle.operands.proofs.Apart.{Apart, apart}
 use Rattle.operands.proofs.Roles.{Among}
 use Rattle.natural.specs.declared.Found.{Found}
 use Rattle.natural.specs.Natural.{isFree, Finds, lifted, firstOf}
@@ -54,7 +53,7 @@ or-none (formed (some c)) = refl
 over-some : (k : Condition) (c : Clock) → conditionOver k (formed (some c)) ≡ formed none → ⊥
 over-some k c h = go (ltb (depth c) deepest) h
   where
-    go : (b : Bool) → choose b (formed (some (c / k))) deep ≡ formed none → ⊥
+    go : (b : Bool) → choose b (formed (some (c ↓ k))) deep ≡ formed none → ⊥
     go true h = let z : _≡_ {A = ℕ} 0 1 = cc in omega arith
     go false h = let z : _≡_ {A = ℕ} 0 1 = cc in omega arith
 
@@ -85,95 +84,69 @@ unfolding firstOf natural
 first-naturals clocks Exprs.end = refl
 first-naturals clocks (Exprs.and e es) = rw (first-naturals clocks es)
 
--- an operand's place is not before where the operands begin
-pub at-or-past : (most : ℕ) (g : Gap) (p r : ℕ) → r ≡ operandAt most g p → p ≤ r
-at-or-past most Gap.Nothing p r e = omega arith
-at-or-past most Gap.Names p r e = rw e (go (ltb p most))
-  where
-    go : (b : Bool) → p ≤ choose b (p + 1) p
-    go true = omega arith
-    go false = omega arith
-at-or-past most Gap.Between p r e = omega arith
+-- n of them from p on are left, after some that have no clock: the first clock among these is that of all
+pub record Remains (M : ℕ) (ts : List TagValue) (clocks : Clocks) (up : Bool) (g : Gap) (n p q : ℕ) (all : Natural) : Type 0 where
+  pub others : Exprs
+  pub stand : spread M g n (tree M) ts p ≡ got others q
+  pub same : firstOf clocks up others ≡ all
 
--- operands that are none end where they begin
-pub spread-end : (M : ℕ) (ts : List TagValue) (g : Gap) (k p : ℕ) (es : Exprs) (q : ℕ) → es ≡ Exprs.end → spread M g k (tree M) ts p ≡ got es q → p ≡ q
-spread-end M ts g zero p es q i h = sym (spread-nil M (tree M) ts g zero p es q refl h .1)
-spread-end M ts g (suc k) p es q i h =
-    let c = spread-cons M (tree M) ts g (suc k) p es q (λ z. omega (arith, z)) h in
-    let z : _≡_ {A = ℕ} 0 1 = cc (c .11) in absurd (omega arith)
+module _ (M : ℕ) (ts : List TagValue) (clocks : Clocks) (up : Bool) (g : Gap) (n p q : ℕ) where
+  pub remains-all : (es : Exprs) → spread M g n (tree M) ts p ≡ got es q → Remains M ts clocks up g n p q (firstOf clocks up es)
+  remains-all es h = record { others = es; stand = h; same = refl }
 
--- n operands es with the gap g from p to q, the first of them at a place, the others by where it ends
-pub record Apart (M : ℕ) (gs vs : List ℕ) (g : Gap) (n p : ℕ) (es : Exprs) (q place : ℕ) : Type 0 where
-  pub first : Expr
-  pub end : ℕ
-  pub rest : Exprs
-  pub whole : es ≡ Exprs.and first rest
-  pub here : tree M (tokens gs vs) place ≡ got first end
-  pub others : spread M (later g) (n - 1) (tree M) (tokens gs vs) (restAt (length gs) g end) ≡ got rest q
-  pub past : p < restAt (length gs) g end
-
-pub apart : (M : ℕ) (gs vs : List ℕ) → length vs ≡ length gs → (g : Gap) (n p : ℕ) (es : Exprs) (q place : ℕ) → (n ≡ 0 → ⊥) → place ≡ operandAt (length gs) g p → spread M g n (tree M) (tokens gs vs) p ≡ got es q → Apart M gs vs g n p es q place
-apart M gs vs same g n p es q place z i h =
-    let l = tokens-length gs vs same in
-    let k = spread-cons M (tree M) (tokens gs vs) g n p es q z h in
-    let f = before-place M g (tokens gs vs) p (k .0) (k .1) (k .7) in
-    let j : place ≡ k .1 = i ∙ (ap (λ (m : ℕ). operandAt m g p) (sym l) ∙ sym (f .0)) in
-    let here : tree M (tokens gs vs) place ≡ got (k .2) (k .3) = rw j (k .8) in
-    let u = expr-grows M 32 (tokens gs vs) place (k .2) (k .3) here in
-    let w = behind-place g (tokens gs vs) (k .3) (k .4) (k .5) (u .1) (k .9) in
-    let m : restAt (length gs) g (k .3) ≡ k .5 = ap (λ (m : ℕ). restAt m g (k .3)) (sym l) ∙ sym (w .0) in
-    record { first = k .2; end = k .3; rest = k .6; whole = k .11; here = here; others = rw m (k .10); past = rw m (omega arith) }
-
--- ---- the walk over operands
-module _ (clocks : Clocks) (up : Bool) (es : Exprs) (q : ℕ) where
-  pub none-found : (r : Found) (p : ℕ) → es ≡ Exprs.end → q ≡ p → (naturalOf (r .natural) ≡ formed none) × (r .end ≡ p) → Finds r (firstOf clocks up es) q
+  pub remains-none : (all : Natural) → Remains M ts clocks up g n p q all → n ≡ 0 → (r : Found) → (naturalOf (r .natural) ≡ formed none) × (r .end ≡ p) → Finds r all q
   unfolding firstOf
-  none-found r p i j h = rw (i, j) (record { clock = h .0; end = λ e. h .1 })
+  remains-none all h z r k =
+      let i = spread-nil M (tree M) ts g n p (h .others) q z (h .stand) in
+      let m : formed none ≡ all = rw (i .0) at (h .same) in
+      record { clock = k .0 ∙ m; end = λ e. k .1 ∙ sym (i .1) }
 
-  module _ (e : Expr) (rest : Exprs) (w : es ≡ Exprs.and e rest) (f : Found) (u : ℕ) (h : Finds f (lifted up (natural clocks e)) u) where
-    pub first-found : isFree (naturalOf (f .natural)) ≡ false → Finds f (firstOf clocks up es) q
-    unfolding firstOf
-    first-found i =
-        let j : isFree (lifted up (natural clocks e)) ≡ false = rw (h .clock) at i in
-        let k = kept-first (lifted up (natural clocks e)) (firstOf clocks up rest) j in
-        rw w (record { clock = h .clock ∙ sym k; end = λ z. absurd (kept-some _ j (sym k ∙ z)) })
+-- an operand at a place, or its parent, has no clock, and it ends there
+pub record Passed (M : ℕ) (ts : List TagValue) (env : List ℕ) (up : Bool) (place end : ℕ) : Type 0 where
+  pub passed : (e : Expr) (q : ℕ) (clocks : Clocks) → tree M ts place ≡ got e q → Agrees env M clocks → (lifted up (natural clocks e) ≡ formed none) × (end ≡ q)
 
-    -- it ends where it says
-    pub first-end : isFree (naturalOf (f .natural)) ≡ true → f .end ≡ u
-    first-end i = h .end (sym (h .clock) ∙ free-none _ i)
+lifted-none : (up : Bool) (n : Natural) → n ≡ formed none → lifted up n ≡ formed none
+lifted-none true n i = rw i
+lifted-none false n i = i
 
-    pub rest-found : (r : Found) → isFree (naturalOf (f .natural)) ≡ true → Finds r (firstOf clocks up rest) q → Finds r (firstOf clocks up es) q
-    unfolding firstOf
-    rest-found r i k =
-        let j : lifted up (natural clocks e) ≡ formed none = sym (h .clock) ∙ free-none _ i in
-        rw (w, j) k
+module _ (M : ℕ) (ts : List TagValue) (env : List ℕ) (up : Bool) (place : ℕ) where
+  -- a leaf
+  pub passed-leaf : (end : ℕ) → place < end → ((N : ℕ) (e : Expr) (q : ℕ) (clocks : Clocks) → tree N ts place ≡ got e q → Agrees env N clocks → place < end → (natural clocks e ≡ formed none) × (end ≡ q)) → Passed M ts env up place end
+  passed-leaf end b F = record { passed = λ e q clocks g a. let f = F M e q clocks g a b in (lifted-none up (natural clocks e) (f .0), f .1) }
 
--- the same by what the code knows of the first operand
--- M is the number of names
-module _ (M : ℕ) (gs vs env : List ℕ) (same : length vs ≡ length gs) (up : Bool) (g : Gap) (n p place : ℕ) (z : n ≡ 0 → ⊥) (i : place ≡ operandAt (length gs) g p) (f : Found)
-    (F : (e : Expr) (q : ℕ) (clocks : Clocks) → tree M (tokens gs vs) place ≡ got e q → Agrees env M clocks → Finds f (lifted up (natural clocks e)) q)
-    (es : Exprs) (q : ℕ) (clocks : Clocks) (h : spread M g n (tree M) (tokens gs vs) p ≡ got es q) (a : Agrees env M clocks) where
-  pub walk-here : isFree (naturalOf (f .natural)) ≡ false → Finds f (firstOf clocks up es) q
-  walk-here j =
-      let s = apart M gs vs same g n p es q place z i h in
-      first-found clocks up es q (s .first) (s .rest) (s .whole) f (s .end) (F (s .first) (s .end) clocks (s .here) a) j
+  -- what was walked
+  pub passed-walk : (f : Found) → isFree (naturalOf (f .natural)) ≡ true → ((e : Expr) (q : ℕ) (clocks : Clocks) → tree M ts place ≡ got e q → Agrees env M clocks → Finds f (lifted up (natural clocks e)) q) → Passed M ts env up place (f .end)
+  passed-walk f i F = record { passed = λ e q clocks g a. let h = F e q clocks g a in let j : lifted up (natural clocks e) ≡ formed none = sym (h .clock) ∙ free-none _ i in (j, h .end j) }
 
-  module _ (j : isFree (naturalOf (f .natural)) ≡ true) (next : ℕ) (k : next ≡ restAt (length gs) g (f .end)) where
-    pub walk-past : p < next
-    walk-past =
-        let s = apart M gs vs same g n p es q place z i h in
-        let m = first-end clocks up es q (s .first) (s .rest) (s .whole) f (s .end) (F (s .first) (s .end) clocks (s .here) a) j in
-        let l : next ≡ restAt (length gs) g (s .end) = k ∙ ap (restAt (length gs) g) m in
-        rw l (s .past)
+-- the first of the operands that are left; M is the number of names
+module _ (M : ℕ) (gs vs env : List ℕ) (same : length vs ≡ length gs) (up : Bool) (g : Gap) (n p place : ℕ) (i : place ≡ operandAt (length gs) g p) (z : n ≡ 0 → ⊥) (q : ℕ) (clocks : Clocks) (a : Agrees env M clocks) (all : Natural) (h : Remains M (tokens gs vs) clocks up g n p q all) where
+  abbrev split : Apart M gs vs g n p (h .others) q place
+  split = apart M gs vs same g n p (h .others) q place z i (h .stand)
 
-    pub walk-rest : (l : Gap) (r : Found) → l ≡ later g →
-        ((es : Exprs) (q : ℕ) (clocks : Clocks) → spread M l (n - 1) (tree M) (tokens gs vs) next ≡ got es q → Agrees env M clocks → Finds r (firstOf clocks up es) q) → Finds r (firstOf clocks up es) q
-    walk-rest l r e R =
-        let s = apart M gs vs same g n p es q place z i h in
-        let u = F (s .first) (s .end) clocks (s .here) a in
-        let m = first-end clocks up es q (s .first) (s .rest) (s .whole) f (s .end) u j in
-        let y : next ≡ restAt (length gs) g (s .end) = k ∙ ap (restAt (length gs) g) m in
-        rest-found clocks up es q (s .first) (s .rest) (s .whole) f (s .end) u r j (R (s .rest) q clocks (rw (e, y) (s .others)) a)
+  whole : lifted up (natural clocks (split .first)) or firstOf clocks up (split .rest) ≡ all
+  unfolding firstOf
+  whole = ap (firstOf clocks up) (sym (split .whole)) ∙ h .same
+
+  -- it has a clock
+  pub remains-here : (f : Found) → isFree (naturalOf (f .natural)) ≡ false → ((e : Expr) (q : ℕ) (clocks : Clocks) → tree M (tokens gs vs) place ≡ got e q → Agrees env M clocks → Finds f (lifted up (natural clocks e)) q) → Finds f all q
+  remains-here f j F =
+      let r = F (split .first) (split .end) clocks (split .here) a in
+      let k : isFree (lifted up (natural clocks (split .first))) ≡ false = rw (r .clock) at j in
+      let m : lifted up (natural clocks (split .first)) ≡ all = sym (kept-first _ (firstOf clocks up (split .rest)) k) ∙ whole in
+      record { clock = r .clock ∙ m; end = λ e. absurd (kept-some _ k (m ∙ e)) }
+
+  -- it has none
+  module _ (end : ℕ) (b : Passed M (tokens gs vs) env up place end) (next : ℕ) (k : next ≡ restAt (length gs) g end) where
+    ends : next ≡ restAt (length gs) g (split .end)
+    ends = k ∙ ap (restAt (length gs) g) (b .passed (split .first) (split .end) clocks (split .here) a .1)
+
+    pub remains-past : p < next
+    remains-past = rw ends (split .past)
+
+    pub remains-rest : (l : Gap) → l ≡ later g → Remains M (tokens gs vs) clocks up l (n - 1) next q all
+    remains-rest l e =
+        let m = b .passed (split .first) (split .end) clocks (split .here) a .0 in
+        record { others = split .rest; stand = rw (e, ends) (split .others); same = rw m at whole }
 
 -- ---- an expression, by its role
 pub var-ends : (e : Expr) (x : ℕ) → e ≡ Expr.var x → operandsOf e ≡ Exprs.end

@@ -15,7 +15,6 @@ use Rattle.definitions.specs.Tokens.{given}
 use Rattle.definitions.specs.Tree.{Expr, Exprs}
 use Rattle.definitions.specs.Reading.{got}
 use Rattle.definitions.specs.InferClocks.{Natural, Clocks, clockOf, formed, _or_, natural, naturals}
-use Rattle.clock.specs.Value.{naturalOf}
 use Rattle.flat.specs.Flat.{clockIn}
 use Rattle.environment.specs.Environment.{envAt, Agrees}
 use Rattle.extents.specs.Owed.{follows, Owed}
@@ -24,10 +23,9 @@ use Rattle.extents.proofs.Owed.{owed-none, owed-step, owed-on}
 use Rattle.extents.proofs.Ends.{expr-part}
 use Rattle.extents.proofs.Marks.{bears, borne, expr-marks, marks-none, marks-found, marks-past}
 use Rattle.operands.specs.Spread.{tree}
-use Rattle.natural.specs.declared.Found.{Found}
 use Rattle.natural.specs.declared.Told.{Told}
-use Rattle.natural.specs.Natural.{isFree, Finds, listed, toldBy, Tells}
-use Rattle.natural.proofs.Laws.{free-none, kept-first, kept-some}
+use Rattle.natural.specs.Natural.{isFree, listed, toldBy, Tells}
+use Rattle.natural.proofs.Laws.{free-none, kept-first}
 
 -- ---- a token
 there-given : (b : Bool) (m : Mark) → there (given b m) ≡ b
@@ -130,30 +128,26 @@ module _ {env gs vs : List ℕ} {p : ℕ} where
     rest : Owed gs vs place owed q × Marks (listed env) gs vs place q (bears (clock-mark clocks M) e)
     rest = l .left q _ (expr-part gs vs same M 32 p e q g) (expr-marks (listed env) gs vs same M (clock-mark clocks M) (listed-mark clocks M env a) 32 p e q g)
 
-    pub left-none : owed ≤ 0 → (natural clocks e ≡ formed none) × (place ≡ q)
+    pub left-none : owed ≤ 0 → natural clocks e ≡ formed none
     left-none z =
         let i = owed-none (rest .0) (omega arith) in
-        (says-by clocks M e none (marks-none (rest .1) (omega arith)), i)
+        says-by clocks M e none (marks-none (rest .1) (omega arith))
 
-    pub left-found : (tag v : ℕ) (r : Told) → tag ≡ getD gs place 0 → v ≡ getD vs place 0 → 0 < owed → there (markOf (listed env) tag v) ≡ true → r ≡ toldBy tag v → Tells r env (natural clocks e) q
+    pub left-found : (tag v : ℕ) (r : Told) → tag ≡ getD gs place 0 → v ≡ getD vs place 0 → 0 < owed → there (markOf (listed env) tag v) ≡ true → r ≡ toldBy tag v → Tells r env (natural clocks e)
     left-found tag v r i j z h k = rw k (go (eqb tag 54) refl)
       where
-        go : (b : Bool) → eqb tag 54 ≡ b → Tells (choose b (Told.Name v) Told.Open) env (natural clocks e) q
+        go : (b : Bool) → eqb tag 54 ≡ b → Tells (choose b (Told.Name v) Told.Open) env (natural clocks e)
         go true u =
             let m : markOf (listed env) (getD gs place 0) (getD vs place 0) ≡ some (named v) = ap₂ (markOf (listed env)) (sym i) (sym j) ∙ name-marked (listed env) tag v (eqb-true tag 54 u) h in
             let n = owed-on (rest .0) in
             let s = says-by clocks M e (some (named v)) (marks-found (named v) (rest .1) (omega arith) m) in
-            (s .0 ∙ ap formed (sym (a .same v (s .2))), s .1)
+            s .0 ∙ ap formed (sym (a .same v (s .2)))
         go false u = tt
 
 -- ---- what is told, found
-module _ (t : Told) (env : List ℕ) (n : Natural) (q : ℕ) (h : Tells t env n q) (r : Found) where
-  pub told-free : (s : ℕ) → t ≡ Told.Free s → (naturalOf (r .natural) ≡ formed none) × (r .end ≡ s) → Finds r n q
-  told-free s i k =
-      let f = subst (λ (x : Told). Tells x env n q) i h in
-      record { clock = k .0 ∙ sym (f .0); end = λ z. k .1 ∙ f .1 }
+module _ (t : Told) (env : List ℕ) (n : Natural) (h : Tells t env n) (r : Natural) where
+  pub told-free : t ≡ Told.Free → r ≡ formed none → r ≡ n
+  told-free i k = k ∙ sym (subst (λ (x : Told). Tells x env n) i h)
 
-  pub told-name : (x : ℕ) → t ≡ Told.Name x → naturalOf (r .natural) ≡ formed (envAt env x) → Finds r n q
-  told-name x i k =
-      let f = subst (λ (y : Told). Tells y env n q) i h in
-      record { clock = k ∙ sym (f .0); end = λ z. absurd (kept-some n (f .1) z) }
+  pub told-name : (x : ℕ) → t ≡ Told.Name x → r ≡ formed (envAt env x) → r ≡ n
+  told-name x i k = k ∙ sym (subst (λ (y : Told). Tells y env n) i h)

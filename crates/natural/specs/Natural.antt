@@ -40,12 +40,12 @@ firstOf clocks up (Exprs.and e es) = lifted up (natural clocks e) or firstOf clo
 abbrev pub listed : List ℕ → ℕ → Bool
 listed env x = not (eqb (getD env (17 * x) 0) 0)
 
--- what the first token that gives a clock tells: "54 name(id)" is the first that has one
+-- what the first token that gives a clock tells: a "54 var(id)" is the first that has one
 abbrev pub toldBy : ℕ → ℕ → Told
 toldBy tag v = choose (eqb tag 54) (Told.Name v) Told.Open
 
--- what is told is so of the natural clock n of an expression that ends at q
-abbrev pub Tells : Told → List ℕ → Natural → ℕ → Type 0
-Tells (Told.Free end) env n q = (n ≡ formed none) × (end ≡ q)
-Tells (Told.Name x) env n q = (n ≡ formed (envAt env x)) × (isFree n ≡ false)
-Tells Told.Open env n q = Unit {0}
+-- what is told is so of the natural clock n
+abbrev pub Tells : Told → List ℕ → Natural → Type 0
+Tells Told.Free env n = n ≡ formed none
+Tells (Told.Name x) env n = n ≡ formed (envAt env x)
+Tells Told.Open env n = Unit {0}

@@ -23,20 +23,20 @@ ghost use Rattle.extents.specs.Marks.{markOf, there};
 ghost use Rattle.natural.specs.Natural.{isFree, Finds, lifted, firstOf, listed, toldBy, Tells};
 
 // A natural clock, and where what has none ends.
-pub struct Found {
-    pub natural: Natural,
-    pub end: usize,
+struct Found {
+    natural: Natural,
+    end: usize,
 }
 
-// What tokens tell of a natural clock: there is none, and where the expression ends; it is a name's; or no more.
+// What tokens tell of a natural clock: there is none; it is a name's; or no more.
 enum Told {
-    Free(usize),
+    Free,
     Name(u32),
     Open,
 }
 
 // Is there no clock?
-pub fn is_free(n: Natural) -> bool
+fn is_free(n: Natural) -> bool
     ensures { λ r. ⌜ r ≡ isFree (naturalOf n) ⌝ }
 {
     let p = n.presence;
@@ -106,7 +106,7 @@ fn free_leaf(tags: &[u8], values: &[u32], env: &[u32], at: usize) -> usize
     let leaf = operands::leaf_at(tags, values, at);
     match leaf {
         Leaf::Name(x, end) => {
-            let w = flat::word_at(env, 17 * (x as usize));
+            let w = flat::word_at(env, flat::WORDS * (x as usize));
             if w == 0 { end } else { at }
         }
         Leaf::Constant(end) => end,
@@ -154,14 +154,7 @@ fn found_at(tags: &[u8], values: &[u32], names: u32, env: &[u32], at: usize) -> 
 }
 
 // The natural clock of the operand that stands there, or the parent of it.
-pub fn operand_clock(
-    tags: &[u8],
-    values: &[u32],
-    names: u32,
-    env: &[u32],
-    up: bool,
-    at: usize,
-) -> Found
+fn operand_clock(tags: &[u8], values: &[u32], names: u32, env: &[u32], up: bool, at: usize) -> Found
     requires { ⌜ length (now values) ≡ length (now tags) ⌝ }
     ensures { λ r. ⌜ ((e : Expr) (q : ℕ) (clocks : Clocks) → tree names (tokens (now (tags .entry)) (now (values .entry))) at ≡ got e q → Agrees (now (env .entry)) names clocks → Finds r (lifted up (natural clocks e)) q) ⌝ }
 {
@@ -172,8 +165,8 @@ pub fn operand_clock(
     f
 }
 
-// The first clock among so many operands, or the first parent of one.
-pub fn first_found(
+// The first clock among so many operands, or the first parent of one; a loop, since a call an operand costs stack.
+fn first_found(
     tags: &[u8],
     values: &[u32],
     names: u32,
@@ -186,33 +179,31 @@ pub fn first_found(
     requires { ⌜ length (now values) ≡ length (now tags) ⌝ }
     ensures { λ r. ⌜ ((es : Exprs) (q : ℕ) (clocks : Clocks) → spread names gap count (tree names) (tokens (now (tags .entry)) (now (values .entry))) at ≡ got es q → Agrees (now (env .entry)) names clocks → Finds r (firstOf clocks up es) q) ⌝ }
 {
-    if count == 0 {
-        return nothing(at);
-    }
-    let place = operands::operand_at(tags, gap, at);
-    let free = free_leaf(tags, values, env, place);
-    if place < free {
-        let behind = operands::after_operand(tags, gap, free);
-        let past = behind.next;
-        let after = behind.gap;
-        if past <= at {
-            return nothing(at);
+    let mut left = count;
+    let mut from = at;
+    let mut between = gap;
+    while 0 < left {
+        let place = operands::operand_at(tags, between, from);
+        let mut end = free_leaf(tags, values, env, place);
+        if end <= place {
+            let f = operand_clock(tags, values, names, env, up, place);
+            let n = f.natural;
+            if is_free(n) {
+                end = f.end;
+            } else {
+                return f;
+            }
         }
-        return first_found(tags, values, names, env, up, after, count - 1, past);
-    }
-    let f = operand_clock(tags, values, names, env, up, place);
-    let n = f.natural;
-    if is_free(n) {
-        let end = f.end;
-        let rest = operands::after_operand(tags, gap, end);
+        let rest = operands::after_operand(tags, between, end);
         let next = rest.next;
-        let later = rest.gap;
-        if next <= at {
-            return nothing(at);
+        if next <= from {
+            return nothing(from);
         }
-        return first_found(tags, values, names, env, up, later, count - 1, next);
+        from = next;
+        between = rest.gap;
+        left -= 1;
     }
-    f
+    nothing(from)
 }
 
 // Can a token give a clock? A when or a merge does, and a name that has one.
@@ -220,7 +211,7 @@ fn gives(env: &[u32], tag: u8, value: u32) -> bool
     ensures { λ r. ⌜ r ≡ there (markOf (listed (now (env .entry))) tag value) ⌝ }
 {
     if tag == 54 {
-        let w = flat::word_at(env, 17 * (value as usize));
+        let w = flat::word_at(env, flat::WORDS * (value as usize));
         return w != 0;
     }
     extents::is_sample(tag)
@@ -239,7 +230,7 @@ fn told_by(tag: u8, value: u32) -> Told
 // What the tokens of the expression that stands there tell, up to the first that gives a clock.
 fn scanned(tags: &[u8], values: &[u32], env: &[u32], at: usize) -> Told
     requires { ⌜ length (now values) ≡ length (now tags) ⌝ }
-    ensures { λ r. ⌜ ((M : ℕ) (e : Expr) (q : ℕ) (clocks : Clocks) → tree M (tokens (now (tags .entry)) (now (values .entry))) at ≡ got e q → Agrees (now (env .entry)) M clocks → Tells r (now (env .entry)) (natural clocks e) q) ⌝ }
+    ensures { λ r. ⌜ ((M : ℕ) (e : Expr) (q : ℕ) (clocks : Clocks) → tree M (tokens (now (tags .entry)) (now (values .entry))) at ≡ got e q → Agrees (now (env .entry)) M clocks → Tells r (now (env .entry)) (natural clocks e)) ⌝ }
 {
     let table = extents::parts_table();
     let mut owed: usize = 1;
@@ -260,24 +251,21 @@ fn scanned(tags: &[u8], values: &[u32], env: &[u32], at: usize) -> Told
         owed = owed - 1 + (more as usize);
         place += 1;
     }
-    Told::Free(place)
+    Told::Free
 }
 
 // The natural clock of the expression that stands there. Its tokens tell most, since a walk of its operands costs much more.
-pub fn natural_clock(tags: &[u8], values: &[u32], names: u32, env: &[u32], at: usize) -> Found
+pub fn natural_clock(tags: &[u8], values: &[u32], names: u32, env: &[u32], at: usize) -> Natural
     requires { ⌜ length (now values) ≡ length (now tags) ⌝ }
-    ensures { λ r. ⌜ ((e : Expr) (q : ℕ) (clocks : Clocks) → tree names (tokens (now (tags .entry)) (now (values .entry))) at ≡ got e q → Agrees (now (env .entry)) names clocks → Finds r (natural clocks e) q) ⌝ }
+    ensures { λ r. ⌜ ((e : Expr) (q : ℕ) (clocks : Clocks) → tree names (tokens (now (tags .entry)) (now (values .entry))) at ≡ got e q → Agrees (now (env .entry)) names clocks → naturalOf r ≡ natural clocks e) ⌝ }
 {
     let told = scanned(tags, values, env, at);
     match told {
-        Told::Free(end) => nothing(end),
-        Told::Name(x) => {
-            let n = environment::lookup(env, x);
-            Found {
-                natural: n,
-                end: at,
-            }
+        Told::Free => clock::free(),
+        Told::Name(x) => environment::lookup(env, x),
+        Told::Open => {
+            let f = found_at(tags, values, names, env, at);
+            f.natural
         }
-        Told::Open => found_at(tags, values, names, env, at),
     }
 }

@@ -9,7 +9,7 @@ use lib.Dec.{ltb}
 use Rattle.definitions.specs.declared.Condition.{Condition}
 use Rattle.definitions.specs.Lists.{any, all}
 use Rattle.definitions.specs.Tree.{Expr, Exprs}
-use Rattle.definitions.specs.Clock.{Clock, _/_, depth, deepest, parent, isOn, isNot, endsIn}
+use Rattle.definitions.specs.Clock.{Clock, _↓_, depth, deepest, parent, isOn, isNot, endsIn}
 use Rattle.definitions.specs.InferClocks.{Clocks, Fault, NodeFault, Finding, found, site, tooDeep, isTooDeep, clockFaults, oneDown, onNatural, mustBeOn, whenElsewhere, clockNameElsewhere, natural, check, checks}
 use Rattle.needs.specs.Need.{within, withins}
 
@@ -61,12 +61,8 @@ module _ (clocks : Clocks) (i : ℕ) where
     sites-within (Expr.arrow a b) c h = let s = sites-split (check clocks i c a) (check clocks i c b) h in and-of (within c a) (within c b) (sites-within a c (s .0)) (sites-within b c (s .1))
     sites-within (Expr.call f es) c h = all-within es c h
     sites-within (Expr.when k e) c h = when-step (endsIn k c) (mustBeOn clocks i (parent c) (k .name) (λ d. clockNameElsewhere (k .name) d (parent c))) (check clocks i (parent c) e) (onNatural (natural clocks e) (λ d. check clocks i d e)) (record { equation = i; fault = whenElsewhere k c }) (within (parent c) e) (λ g. sites-within e (parent c) g) h
-    sites-within (Expr.merge x a b) c h = merge-step (ltb (depth c) deepest) (mustBeOn clocks i c x (λ d. clockNameElsewhere x d c)) (check clocks i (c / isOn x) a) (check clocks i (c / isNot x) b) (within (c / isOn x) a) (within (c / isNot x) b) (λ g. sites-within a (c / isOn x) g) (λ g. sites-within b (c / isNot x) g) h
+    sites-within (Expr.merge x a b) c h = merge-step (ltb (depth c) deepest) (mustBeOn clocks i c x (λ d. clockNameElsewhere x d c)) (check clocks i (c ↓ isOn x) a) (check clocks i (c ↓ isNot x) b) (within (c ↓ isOn x) a) (within (c ↓ isNot x) b) (λ g. sites-within a (c ↓ isOn x) g) (λ g. sites-within b (c ↓ isNot x) g) h
 
     all-within : (es : Exprs) (c : Clock) → all isSite (checks clocks i c es) ≡ true → withins c c es ≡ true
     all-within Exprs.end c h = refl
     all-within (Exprs.and e es) c h = let s = sites-split (check clocks i c e) (checks clocks i c es) h in and-of (within c e) (withins c c es) (sites-within e c (s .0)) (all-within es c (s .1))
-
-  -- THE LAW: an expression in which checking finds nothing amiss has no clock of more than eight conditions
-  pub checked-within : (c : Clock) (e : Expr) → any isTooDeep (check clocks i c e) ≡ false → clockFaults (check clocks i c e) ≡ [] → within c e ≡ true
-  checked-within c e h k = sites-within e c (only-sites (check clocks i c e) h k)

@@ -1,8 +1,9 @@
 -- What an expression needs, from what its operands need.
 -- Assumes nothing.
-use Prim.Native.Nat.{ℕ, zero, suc, _+_, _-_, _≤_, _<_}
+use Prim.Native.Nat.{ℕ, zero, suc, _+_, _-_, _*_, _≤_, _<_}
 use mathlib.Core.Path.{_≡_, refl, sym, _∙_, ap, subst}
 use mathlib.Core.List.{List, [], _∷_}
+use mathlib.Core.Logic.{inl}
 use mathlib.Core.Bool.{Bool, true, false, _&&_}
 use native.Mathlib.Omega.{arith}
 use lib.Dec.{ltb}
@@ -15,8 +16,8 @@ use Rattle.definitions.specs.Bytes.{tokens}
 use Rattle.definitions.specs.Tokens.{TagValue}
 use Rattle.definitions.specs.Tree.{Head, Expr, Exprs, Node}
 use Rattle.definitions.specs.Reading.{got}
-use Rattle.definitions.specs.Clock.{Clock, base, _/_, depth, deepest, parent, isOn, isNot, isBase}
-use Rattle.definitions.specs.Declock.{operatorOutputs, add, addWithParents}
+use Rattle.definitions.specs.Clock.{Clock, base, _↓_, depth, deepest, parent, isOn, isNot, isBase}
+use Rattle.definitions.specs.Declock.{clockPlace, operatorOutputs, add, addWithParents}
 use Rattle.clock.specs.Value.{clockAt, capped}
 use Rattle.clock.proofs.Laws.{depth-at, clock-push}
 use Rattle.operands.specs.declared.Gap.{Gap}
@@ -28,8 +29,8 @@ use Rattle.operands.specs.Leaf.{leafAt}
 use Rattle.operands.proofs.Laws.{spread-nil}
 use Rattle.operands.proofs.Roles.{Among}
 use Rattle.operands.proofs.Leaves.{leaf-says, IsConstant}
-use Rattle.natural.proofs.Laws.{Apart, apart}
-use Rattle.rows.specs.Rows.{Has}
+use Rattle.operands.proofs.Apart.{Apart, apart}
+use Rattle.rows.specs.Rows.{clocksIn, RowsHold}
 use Rattle.callees.specs.Callees.{isThere}
 use Rattle.needs.specs.declared.Counts.{Counts}
 use Rattle.needs.specs.declared.Turn.{Turn}
@@ -54,7 +55,7 @@ both-true false b h = h
 
 -- ---- clocks
 -- one condition more
-pub branch-on : (ks : List Condition) (d : ℕ) (k : Condition) → length ks ≡ 8 → d < 8 → clockAt (set ks d k) (capped (d + 1)) ≡ clockAt ks (capped d) / k
+pub branch-on : (ks : List Condition) (d : ℕ) (k : Condition) → length ks ≡ 8 → d < 8 → clockAt (set ks d k) (capped (d + 1)) ≡ clockAt ks (capped d) ↓ k
 branch-on ks d k n l =
     let e : capped d ≡ d = omega arith in
     let f : capped (d + 1) ≡ d + 1 = omega arith in
@@ -74,10 +75,10 @@ module _ (v : Role) (c r : Clock) (room : roomFor v c ≡ true) where
   pub rest-sample : (k : Condition) → v ≡ Role.Sample k → r ≡ parent c → r ≡ restOn v c
   rest-sample k i j = rw i j
 
-  pub here-join : (x : ℕ) → v ≡ Role.Join x → (depth c < 8 → r ≡ c / isOn x) → r ≡ hereOn v c
+  pub here-join : (x : ℕ) → v ≡ Role.Join x → (depth c < 8 → r ≡ c ↓ isOn x) → r ≡ hereOn v c
   here-join x i j = let h : ltb (depth c) deepest ≡ true = rw i at room in rw i (j (ltb-true (depth c) 8 h))
 
-  pub rest-join : (x : ℕ) → v ≡ Role.Join x → (depth c < 8 → r ≡ c / isNot x) → r ≡ restOn v c
+  pub rest-join : (x : ℕ) → v ≡ Role.Join x → (depth c < 8 → r ≡ c ↓ isNot x) → r ≡ restOn v c
   rest-join x i j = let h : ltb (depth c) deepest ≡ true = rw i at room in rw i (j (ltb-true (depth c) 8 h))
 
 pub here-plain : (v : Role) (c : Clock) → Among plain v → c ≡ hereOn v c
@@ -201,11 +202,11 @@ module _ (t u t₁ u₁ : List ℕ) (s : Counts) (c : Clock) (y : Needs) (a : Co
   pub settle-keep : v ≡ Turn.Keep → Counted t u s (settled v c y)
   settle-keep i = rw i a
 
-  module _ (n : ℕ) (f : (cs : List Clock) → Has t (s .flags) cs → Has t₁ n (addWithParents c cs)) where
+  module _ (n : ℕ) (f : (cs : List Clock) → RowsHold t (s .flags) cs → RowsHold t₁ n (addWithParents c cs)) where
     pub settle-hold : (m : ℕ) → v ≡ Turn.Hold → m ≡ oneMore (s .holds) → Counted t₁ u (record { flags = n; firsts = s .firsts; holds = m; condact = s .condact }) (settled v c y)
     settle-hold m i j = rw i (record { flagged = f _ (a .flagged); first-flagged = a .first-flagged; held = omega (arith, j, a .held); gated = a .gated })
 
-    pub settle-first : (m : ℕ) → v ≡ Turn.First → ((cs : List Clock) → Has u (s .firsts) cs → Has u₁ m (add c cs)) → Counted t₁ u₁ (record { flags = n; firsts = m; holds = s .holds; condact = s .condact }) (settled v c y)
+    pub settle-first : (m : ℕ) → v ≡ Turn.First → ((cs : List Clock) → RowsHold u (s .firsts) cs → RowsHold u₁ m (add c cs)) → Counted t₁ u₁ (record { flags = n; firsts = m; holds = s .holds; condact = s .condact }) (settled v c y)
     settle-first m i g = rw i (record { flagged = f _ (a .flagged); first-flagged = g _ (a .first-flagged); held = a .held; gated = a .gated })
 
     pub settle-gate : v ≡ Turn.Gate → Counted t₁ u (record { flags = n; firsts = s .firsts; holds = s .holds; condact = true }) (settled v c y)
@@ -271,7 +272,7 @@ within-room c (Expr.pre a) h = refl
 within-room c (Expr.arrow a b) h = refl
 within-room c (Expr.call f es) h = refl
 within-room c (Expr.when k a) h = refl
-within-room c (Expr.merge x a b) h = left-of (ltb (depth c) deepest) (within (c / isOn x) a && within (c / isNot x) b) h
+within-room c (Expr.merge x a b) h = left-of (ltb (depth c) deepest) (within (c ↓ isOn x) a && within (c ↓ isNot x) b) h
 
 within-parts : (c : Clock) (e : Expr) → within c e ≡ true → withins (hereOn (roleOfExpr e) c) (restOn (roleOfExpr e) c) (operandsOf e) ≡ true
 unfolding within roleOfExpr operandsOf
@@ -282,7 +283,7 @@ within-parts c (Expr.pre a) h = and-true (within c a) h
 within-parts c (Expr.arrow a b) h = both-true (within c a) (within c b) h
 within-parts c (Expr.call f es) h = h
 within-parts c (Expr.when k a) h = and-true (within (parent c) a) h
-within-parts c (Expr.merge x a b) h = both-true (within (c / isOn x) a) (within (c / isNot x) b) (right-of (ltb (depth c) deepest) (within (c / isOn x) a && within (c / isNot x) b) h)
+within-parts c (Expr.merge x a b) h = both-true (within (c ↓ isOn x) a) (within (c ↓ isNot x) b) (right-of (ltb (depth c) deepest) (within (c ↓ isOn x) a && within (c ↓ isNot x) b) h)
 
 -- by what the code knows of its clocks and its turn
 module _ (l : List Node) (c here rest : Clock) (v : Role) (e : Expr) (i : v ≡ roleOfExpr e) (w : within c e ≡ true) (H : roomFor v c ≡ true → here ≡ hereOn v c) (R : roomFor v c ≡ true → rest ≡ restOn v c) where
@@ -368,3 +369,8 @@ module _ (M : ℕ) (gs vs : List ℕ) (same : length vs ≡ length gs) (g : Gap)
           counted = walked .0;
           same = ap (λ (es : Exprs). neededAll l on rest es (h .so-far)) (sym (split .whole)) ∙ h .same;
         }
+
+-- ---- the id of a flag
+pub flag-there : (rows ids : List ℕ) (n : ℕ) (c : Clock) (p r : ℕ) → ((cs : List Clock) → 17 * n ≤ length rows → RowsHold rows n cs → p ≡ clockPlace c cs) → r ≡ getD ids p 0 → 17 * n ≤ length rows → r ≡ getD ids (clockPlace c (clocksIn rows n)) 0
+unfolding RowsHold
+flag-there rows ids n c p r f e h = e ∙ ap (λ (i : ℕ). getD ids i 0) (f (clocksIn rows n) h (inl (h, refl)))

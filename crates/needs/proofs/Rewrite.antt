@@ -9,7 +9,7 @@ use native.Mathlib.Omega.{arith}
 use lib.ListN.{length, length-append}
 use Rattle.definitions.specs.Lists.{choose}
 use Rattle.definitions.specs.Tree.{Ty, Declared, TypeDef, Expr, Exprs, Node}
-use Rattle.definitions.specs.Clock.{Clock, base, _/_, parent, isOn, isNot, isBase}
+use Rattle.definitions.specs.Clock.{Clock, base, _↓_, parent, isOn, isNot, isBase}
 use Rattle.definitions.specs.Types.{default}
 use Rattle.definitions.specs.InferClocks.{Fault, preUntyped, noOutputDefault}
 use Rattle.definitions.specs.Declock.{State, Hold, Rewritten, stopped, done, Rewriter, after, need as require, clockPlace, addWithParents, Stem, ck, hold, flag, firstFlag, newHold, gated, outputDefaults, operatorOutputs, callOn, heldPre, preOn, arrowOn, rewrite, rewrites, Shape, bare, other, calls, shapeOf, operandType, declared, ifOf}
@@ -52,18 +52,18 @@ module _ (types : List TypeDef) (nodes : List Node) (new : Stem → ℕ → ℕ)
   call-leaves : (c : Clock) (f : ℕ) (es : Exprs) (s : State) (w : Needs) → needsOf s ≡ w → Leaves (settled (callTurn c (isThere (operatorOutputs nodes f))) c w) (callOn types nodes new condact node i c f es s)
   unfolding callOn Leaves flag gated
   call-leaves base f es s w h = h
-  call-leaves (c / k) f es s w h = go (operatorOutputs nodes f)
+  call-leaves (c ↓ k) f es s w h = go (operatorOutputs nodes f)
     where
-      go : (o : Option (List Declared)) → Leaves (settled (callTurn (c / k) (isThere o)) (c / k) w)
-          ((elim o as (λ x. Rewriter Expr) [ none ↦ (λ s. done (Expr.call f es) s) | some outputs ↦ (λ s. after (flag new (c / k) s) (λ a s₁. after (outputDefaults types nodes new condact node i f outputs s₁) (λ ds s₂. gated condact a (Expr.call f es) ds s₂))) ]) s)
+      go : (o : Option (List Declared)) → Leaves (settled (callTurn (c ↓ k) (isThere o)) (c ↓ k) w)
+          ((elim o as (λ x. Rewriter Expr) [ none ↦ (λ s. done (Expr.call f es) s) | some outputs ↦ (λ s. after (flag new (c ↓ k) s) (λ a s₁. after (outputDefaults types nodes new condact node i f outputs s₁) (λ ds s₂. gated condact a (Expr.call f es) ds s₂))) ]) s)
       go none = h
-      go (some ds) = leaves-after (withFlag (c / k) w) (withGate (c / k) w) (outputDefaults types nodes new condact node i f ds _) _ (outputs-leave f ds _ (withFlag (c / k) w) (ap (withFlag (c / k)) h)) (λ es s₂ e. ap (λ (n : Needs). record { flags = n .flags; firsts = n .firsts; holds = n .holds; condact = true }) e)
+      go (some ds) = leaves-after (withFlag (c ↓ k) w) (withGate (c ↓ k) w) (outputDefaults types nodes new condact node i f ds _) _ (outputs-leave f ds _ (withFlag (c ↓ k) w) (ap (withFlag (c ↓ k)) h)) (λ es s₂ e. ap (λ (n : Needs). record { flags = n .flags; firsts = n .firsts; holds = n .holds; condact = true }) e)
 
   -- a `->`
   arrow-leaves : (c : Clock) (a b : Expr) (s : State) (w : Needs) → needsOf s ≡ w → Leaves (settled (arrowTurn c) c w) (arrowOn types nodes new condact node i c a b s)
   unfolding arrowOn firstFlag Leaves
   arrow-leaves base a b s w h = h
-  arrow-leaves (c / k) a b s w h = ap (withFirst (c / k)) h
+  arrow-leaves (c ↓ k) a b s w h = ap (withFirst (c ↓ k)) h
 
   -- a `pre` that is held
   held-leaves : (c : Clock) (e f : Expr) (s : State) (w : Needs) → needsOf s ≡ w → Leaves (withHold c w) (heldPre types nodes new condact node i c e f s)
@@ -84,14 +84,14 @@ module _ (types : List TypeDef) (nodes : List Node) (new : Stem → ℕ → ℕ)
   pre-leaves base (Expr.call g es) f s w h = h
   pre-leaves base (Expr.when k a) f s w h = h
   pre-leaves base (Expr.merge x a b) f s w h = h
-  pre-leaves (c / j) (Expr.const l x) f s w h = held-leaves (c / j) (Expr.const l x) f s w h
-  pre-leaves (c / j) (Expr.var x) f s w h = h
-  pre-leaves (c / j) (Expr.op o es) f s w h = held-leaves (c / j) (Expr.op o es) f s w h
-  pre-leaves (c / j) (Expr.pre a) f s w h = held-leaves (c / j) (Expr.pre a) f s w h
-  pre-leaves (c / j) (Expr.arrow a b) f s w h = held-leaves (c / j) (Expr.arrow a b) f s w h
-  pre-leaves (c / j) (Expr.call g es) f s w h = held-leaves (c / j) (Expr.call g es) f s w h
-  pre-leaves (c / j) (Expr.when k a) f s w h = held-leaves (c / j) (Expr.when k a) f s w h
-  pre-leaves (c / j) (Expr.merge x a b) f s w h = held-leaves (c / j) (Expr.merge x a b) f s w h
+  pre-leaves (c ↓ j) (Expr.const l x) f s w h = held-leaves (c ↓ j) (Expr.const l x) f s w h
+  pre-leaves (c ↓ j) (Expr.var x) f s w h = h
+  pre-leaves (c ↓ j) (Expr.op o es) f s w h = held-leaves (c ↓ j) (Expr.op o es) f s w h
+  pre-leaves (c ↓ j) (Expr.pre a) f s w h = held-leaves (c ↓ j) (Expr.pre a) f s w h
+  pre-leaves (c ↓ j) (Expr.arrow a b) f s w h = held-leaves (c ↓ j) (Expr.arrow a b) f s w h
+  pre-leaves (c ↓ j) (Expr.call g es) f s w h = held-leaves (c ↓ j) (Expr.call g es) f s w h
+  pre-leaves (c ↓ j) (Expr.when k a) f s w h = held-leaves (c ↓ j) (Expr.when k a) f s w h
+  pre-leaves (c ↓ j) (Expr.merge x a b) f s w h = held-leaves (c ↓ j) (Expr.merge x a b) f s w h
 
   mutual
     unfolding rewrite needed Leaves
@@ -104,7 +104,7 @@ module _ (types : List TypeDef) (nodes : List Node) (new : Stem → ℕ → ℕ)
     rewrite-leaves (Expr.arrow a b) c s w h = leaves-after _ _ (rewrite types nodes new condact node i c a s) _ (rewrite-leaves a c s w h) (λ d s₁ k. leaves-after _ _ (rewrite types nodes new condact node i c b s₁) _ (rewrite-leaves b c s₁ _ k) (λ e s₂ m. arrow-leaves c d e s₂ _ m))
     rewrite-leaves (Expr.call f es) c s w h = leaves-after _ _ (rewrites types nodes new condact node i c es s) _ (rewrites-leave es c s w h) (λ fs s₁ k. call-leaves c f fs s₁ _ k)
     rewrite-leaves (Expr.when k e) c s w h = rewrite-leaves e (parent c) s w h
-    rewrite-leaves (Expr.merge x a b) c s w h = leaves-after _ _ (rewrite types nodes new condact node i (c / isOn x) a s) _ (rewrite-leaves a (c / isOn x) s w h) (λ d s₁ k. leaves-after _ _ (rewrite types nodes new condact node i (c / isNot x) b s₁) _ (rewrite-leaves b (c / isNot x) s₁ _ k) (λ e s₂ m. m))
+    rewrite-leaves (Expr.merge x a b) c s w h = leaves-after _ _ (rewrite types nodes new condact node i (c ↓ isOn x) a s) _ (rewrite-leaves a (c ↓ isOn x) s w h) (λ d s₁ k. leaves-after _ _ (rewrite types nodes new condact node i (c ↓ isNot x) b s₁) _ (rewrite-leaves b (c ↓ isNot x) s₁ _ k) (λ e s₂ m. m))
 
     rewrites-leave : (es : Exprs) (c : Clock) (s : State) (w : Needs) → needsOf s ≡ w → Leaves (neededAll nodes c c es w) (rewrites types nodes new condact node i c es s)
     rewrites-leave Exprs.end c s w h = h

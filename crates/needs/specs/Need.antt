@@ -7,10 +7,11 @@ use lib.Dec.{ltb}
 use lib.ListN.{length}
 use Rattle.definitions.specs.Lists.{choose}
 use Rattle.definitions.specs.Tree.{Expr, Exprs, Node}
-use Rattle.definitions.specs.Clock.{Clock, base, _/_, deepest, depth, parent, isOn, isNot, isBase}
+use Rattle.definitions.specs.Clock.{Clock, base, _↓_, deepest, depth, parent, isOn, isNot, isBase}
 use Rattle.definitions.specs.Declock.{State, add, addWithParents, operatorOutputs}
+use Rattle.operands.specs.declared.Leaf.{Leaf}
 use Rattle.operands.specs.declared.Role.{Role}
-use Rattle.rows.specs.Rows.{Has}
+use Rattle.rows.specs.Rows.{RowsHold}
 use Rattle.callees.specs.Callees.{isThere}
 use Rattle.needs.specs.declared.Counts.{Counts}
 use Rattle.needs.specs.declared.Turn.{Turn}
@@ -56,6 +57,12 @@ isBare (Expr.call f es) = false
 isBare (Expr.when k e) = false
 isBare (Expr.merge x a b) = false
 
+-- where a leaf ends, 0 for what is none
+abbrev pub leafEnd : Leaf → ℕ
+leafEnd (Leaf.Name x s) = s
+leafEnd (Leaf.Constant s) = s
+leafEnd Leaf.Other = 0
+
 -- is it a name or a constant?
 abbrev pub isLeaf : Expr → Bool
 isLeaf (Expr.const l w) = true
@@ -82,7 +89,7 @@ abbrev pub hereOn : Role → Clock → Clock
 hereOn Role.Constant c = c
 hereOn (Role.Name x) c = c
 hereOn (Role.Sample k) c = parent c
-hereOn (Role.Join x) c = c / isOn x
+hereOn (Role.Join x) c = c ↓ isOn x
 hereOn Role.Previous c = c
 hereOn Role.Follow c = c
 hereOn (Role.Call f) c = c
@@ -93,7 +100,7 @@ abbrev pub restOn : Role → Clock → Clock
 restOn Role.Constant c = c
 restOn (Role.Name x) c = c
 restOn (Role.Sample k) c = parent c
-restOn (Role.Join x) c = c / isNot x
+restOn (Role.Join x) c = c ↓ isNot x
 restOn Role.Previous c = c
 restOn Role.Follow c = c
 restOn (Role.Call f) c = c
@@ -122,7 +129,7 @@ unfoldable mutual
   within c (Expr.arrow a b) = within c a && within c b
   within c (Expr.call f es) = withins c c es
   within c (Expr.when k e) = within (parent c) e
-  within c (Expr.merge x a b) = ltb (depth c) deepest && (within (c / isOn x) a && within (c / isNot x) b)
+  within c (Expr.merge x a b) = ltb (depth c) deepest && (within (c ↓ isOn x) a && within (c ↓ isNot x) b)
 
   -- below operands, of which the first is on c and the others on d
   pub withins : Clock → Clock → Exprs → Bool
@@ -154,7 +161,7 @@ module _ (nodes : List Node) where
     needed c (Expr.arrow a b) s = settled (arrowTurn c) c (needed c b (needed c a s))
     needed c (Expr.call f es) s = settled (callTurn c (isThere (operatorOutputs nodes f))) c (neededAll c c es s)
     needed c (Expr.when k e) s = needed (parent c) e s
-    needed c (Expr.merge x a b) s = needed (c / isNot x) b (needed (c / isOn x) a s)
+    needed c (Expr.merge x a b) s = needed (c ↓ isNot x) b (needed (c ↓ isOn x) a s)
 
     -- after operands, of which the first is on c and the others on d
     pub neededAll : Clock → Clock → Exprs → Needs → Needs
@@ -170,7 +177,7 @@ oneMore n = mostHolds - (mostHolds - (n + 1))
 
 -- two tables and counts say what is needed
 pub record Counted (flags firsts : List ℕ) (n : Counts) (s : Needs) : Type 0 where
-  pub flagged : Has flags (n .flags) (s .flags)
-  pub first-flagged : Has firsts (n .firsts) (s .firsts)
+  pub flagged : RowsHold flags (n .flags) (s .flags)
+  pub first-flagged : RowsHold firsts (n .firsts) (s .firsts)
   pub held : n .holds ≡ mostHolds - (mostHolds - s .holds)
   pub gated : n .condact ≡ s .condact

@@ -3,6 +3,7 @@
 // `places` has the places of the sheet's nodes, `nodes` is how many there are; `names` is the number of names.
 use clock::Clock;
 use definitions::Condition;
+use definitions::MOST_NODES;
 use definitions::Test;
 use operands::Gap;
 use operands::Leaf;
@@ -10,18 +11,21 @@ use operands::Role;
 ghost use mathlib.Core.Path.{_≡_};
 ghost use mathlib.Core.List.{List};
 ghost use mathlib.Core.Bool.{true};
-ghost use Prim.Native.Nat.{ℕ, _≤_, _<_};
-ghost use lib.ListN.{length};
+ghost use Prim.Native.Nat.{ℕ, _*_, _≤_, _<_};
+ghost use lib.ListN.{length, getD};
 ghost use Rattle.definitions.specs.Bytes.{tokens};
 ghost use Rattle.definitions.specs.Tree.{Expr, Exprs, Node};
 ghost use Rattle.definitions.specs.Reading.{got};
-ghost use Rattle.definitions.specs.Clock.{depth, _/_};
+ghost use Rattle.definitions.specs.Clock.{depth, _↓_};
+ghost use Rattle.definitions.specs.Declock.{clockPlace};
 ghost use Rattle.clock.specs.Value.{valueOf};
 ghost use Rattle.operands.specs.declared.Role.{Role};
+ghost use Rattle.operands.specs.Leaf.{leafAt};
 ghost use Rattle.operands.specs.Role.{roleOfExpr};
 ghost use Rattle.operands.specs.Spread.{tree, spread};
-ghost use Rattle.callees.specs.Callees.{Standing};
-ghost use Rattle.needs.specs.Need.{Needs, mostHolds, oneMore, isBare, isLeaf, settled, turnOf, hereOn, restOn, roomFor, needed, neededAll, within, withins, Counted};
+ghost use Rattle.rows.specs.Rows.{clocksIn};
+ghost use Rattle.callees.specs.Callees.{NodesStand};
+ghost use Rattle.needs.specs.Need.{Needs, mostHolds, oneMore, isBare, isLeaf, leafEnd, settled, turnOf, hereOn, restOn, roomFor, needed, neededAll, within, withins, Counted};
 
 // How many clocks each table has, how many holds there are, whether `condact` is needed.
 pub struct Counts {
@@ -32,7 +36,7 @@ pub struct Counts {
 }
 
 // What is needed so far, and where what was walked ends.
-pub struct Walked {
+pub struct NeededTo {
     pub counts: Counts,
     pub end: usize,
 }
@@ -62,6 +66,7 @@ pub fn is_bare(tags: &[u8], values: &[u32], names: u32, at: usize) -> bool
 pub fn leaf_end(tags: &[u8], values: &[u32], at: usize) -> usize
     requires { ⌜ length (now values) ≡ length (now tags) ⌝ }
     ensures { λ r. ⌜ ((names : ℕ) (e : Expr) (q : ℕ) → tree names (tokens (now (tags .entry)) (now (values .entry))) at ≡ got e q → 0 < r → (isLeaf e ≡ true) × (r ≡ q)) ⌝ }
+    ensures { λ r. ⌜ r ≡ leafEnd (leafAt (length (now (tags .entry))) (getD (now (tags .entry)) at 0) (getD (now (values .entry)) at 0) at) ⌝ }
 {
     let leaf = operands::leaf_at(tags, values, at);
     match leaf {
@@ -71,9 +76,17 @@ pub fn leaf_end(tags: &[u8], values: &[u32], at: usize) -> usize
     }
 }
 
+// The id of a clock's flag: it stands at the clock's place among the n clocks with flags.
+pub fn flag_id(rows: &[u32], n: usize, ids: &[u32], c: Clock) -> u32
+    ensures { λ r. ⌜ (17 * n ≤ length (now (rows .entry)) → r ≡ getD (now (ids .entry)) (clockPlace (valueOf c) (clocksIn (now (rows .entry)) n)) 0) ⌝ }
+{
+    let place = rows::find(rows, n, c);
+    flat::word_at(ids, place)
+}
+
 // The clock of the branch of a merge by this name with this test, over one that has fewer than eight conditions.
 fn branch(c: Clock, x: u32, test: Test) -> Clock
-    ensures { λ r. ⌜ (depth (valueOf c) < 8 → valueOf r ≡ valueOf c / record { name = x; test = test }) ⌝ }
+    ensures { λ r. ⌜ (depth (valueOf c) < 8 → valueOf r ≡ valueOf c ↓ record { name = x; test = test }) ⌝ }
 {
     let d = c.depth;
     if d < 8 {
@@ -115,7 +128,7 @@ pub fn turn_of(
     tags: &[u8],
     values: &[u32],
     names: u32,
-    places: &[usize; 16],
+    places: &[usize; MOST_NODES],
     nodes: usize,
     role: Role,
     c: Clock,
@@ -123,7 +136,7 @@ pub fn turn_of(
 ) -> Turn
     requires { ⌜ length (now values) ≡ length (now tags) ⌝ }
     requires { ⌜ nodes ≤ 16 ⌝ }
-    ensures { λ r. ⌜ ((e : Expr) (l : List Node) → role ≡ roleOfExpr e → Standing names (now (tags .entry)) (now (values .entry)) (now (places .entry)) nodes l → ((a : Expr) → e ≡ Expr.pre a → (u : ℕ) × (tree names (tokens (now (tags .entry)) (now (values .entry))) place ≡ got a u)) → r ≡ turnOf l (valueOf c) e) ⌝ }
+    ensures { λ r. ⌜ ((e : Expr) (l : List Node) → role ≡ roleOfExpr e → NodesStand names (now (tags .entry)) (now (values .entry)) (now (places .entry)) nodes l → ((a : Expr) → e ≡ Expr.pre a → (u : ℕ) × (tree names (tokens (now (tags .entry)) (now (values .entry))) place ≡ got a u)) → r ≡ turnOf l (valueOf c) e) ⌝ }
 {
     let plain = clock::is_base(c);
     match role {
@@ -154,7 +167,7 @@ fn one_more(n: u32) -> u32
 }
 
 // What is needed then.
-pub fn settle(flags: &mut [u32], firsts: &mut [u32], t: Turn, c: Clock, s: Counts) -> Counts
+fn settle(flags: &mut [u32], firsts: &mut [u32], t: Turn, c: Clock, s: Counts) -> Counts
     ensures { λ r. ⌜ length (now (flags .exit)) ≡ length (now (flags .entry)) ⌝ }
     ensures { λ r. ⌜ length (now (firsts .exit)) ≡ length (now (firsts .entry)) ⌝ }
     ensures { λ r. ⌜ ((y : Needs) → Counted (now (flags .entry)) (now (firsts .entry)) s y → Counted (now (flags .exit)) (now (firsts .exit)) r (settled t (valueOf c) y)) ⌝ }
@@ -202,19 +215,19 @@ pub fn need(
     tags: &[u8],
     values: &[u32],
     names: u32,
-    places: &[usize; 16],
+    places: &[usize; MOST_NODES],
     nodes: usize,
     flags: &mut [u32],
     firsts: &mut [u32],
     c: Clock,
     s: Counts,
     at: usize,
-) -> Walked
+) -> NeededTo
     requires { ⌜ length (now values) ≡ length (now tags) ⌝ }
     requires { ⌜ nodes ≤ 16 ⌝ }
     ensures { λ r. ⌜ length (now (flags .exit)) ≡ length (now (flags .entry)) ⌝ }
     ensures { λ r. ⌜ length (now (firsts .exit)) ≡ length (now (firsts .entry)) ⌝ }
-    ensures { λ r. ⌜ ((e : Expr) (q : ℕ) (l : List Node) (y : Needs) → tree names (tokens (now (tags .entry)) (now (values .entry))) at ≡ got e q → within (valueOf c) e ≡ true → Standing names (now (tags .entry)) (now (values .entry)) (now (places .entry)) nodes l → Counted (now (flags .entry)) (now (firsts .entry)) s y → Counted (now (flags .exit)) (now (firsts .exit)) (r .counts) (needed l (valueOf c) e y) × (r .end ≡ q)) ⌝ }
+    ensures { λ r. ⌜ ((e : Expr) (q : ℕ) (l : List Node) (y : Needs) → tree names (tokens (now (tags .entry)) (now (values .entry))) at ≡ got e q → within (valueOf c) e ≡ true → NodesStand names (now (tags .entry)) (now (values .entry)) (now (places .entry)) nodes l → Counted (now (flags .entry)) (now (firsts .entry)) s y → Counted (now (flags .exit)) (now (firsts .exit)) (r .counts) (needed l (valueOf c) e y) × (r .end ≡ q)) ⌝ }
 {
     let v = operands::view_at(tags, values, names, at);
     let first = v.first;
@@ -222,7 +235,7 @@ pub fn need(
     let gap = v.gap;
     let role = v.role;
     if first <= at {
-        return Walked { counts: s, end: at };
+        return NeededTo { counts: s, end: at };
     }
     let here = here_on(role, c);
     let rest = rest_on(role, c);
@@ -246,7 +259,7 @@ pub fn need(
     let inner = w.counts;
     let end = w.end;
     let n = settle(flags, firsts, t, c, inner);
-    Walked {
+    NeededTo {
         counts: n,
         end: end,
     }
@@ -257,23 +270,23 @@ fn need_operand(
     tags: &[u8],
     values: &[u32],
     names: u32,
-    places: &[usize; 16],
+    places: &[usize; MOST_NODES],
     nodes: usize,
     flags: &mut [u32],
     firsts: &mut [u32],
     c: Clock,
     s: Counts,
     at: usize,
-) -> Walked
+) -> NeededTo
     requires { ⌜ length (now values) ≡ length (now tags) ⌝ }
     requires { ⌜ nodes ≤ 16 ⌝ }
     ensures { λ r. ⌜ length (now (flags .exit)) ≡ length (now (flags .entry)) ⌝ }
     ensures { λ r. ⌜ length (now (firsts .exit)) ≡ length (now (firsts .entry)) ⌝ }
-    ensures { λ r. ⌜ ((e : Expr) (q : ℕ) (l : List Node) (y : Needs) → tree names (tokens (now (tags .entry)) (now (values .entry))) at ≡ got e q → within (valueOf c) e ≡ true → Standing names (now (tags .entry)) (now (values .entry)) (now (places .entry)) nodes l → Counted (now (flags .entry)) (now (firsts .entry)) s y → Counted (now (flags .exit)) (now (firsts .exit)) (r .counts) (needed l (valueOf c) e y) × (r .end ≡ q)) ⌝ }
+    ensures { λ r. ⌜ ((e : Expr) (q : ℕ) (l : List Node) (y : Needs) → tree names (tokens (now (tags .entry)) (now (values .entry))) at ≡ got e q → within (valueOf c) e ≡ true → NodesStand names (now (tags .entry)) (now (values .entry)) (now (places .entry)) nodes l → Counted (now (flags .entry)) (now (firsts .entry)) s y → Counted (now (flags .exit)) (now (firsts .exit)) (r .counts) (needed l (valueOf c) e y) × (r .end ≡ q)) ⌝ }
 {
     let end = leaf_end(tags, values, at);
     if 0 < end {
-        return Walked {
+        return NeededTo {
             counts: s,
             end: end,
         };
@@ -282,11 +295,11 @@ fn need_operand(
 }
 
 // What so many operands need, the first on the clock `here`, the others on `rest`.
-pub fn need_all(
+fn need_all(
     tags: &[u8],
     values: &[u32],
     names: u32,
-    places: &[usize; 16],
+    places: &[usize; MOST_NODES],
     nodes: usize,
     flags: &mut [u32],
     firsts: &mut [u32],
@@ -296,12 +309,12 @@ pub fn need_all(
     gap: Gap,
     count: u32,
     at: usize,
-) -> Walked
+) -> NeededTo
     requires { ⌜ length (now values) ≡ length (now tags) ⌝ }
     requires { ⌜ nodes ≤ 16 ⌝ }
     ensures { λ r. ⌜ length (now (flags .exit)) ≡ length (now (flags .entry)) ⌝ }
     ensures { λ r. ⌜ length (now (firsts .exit)) ≡ length (now (firsts .entry)) ⌝ }
-    ensures { λ r. ⌜ ((es : Exprs) (q : ℕ) (l : List Node) (y : Needs) → spread names gap count (tree names) (tokens (now (tags .entry)) (now (values .entry))) at ≡ got es q → withins (valueOf here) (valueOf rest) es ≡ true → Standing names (now (tags .entry)) (now (values .entry)) (now (places .entry)) nodes l → Counted (now (flags .entry)) (now (firsts .entry)) s y → Counted (now (flags .exit)) (now (firsts .exit)) (r .counts) (neededAll l (valueOf here) (valueOf rest) es y) × (r .end ≡ q)) ⌝ }
+    ensures { λ r. ⌜ ((es : Exprs) (q : ℕ) (l : List Node) (y : Needs) → spread names gap count (tree names) (tokens (now (tags .entry)) (now (values .entry))) at ≡ got es q → withins (valueOf here) (valueOf rest) es ≡ true → NodesStand names (now (tags .entry)) (now (values .entry)) (now (places .entry)) nodes l → Counted (now (flags .entry)) (now (firsts .entry)) s y → Counted (now (flags .exit)) (now (firsts .exit)) (r .counts) (neededAll l (valueOf here) (valueOf rest) es y) × (r .end ≡ q)) ⌝ }
 {
     let mut left = count;
     let mut from = at;
@@ -326,7 +339,7 @@ pub fn need_all(
         let o = operands::after_operand(tags, between, w.end);
         let next = o.next;
         if next <= from {
-            return Walked {
+            return NeededTo {
                 counts: counts,
                 end: from,
             };
@@ -336,7 +349,7 @@ pub fn need_all(
         on = rest;
         left -= 1;
     }
-    Walked {
+    NeededTo {
         counts: counts,
         end: from,
     }

@@ -13,23 +13,23 @@ use Rattle.definitions.specs.Lists.{choose, any, placeBy, upFrom, over, Letters
 use Rattle.definitions.specs.Tree.{Declared, Node}
 use Rattle.definitions.specs.Clock.{Clock, sameClock, inChainOrder}
 use Rattle.definitions.specs.Declock.{Stem, ck, first, hold, clockPlace, declared}
-use Rattle.definitions.specs.Output.{stemLetters, idOf, condactId, addName, addNames, lettersOf, newLetters, newId}
+use Rattle.definitions.specs.Output.{stemLetters, idOf, addName, addNames, lettersOf, newLetters, newId}
 use Rattle.spelling.specs.Writing.{overAt}
 use Rattle.spelling.proofs.Writing.{over-nothing, over-front, over-past, over-set, over-then, over-take, length-over}
 use Rattle.fresh.specs.declared.Counts.{Counts}
-use Rattle.fresh.specs.Table.{namesOf, within, Sound, Holds}
+use Rattle.fresh.specs.Table.{namesOf, within, Sound, NamesHeld}
 use Rattle.fresh.specs.Free.{newNumber, newNumbers, takenOf}
 use Rattle.fresh.proofs.Free.{new-letters}
 use Rattle.fresh.proofs.Table.{id-most, add-last-name}
 use Rattle.fresh.proofs.Places.{cut-length}
-use Rattle.rows.specs.Rows.{clocksIn, Has}
+use Rattle.rows.specs.Rows.{clocksIn, RowsHold}
 use Rattle.rows.proofs.Laws.{has-all, has-count}
 use Rattle.rows.proofs.Distinct.{Distinct, row-place}
-use Rattle.order.specs.Order.{rowOf, picked, Below}
+use Rattle.order.specs.Order.{rowOf, picked, FirstBelow}
 use Rattle.needs.specs.Need.{Needs}
 use Rattle.stateless.specs.Locals.{idsIn, Agree}
 use Rattle.stateless.specs.Rewritten.{newNames, namesBy}
-use Rattle.new_names.specs.Names.{nameOf, numberedName, orderedNames, countedNames, idsOf, Numbered, Ordered}
+use Rattle.new_names.specs.Names.{nameOf, numberedName, orderedNames, countedNames, idsOf, Numbered, ChainOrdered}
 use Rattle.new_names.proofs.Ids.{map-append, map-length}
 
 -- ---- numbers in order
@@ -134,16 +134,16 @@ crowd-long lens letters =
     let l : length (map f (upFrom 0 (suc (length lens)))) ≡ suc (length lens) = map-length f (upFrom 0 (suc (length lens))) ∙ up-length 0 (suc (length lens)) in
     rw (l, lt-leb (suc (length lens)) (length lens) (omega arith))
 
-pub sound-holds : {lens letters : List ℕ} {c : Counts} → Sound lens letters c → (all : List Letters) × Holds lens letters c all
+pub sound-holds : {lens letters : List ℕ} {c : Counts} → Sound lens letters c → (all : List Letters) × NamesHeld lens letters c all
 sound-holds {lens} {letters} {c} s = go (c .full) refl
   where
-    go : (t : Bool) → c .full ≡ t → (all : List Letters) × Holds lens letters c all
+    go : (t : Bool) → c .full ≡ t → (all : List Letters) × NamesHeld lens letters c all
     go false e = (namesOf lens letters c, record { sound = s; kept = λ z. refl; past = λ z. absurd (let y : _≡_ {A = ℕ} 0 1 = cc in omega arith) })
     go true e = (map (λ (i : ℕ). []) (upFrom 0 (suc (length lens))), record { sound = s; kept = λ z. absurd (let y : _≡_ {A = ℕ} 0 1 = cc in omega arith); past = λ z. crowd-long lens letters })
 
 -- what adds a name keeps the table sound
 pub still-sound : {lens letters lens₁ letters₁ : List ℕ} {c c₁ : Counts} (f : List Letters → List Letters) → Sound lens letters c
-    → ((all : List Letters) → Holds lens letters c all → Holds lens₁ letters₁ c₁ (f all)) → Sound lens₁ letters₁ c₁
+    → ((all : List Letters) → NamesHeld lens letters c all → NamesHeld lens₁ letters₁ c₁ (f all)) → Sound lens₁ letters₁ c₁
 still-sound f s h = let a = sound-holds s in h (a .0) (a .1) .sound
 
 -- ---- names added one by one
@@ -152,13 +152,13 @@ add-append all [] b = refl
 add-append all (n ∷ a) b = add-append (addName all n) a b
 
 module _ (f : ℕ → Letters) {lens letters : List ℕ} {c : Counts} (all : List Letters) where
-  pub adding-more : (i : ℕ) (x : Letters) → x ≡ f i → Holds lens letters c (addName (addNames all (map f (upFrom 0 i))) x) → Holds lens letters c (addNames all (map f (upFrom 0 (i + 1))))
+  pub adding-more : (i : ℕ) (x : Letters) → x ≡ f i → NamesHeld lens letters c (addName (addNames all (map f (upFrom 0 i))) x) → NamesHeld lens letters c (addNames all (map f (upFrom 0 (i + 1))))
   adding-more i x e h =
       let g : addNames all (map f (upFrom 0 (i + 1))) ≡ addName (addNames all (map f (upFrom 0 i))) x =
       ap (addNames all) (up-last f i) ∙ (add-last-name all (map f (upFrom 0 i)) (f i) ∙ ap (addName (addNames all (map f (upFrom 0 i)))) (sym e)) in
       rw g h
 
-  pub adding-end : (i n : ℕ) → i ≤ n → n ≤ i → Holds lens letters c (addNames all (map f (upFrom 0 i))) → Holds lens letters c (addNames all (map f (upFrom 0 n)))
+  pub adding-end : (i n : ℕ) → i ≤ n → n ≤ i → NamesHeld lens letters c (addNames all (map f (upFrom 0 i))) → NamesHeld lens letters c (addNames all (map f (upFrom 0 n)))
   adding-end i n a b h = let e : i ≡ n = omega arith in rw e at h
 
 -- ---- the names of new locals
@@ -172,7 +172,7 @@ pub ordered-name : (stem : Stem) (numbers order : List ℕ) (i : ℕ) {x y z : �
 ordered-name stem numbers order i a b e = ap (λ (k : ℕ). stemLetters stem ++ decimal k) (e ∙ ap (λ (r : ℕ). getD numbers r 0) (b ∙ a))
 
 module _ (names : List Letters) (node : Node) (stem : Stem) where
-  pub ordered-names : {letters : ℕ → Letters} {rows order numbers : List ℕ} {k : ℕ} {clocks : List Clock} → Ordered letters rows order k clocks → Numbered names node stem numbers (length clocks)
+  pub ordered-names : {letters : ℕ → Letters} {rows order numbers : List ℕ} {k : ℕ} {clocks : List Clock} → ChainOrdered letters rows order k clocks → Numbered names node stem numbers (length clocks)
       → orderedNames stem numbers order k ≡ map (λ (c : Clock). newLetters names node stem (clockPlace c clocks)) (inChainOrder letters clocks)
   ordered-names {letters} {rows} {order} {numbers} {k} {clocks} h n =
       let g : Clock → Letters = λ c. newLetters names node stem (clockPlace c clocks) in
@@ -187,7 +187,7 @@ module _ (names : List Letters) (node : Node) (stem : Stem) where
 
 -- the lists one after another
 module _ (names : List Letters) (node : Node) (w : Needs) {flagRows firstRows flagOrder firstOrder flagNumbers firstNumbers holdNumbers : List ℕ} {k m n : ℕ}
-    (a : Ordered (lettersOf names) flagRows flagOrder k (w .flags)) (b : Ordered (lettersOf names) firstRows firstOrder m (w .firsts))
+    (a : ChainOrdered (lettersOf names) flagRows flagOrder k (w .flags)) (b : ChainOrdered (lettersOf names) firstRows firstOrder m (w .firsts))
     (x : Numbered names node ck flagNumbers (length (w .flags))) (y : Numbered names node first firstNumbers (length (w .firsts))) (z : Numbered names node hold holdNumbers (w .holds)) (g : n ≡ w .holds) where
   all-names : (all : List Letters) → addNames (addNames (addNames all (orderedNames ck flagNumbers flagOrder k)) (orderedNames first firstNumbers firstOrder m)) (countedNames hold holdNumbers n)
       ≡ addNames all (newNames names node w)
@@ -200,22 +200,22 @@ module _ (names : List Letters) (node : Node) (w : Needs) {flagRows firstRows fl
 
   -- the table of the output's names, `condact` being needed, or not
   module _ {lens text : List ℕ} {c : Counts} (all : List Letters) (condact : Bool) (q : condact ≡ w .condact) where
-    pub locals-added : condact ≡ false → Holds lens text c (addNames (addNames (addNames all (orderedNames ck flagNumbers flagOrder k)) (orderedNames first firstNumbers firstOrder m)) (countedNames hold holdNumbers n))
-        → Holds lens text c (namesBy names all node w)
+    pub locals-added : condact ≡ false → NamesHeld lens text c (addNames (addNames (addNames all (orderedNames ck flagNumbers flagOrder k)) (orderedNames first firstNumbers firstOrder m)) (countedNames hold holdNumbers n))
+        → NamesHeld lens text c (namesBy names all node w)
     locals-added e h =
         let more = addNames all (newNames names node w) in
-        subst⁻¹ (λ (t : Bool). Holds lens text c (choose t (addName more (bytes "condact")) more)) (sym q ∙ e) (rw (all-names all) at h)
+        subst⁻¹ (λ (t : Bool). NamesHeld lens text c (choose t (addName more (bytes "condact")) more)) (sym q ∙ e) (rw (all-names all) at h)
 
-    pub condact-added : condact ≡ true → Holds lens text c (addName (addNames (addNames (addNames all (orderedNames ck flagNumbers flagOrder k)) (orderedNames first firstNumbers firstOrder m)) (countedNames hold holdNumbers n)) (bytes "condact"))
-        → Holds lens text c (namesBy names all node w)
+    pub condact-added : condact ≡ true → NamesHeld lens text c (addName (addNames (addNames (addNames all (orderedNames ck flagNumbers flagOrder k)) (orderedNames first firstNumbers firstOrder m)) (countedNames hold holdNumbers n)) (bytes "condact"))
+        → NamesHeld lens text c (namesBy names all node w)
     condact-added e h =
         let more = addNames all (newNames names node w) in
-        subst⁻¹ (λ (t : Bool). Holds lens text c (choose t (addName more (bytes "condact")) more)) (sym q ∙ e) (rw (all-names all) at h)
+        subst⁻¹ (λ (t : Bool). NamesHeld lens text c (choose t (addName more (bytes "condact")) more)) (sym q ∙ e) (rw (all-names all) at h)
 
 -- ---- rows in chain order
 -- rows that `sort_rows` put in order, of a table that holds all clocks, each once
-pub rows-ordered : (letters : ℕ → Letters) (rows order : List ℕ) (n k : ℕ) (clocks : List Clock) → 17 * n ≤ length rows → Has rows n clocks → Distinct clocks → k ≤ n
-    → picked (rowOf rows) order 0 k ≡ inChainOrder letters (clocksIn rows n) → Below order k n → Ordered letters rows order k clocks
+pub rows-ordered : (letters : ℕ → Letters) (rows order : List ℕ) (n k : ℕ) (clocks : List Clock) → 17 * n ≤ length rows → RowsHold rows n clocks → Distinct clocks → k ≤ n
+    → picked (rowOf rows) order 0 k ≡ inChainOrder letters (clocksIn rows n) → FirstBelow order k n → ChainOrdered letters rows order k clocks
 rows-ordered letters rows order n k clocks room h d l s b =
     record {
       sorted = s ∙ ap (inChainOrder letters) (has-all rows n clocks room h);
@@ -225,15 +225,12 @@ rows-ordered letters rows order n k clocks room h d l s b =
 
 -- ---- ids
 -- the ids of a node's new names in a table that is filled from one that holds the names
-module _ (names all : List Letters) (node : Node) {lens text : List ℕ} {c : Counts} (h : Holds lens text c all) (e : c .full ≡ false) where
+module _ (names all : List Letters) (node : Node) {lens text : List ℕ} {c : Counts} (h : NamesHeld lens text c all) (e : c .full ≡ false) where
   pub ids-filled : (stem : Stem) (numbers : List ℕ) (n : ℕ) (out ids : List ℕ) → Numbered names node stem numbers n → n ≤ length out → ids ≡ overAt 0 (idsOf (namesOf lens text c) stem numbers n) out
       → (j : ℕ) → j < n → getD ids j 0 ≡ newId names all node stem j
   ids-filled stem numbers n out ids k room f j u =
       filled-at (λ i. idOf (namesOf lens text c) (numberedName stem numbers i)) out n ids room f j u
       ∙ (ap (λ (l : List Letters). idOf l (numberedName stem numbers j)) (sym (h .kept e)) ∙ ap (idOf all) (sym (numbers-letters names node stem k j u)))
-
-  pub condact-found : {r : ℕ} → r ≡ condactId (namesOf lens text c) → r ≡ condactId all
-  condact-found f = f ∙ ap condactId (sym (h .kept e))
 
 -- an id fits a word where there are few names
 pub id-fits : {lens text : List ℕ} {c : Counts} → Sound lens text c → (name : Letters) {r : ℕ} → length lens < 4294967296 → r ≡ idOf (namesOf lens text c) name → r < 4294967296

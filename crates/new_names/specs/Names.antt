@@ -9,7 +9,7 @@ use Rattle.definitions.specs.Clock.{Clock, inChainOrder}
 use Rattle.definitions.specs.Declock.{Stem, clockPlace}
 use Rattle.definitions.specs.Output.{stemLetters, idOf}
 use Rattle.fresh.specs.Free.{newNumber, takenOf}
-use Rattle.order.specs.Order.{rowOf, picked, Below}
+use Rattle.order.specs.Order.{rowOf, picked, FirstBelow}
 
 -- the id of a declaration's name
 abbrev pub nameOf : Declared → ℕ
@@ -36,7 +36,7 @@ pub record Numbered (names : List Letters) (node : Node) (stem : Stem) (numbers 
   pub same : (j : ℕ) → j < n → getD numbers j 0 ≡ newNumber (takenOf names node) stem j
 
 -- k rows stand in the chain order of these clocks, and each clock's row is its place among them
-pub record Ordered (letters : ℕ → Letters) (rows order : List ℕ) (k : ℕ) (clocks : List Clock) : Type 0 where
+pub record ChainOrdered (letters : ℕ → Letters) (rows order : List ℕ) (k : ℕ) (clocks : List Clock) : Type 0 where
   pub sorted : picked (rowOf rows) order 0 k ≡ inChainOrder letters clocks
   pub own : (i : ℕ) → i < k → clockPlace (rowOf rows (getD order i 0)) clocks ≡ getD order i 0
-  pub below : Below order k (length clocks)
+  pub below : FirstBelow order k (length clocks)

@@ -2,6 +2,7 @@
 // their ids there.
 // `starts` and `letters` are the input's names; `lengths` and `text`, with counts, a table of the output's names. A table that is
 // full stays full: there are then no places for the names that it is to hold (`Holds`).
+use definitions::MOST_NAMES;
 use fresh::Counts;
 use grammar::Read;
 use layout::NodeLayout;
@@ -20,13 +21,13 @@ ghost use Rattle.definitions.specs.Output.{stemLetters, idOf, condactId, letter
 ghost use Rattle.spelling.specs.Writing.{overAt};
 ghost use Rattle.spelling.specs.Stems.{stemOf};
 ghost use Rattle.fresh.specs.Places.{lettersAt};
-ghost use Rattle.fresh.specs.Table.{Sound, Holds, namesOf};
+ghost use Rattle.fresh.specs.Table.{Sound, NamesHeld, namesOf};
 ghost use Rattle.fresh.specs.Free.{newNumbers, takenOf};
 ghost use Rattle.layout.specs.Spans.{Spans};
-ghost use Rattle.layout.specs.Laid.{Laid};
+ghost use Rattle.layout.specs.Laid.{LaidNode};
 ghost use Rattle.needs.specs.Need.{Needs};
 ghost use Rattle.stateless.specs.Rewritten.{namesBy};
-ghost use Rattle.new_names.specs.Names.{nameOf, orderedNames, countedNames, idsOf, Numbered, Ordered};
+ghost use Rattle.new_names.specs.Names.{nameOf, orderedNames, countedNames, idsOf, Numbered, ChainOrdered};
 
 // How many flags and first-tick flags stand in chain order, how many holds there are, and whether `condact` is needed.
 pub struct Locals {
@@ -81,7 +82,7 @@ pub fn declared_ids(
     out: &mut [u32; 128],
 ) -> usize
     requires { ⌜ length (now values) ≡ length (now tags) ⌝ }
-    ensures { λ r. ⌜ ((n : Node) (q : ℕ) → Laid names (tokens (now (tags .entry)) (now (values .entry))) n q l → length (declared n) ≤ 128 → (r ≡ length (declared n)) × (now (out .exit) ≡ overAt 0 (map nameOf (declared n)) (now (out .entry)))) ⌝ }
+    ensures { λ r. ⌜ ((n : Node) (q : ℕ) → LaidNode names (tokens (now (tags .entry)) (now (values .entry))) n q l → length (declared n) ≤ 128 → (r ≡ length (declared n)) × (now (out .exit) ≡ overAt 0 (map nameOf (declared n)) (now (out .entry)))) ⌝ }
 {
     let inputs = l.inputs;
     let outputs = l.outputs;
@@ -112,7 +113,7 @@ pub fn new_numbers(
     if out.len() < count {
         return;
     }
-    if 1024 < count {
+    if MOST_NAMES < count {
         return;
     }
     fresh::fill_numbers(starts, letters, &ids[..n], stem, &mut out[..count]);
@@ -125,7 +126,7 @@ fn wide(x: u32) -> usize
 }
 
 // The names of a stem added for the first n rows of an order, each with the number of its row.
-pub fn add_ordered(
+fn add_ordered(
     lengths: &mut [u8],
     text: &mut [u8],
     c: Counts,
@@ -135,7 +136,7 @@ pub fn add_ordered(
     n: usize,
 ) -> Counts
     requires { ⌜ Sound (now lengths) (now text) c ⌝ }
-    ensures { λ r. ⌜ ((all : List Letters) → Holds (now (lengths .entry)) (now (text .entry)) c all → Holds (now (lengths .exit)) (now (text .exit)) r (addNames all (orderedNames (stemOf stem) (now (numbers .entry)) (now (order .entry)) n))) ⌝ }
+    ensures { λ r. ⌜ ((all : List Letters) → NamesHeld (now (lengths .entry)) (now (text .entry)) c all → NamesHeld (now (lengths .exit)) (now (text .exit)) r (addNames all (orderedNames (stemOf stem) (now (numbers .entry)) (now (order .entry)) n))) ⌝ }
 {
     let mut table = c;
     let mut i: usize = 0;
@@ -149,7 +150,7 @@ pub fn add_ordered(
 }
 
 // The first n names of a stem added.
-pub fn add_counted(
+fn add_counted(
     lengths: &mut [u8],
     text: &mut [u8],
     c: Counts,
@@ -158,7 +159,7 @@ pub fn add_counted(
     n: usize,
 ) -> Counts
     requires { ⌜ Sound (now lengths) (now text) c ⌝ }
-    ensures { λ r. ⌜ ((all : List Letters) → Holds (now (lengths .entry)) (now (text .entry)) c all → Holds (now (lengths .exit)) (now (text .exit)) r (addNames all (countedNames (stemOf stem) (now (numbers .entry)) n))) ⌝ }
+    ensures { λ r. ⌜ ((all : List Letters) → NamesHeld (now (lengths .entry)) (now (text .entry)) c all → NamesHeld (now (lengths .exit)) (now (text .exit)) r (addNames all (countedNames (stemOf stem) (now (numbers .entry)) n))) ⌝ }
 {
     let mut table = c;
     let mut j: usize = 0;
@@ -184,7 +185,7 @@ pub fn add_locals(
 ) -> Counts
     requires { ⌜ Sound (now lengths) (now text) c ⌝ }
     ensures { λ r. ⌜ Sound (now (lengths .exit)) (now (text .exit)) r ⌝ }
-    ensures { λ r. ⌜ ((names : List Letters) (node : Node) (w : Needs) (flagRows firstRows : List ℕ) (all : List Letters) → Ordered (lettersOf names) flagRows (now («flag_order» .entry)) (l .flags) (w .flags) → Ordered (lettersOf names) firstRows (now («first_order» .entry)) (l .firsts) (w .firsts) → Numbered names node ck (now («flag_numbers» .entry)) (length (w .flags)) → Numbered names node first (now («first_numbers» .entry)) (length (w .firsts)) → Numbered names node hold (now («hold_numbers» .entry)) (w .holds) → l .holds ≡ w .holds → l .condact ≡ w .condact → Holds (now (lengths .entry)) (now (text .entry)) c all → Holds (now (lengths .exit)) (now (text .exit)) r (namesBy names all node w)) ⌝ }
+    ensures { λ r. ⌜ ((names : List Letters) (node : Node) (w : Needs) (flagRows firstRows : List ℕ) (all : List Letters) → ChainOrdered (lettersOf names) flagRows (now («flag_order» .entry)) (l .flags) (w .flags) → ChainOrdered (lettersOf names) firstRows (now («first_order» .entry)) (l .firsts) (w .firsts) → Numbered names node ck (now («flag_numbers» .entry)) (length (w .flags)) → Numbered names node first (now («first_numbers» .entry)) (length (w .firsts)) → Numbered names node hold (now («hold_numbers» .entry)) (w .holds) → l .holds ≡ w .holds → l .condact ≡ w .condact → NamesHeld (now (lengths .entry)) (now (text .entry)) c all → NamesHeld (now (lengths .exit)) (now (text .exit)) r (namesBy names all node w)) ⌝ }
 {
     let a = add_ordered(
         lengths,

@@ -6,7 +6,7 @@ use mathlib.Core.List.{List, [], _∷_}
 use lib.Dec.{eqb}
 use Rattle.definitions.specs.Lists.{choose}
 use Rattle.definitions.specs.Tree.{TypeDef, Expr, Exprs, Node}
-use Rattle.definitions.specs.Clock.{Clock, _/_, parent, isOn, isNot, isBase}
+use Rattle.definitions.specs.Clock.{Clock, _↓_, parent, isOn, isNot, isBase}
 use Rattle.definitions.specs.InferClocks.{Clocked}
 use Rattle.definitions.specs.Declock.{Shape, bare, other, calls, operatorOutputs}
 use Rattle.callees.specs.Callees.{isThere}
@@ -48,7 +48,7 @@ module _ (nodes : List Node) where
     apart-needed (Expr.arrow a b) c y h = apart-settled (arrowTurn c) c (needed nodes c b (needed nodes c a y)) (apart-needed b c (needed nodes c a y) (apart-needed a c y h))
     apart-needed (Expr.call f es) c y h = apart-settled (callTurn c (isThere (operatorOutputs nodes f))) c (neededAll nodes c c es y) (apart-all es c c y h)
     apart-needed (Expr.when k e) c y h = apart-needed e (parent c) y h
-    apart-needed (Expr.merge x a b) c y h = apart-needed b (c / isNot x) (needed nodes (c / isOn x) a y) (apart-needed a (c / isOn x) y h)
+    apart-needed (Expr.merge x a b) c y h = apart-needed b (c ↓ isNot x) (needed nodes (c ↓ isOn x) a y) (apart-needed a (c ↓ isOn x) y h)
 
     apart-all : (es : Exprs) (c d : Clock) (y : Needs) → Apart y → Apart (neededAll nodes c d es y)
     apart-all Exprs.end c d y h = h

@@ -21,7 +21,7 @@ use Rattle.environment.specs.Environment.{Agrees}
 use Rattle.operands.specs.Spread.{tree}
 use Rattle.layout.specs.declared.EquationLayout.{EquationLayout}
 use Rattle.layout.specs.Laid.{LaidEquation}
-use Rattle.rows.specs.Rows.{Has}
+use Rattle.rows.specs.Rows.{RowsHold}
 use Rattle.rows.proofs.Laws.{has-none}
 use Rattle.needs.specs.declared.Counts.{Counts}
 use Rattle.needs.specs.Need.{Needs, withFlag, withGate, within, needed, Counted}
@@ -61,7 +61,7 @@ flagged-gates condact c (x ∷ []) u y = refl
 flagged-gates condact c (x ∷ z ∷ xs) u y = let e : suc (suc (length xs)) ≡ 1 → ⊥ = λ q. omega (arith, q) in rw (ne-eqb (suc (suc (length xs))) 1 e) (several-gates condact c u y)
 
 -- ---- the flag added
-module _ {flags flags₁ firsts : List ℕ} {s : Counts} (y : Needs) (c : Clock) (n : ℕ) (gate : Bool) (h : Counted flags firsts s y) (k : (cs : List Clock) → Has flags (s .flags) cs → Has flags₁ n (addWithParents c cs)) where
+module _ {flags flags₁ firsts : List ℕ} {s : Counts} (y : Needs) (c : Clock) (n : ℕ) (gate : Bool) (h : Counted flags firsts s y) (k : (cs : List Clock) → RowsHold flags (s .flags) cs → RowsHold flags₁ n (addWithParents c cs)) where
   pub flag-gated : gate ≡ true → Counted flags₁ firsts (record { flags = n; firsts = s .firsts; holds = s .holds; condact = true }) (choose gate (withGate c y) (withFlag c y))
   flag-gated e = rw e (record { flagged = k (y .flags) (h .flagged); first-flagged = h .first-flagged; held = h .held; gated = refl })
 

@@ -3,6 +3,7 @@
 // `places` has the places of the sheet's nodes, `nodes` is how many there are; `names` is the number of names; `condact` is
 // the id of `condact`. `env` has the clocks of the node's names as inference left them.
 use clock::Clock;
+use definitions::MOST_NODES;
 use layout::NodeLayout;
 use needs::Counts;
 use rewritten_shape::After;
@@ -19,8 +20,8 @@ ghost use Rattle.definitions.specs.InferClocks.{Clocks, Clocked, formed, clocke
 ghost use Rattle.clock.specs.Value.{valueOf};
 ghost use Rattle.environment.specs.Environment.{Agrees};
 ghost use Rattle.operands.specs.Spread.{tree};
-ghost use Rattle.layout.specs.Laid.{Laid};
-ghost use Rattle.callees.specs.Callees.{Standing};
+ghost use Rattle.layout.specs.Laid.{LaidNode};
+ghost use Rattle.callees.specs.Callees.{NodesStand};
 ghost use Rattle.needs.specs.Need.{Needs, withFlag, withGate, within, Counted};
 ghost use Rattle.stateless.specs.Yield.{shapeAfter};
 ghost use Rattle.stateless.specs.Whole.{noNeeds, rightNeeds, oldNeeds};
@@ -45,11 +46,11 @@ fn gates_call(a: After, condact: u32) -> bool
 }
 
 // Is the right side that stands there, with so many left names, gated under the flag of its clock?
-pub fn gates_right(
+fn gates_right(
     tags: &[u8],
     values: &[u32],
     names: u32,
-    places: &[usize; 16],
+    places: &[usize; MOST_NODES],
     nodes: usize,
     condact: u32,
     c: Clock,
@@ -58,7 +59,7 @@ pub fn gates_right(
 ) -> bool
     requires { ⌜ length (now values) ≡ length (now tags) ⌝ }
     requires { ⌜ nodes ≤ 16 ⌝ }
-    ensures { λ r. ⌜ ((e : Expr) (q : ℕ) (types : List TypeDef) (l : List Node) (node : Node) → tree names (tokens (now (tags .entry)) (now (values .entry))) at ≡ got e q → Standing names (now (tags .entry)) (now (values .entry)) (now (places .entry)) nodes l → r ≡ gatesRight condact left (shapeAfter types l node condact (valueOf c) e)) ⌝ }
+    ensures { λ r. ⌜ ((e : Expr) (q : ℕ) (types : List TypeDef) (l : List Node) (node : Node) → tree names (tokens (now (tags .entry)) (now (values .entry))) at ≡ got e q → NodesStand names (now (tags .entry)) (now (values .entry)) (now (places .entry)) nodes l → r ≡ gatesRight condact left (shapeAfter types l node condact (valueOf c) e)) ⌝ }
 {
     if left == 1 {
         return false;
@@ -94,11 +95,11 @@ fn with_flag(flags: &mut [u32], c: Clock, s: Counts, gate: bool) -> Counts
 }
 
 // What an equation on this clock needs, besides what is needed already: its right side stands there, and it has so many left names.
-pub fn right_needs(
+fn right_needs(
     tags: &[u8],
     values: &[u32],
     names: u32,
-    places: &[usize; 16],
+    places: &[usize; MOST_NODES],
     nodes: usize,
     condact: u32,
     flags: &mut [u32],
@@ -112,7 +113,7 @@ pub fn right_needs(
     requires { ⌜ nodes ≤ 16 ⌝ }
     ensures { λ r. ⌜ length (now (flags .exit)) ≡ length (now (flags .entry)) ⌝ }
     ensures { λ r. ⌜ length (now (firsts .exit)) ≡ length (now (firsts .entry)) ⌝ }
-    ensures { λ r. ⌜ ((xs : List ℕ) (e : Expr) (q : ℕ) (types : List TypeDef) (l : List Node) (node : Node) (y : Needs) → left ≡ length xs → tree names (tokens (now (tags .entry)) (now (values .entry))) at ≡ got e q → within (valueOf c) e ≡ true → Standing names (now (tags .entry)) (now (values .entry)) (now (places .entry)) nodes l → Counted (now (flags .entry)) (now (firsts .entry)) s y → Counted (now (flags .exit)) (now (firsts .exit)) r (rightNeeds types l node condact (valueOf c) xs e y)) ⌝ }
+    ensures { λ r. ⌜ ((xs : List ℕ) (e : Expr) (q : ℕ) (types : List TypeDef) (l : List Node) (node : Node) (y : Needs) → left ≡ length xs → tree names (tokens (now (tags .entry)) (now (values .entry))) at ≡ got e q → within (valueOf c) e ≡ true → NodesStand names (now (tags .entry)) (now (values .entry)) (now (places .entry)) nodes l → Counted (now (flags .entry)) (now (firsts .entry)) s y → Counted (now (flags .exit)) (now (firsts .exit)) r (rightNeeds types l node condact (valueOf c) xs e y)) ⌝ }
 {
     let w = needs::need(tags, values, names, places, nodes, flags, firsts, c, s, at);
     let inner = w.counts;
@@ -128,7 +129,7 @@ pub fn node_needs(
     tags: &[u8],
     values: &[u32],
     names: u32,
-    places: &[usize; 16],
+    places: &[usize; MOST_NODES],
     nodes: usize,
     l: NodeLayout,
     env: &[u32],
@@ -140,7 +141,7 @@ pub fn node_needs(
     requires { ⌜ nodes ≤ 16 ⌝ }
     ensures { λ r. ⌜ length (now (flags .exit)) ≡ length (now (flags .entry)) ⌝ }
     ensures { λ r. ⌜ length (now (firsts .exit)) ≡ length (now (firsts .entry)) ⌝ }
-    ensures { λ r. ⌜ ((node : Node) (q : ℕ) (clocks : Clocks) (cs : List Clocked) (types : List TypeDef) (ns : List Node) → Laid names (tokens (now (tags .entry)) (now (values .entry))) node q l → Agrees (now (env .entry)) names clocks → clockedBy clocks (node .equations) ≡ formed cs → withinAll cs ≡ true → Standing names (now (tags .entry)) (now (values .entry)) (now (places .entry)) nodes ns → Counted (now (flags .exit)) (now (firsts .exit)) r (oldNeeds types ns node condact cs noNeeds)) ⌝ }
+    ensures { λ r. ⌜ ((node : Node) (q : ℕ) (clocks : Clocks) (cs : List Clocked) (types : List TypeDef) (ns : List Node) → LaidNode names (tokens (now (tags .entry)) (now (values .entry))) node q l → Agrees (now (env .entry)) names clocks → clockedBy clocks (node .equations) ≡ formed cs → withinAll cs ≡ true → NodesStand names (now (tags .entry)) (now (values .entry)) (now (places .entry)) nodes ns → Counted (now (flags .exit)) (now (firsts .exit)) r (oldNeeds types ns node condact cs noNeeds)) ⌝ }
 {
     let e = l.equations;
     let mut left = e.count;

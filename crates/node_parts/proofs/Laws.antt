@@ -2,9 +2,8 @@
 -- Assumes nothing.
 use mathlib.Core.Path.{_≡_, refl, sym, _∙_, ap, ap₂, subst}
 use mathlib.Core.List.{List, [], _∷_, _++_, map, append-assoc}
-use Prim.Native.Nat.{ℕ, zero, suc, _+_, _-_, _≤_, _<_}
+use Prim.Native.Nat.{ℕ, suc, _+_, _-_, _≤_, _<_}
 use native.Mathlib.Omega.{arith}
-use native.Mathlib.Numerals.{sub-one}
 use lib.ListN.{length, getD, take, drop, length-append, length-drop}
 use lib.Seq.{take-append-seam}
 use Rattle.definitions.specs.declared.NodeKind.{NodeKind}
@@ -13,7 +12,7 @@ use Rattle.definitions.specs.Bytes.{tokens}
 use Rattle.definitions.specs.Lists.{join}
 use Rattle.definitions.specs.Tokens.{TagValue, codeOf}
 use Rattle.definitions.specs.Tree.{Declared, TypeDef, Equation, Probe, Node, Sheet}
-use Rattle.definitions.specs.Reading.{Got, got, Reader, times}
+use Rattle.definitions.specs.Reading.{Got, got, Reader}
 use Rattle.definitions.specs.Grammar.{name, declaration, typeDef, equation, probe}
 use Rattle.definitions.specs.Output.{nameTokens, declaredTokens, countedTokens, equationTokens, probeTokens, definitionTokens, nodeTokens}
 use Rattle.shapes.specs.Shape.{All, Word, ShapedDeclared, ShapedEquation, ShapedProbe, ShapedDefinition}
@@ -22,13 +21,12 @@ use Rattle.shapes.proofs.Gives.{Gives, gives, refuses, Stands, times-gives}
 use Rattle.shapes.proofs.ReadBytes.{tokens-wide}
 use Rattle.shapes.proofs.ReadShape.{declaration-read, names-read, typeDef-read, equation-read, probe-read}
 use Rattle.grammar.proofs.Laws.{tokens-length}
-use Rattle.grammar.proofs.Got.{times-nil, times-cons}
-use Rattle.grammar.proofs.Longer.{Grows, Keeps, keeps, times-keeps, name-grows, declaration-grows, definition-grows, equation-grows, probe-grows}
+use Rattle.grammar.proofs.Longer.{Keeps, keeps, times-keeps, name-grows, declaration-grows, definition-grows, equation-grows, probe-grows}
 use Rattle.layout.specs.declared.Span.{Span}
 use Rattle.layout.specs.declared.NodeLayout.{NodeLayout}
 use Rattle.layout.specs.declared.SheetLayout.{SheetLayout}
 use Rattle.layout.specs.Spans.{Spans}
-use Rattle.layout.specs.Laid.{Laid, LaidSheet}
+use Rattle.layout.specs.Laid.{LaidNode, LaidSheet}
 use Rattle.emit.specs.Out.{Out, puts, emits}
 use Rattle.emit.proofs.Laws.{emits-append, emits-codes}
 use Rattle.node_parts.specs.Copies.{Copies, Words}
@@ -119,7 +117,7 @@ pub counted-more : (ts : List TagValue) (l : List Token) (s : Span) (n more r : 
 counted-more ts l s n more r o o₁ e g h c f = f l c ∙ ap (λ (k : ℕ). emits o (Token.Count k ∷ l)) (g (omega arith) ∙ ap (λ (k : ℕ). k + more) e)
 
 -- ---- a node
-module _ (M : ℕ) (ts : List TagValue) (n : Node) (q : ℕ) (l : NodeLayout) (h : Laid M ts n q l) where
+module _ (M : ℕ) (ts : List TagValue) (n : Node) (q : ℕ) (l : NodeLayout) (h : LaidNode M ts n q l) where
   pub declared-inputs : (o o₁ : Out) → Wrote ts (l .inputs) o o₁ (Token.Count (l .inputs .count)) → o₁ ≡ emits o (countedTokens declaredTokens (n .inputs))
   declared-inputs o o₁ f = counted ts _ (l .inputs) _ o o₁ (h .inputs .many) (λ w. declared-stand M ts w (n .inputs) (l .inputs) (h .inputs)) f
 
@@ -147,22 +145,6 @@ module _ (M : ℕ) (ts : List TagValue) (n : Node) (q : ℕ) (l : NodeLayout) (h
       let p = countedTokens probeTokens (n .probes) in
       after o o₁ o₄ _ _ a (after o₁ o₂ o₄ _ _ b (after o₂ o₃ o₄ _ _ c d))
       ∙ ap (λ (x : List Token). emits o (Token.Node (n .name) ∷ Token.Kind (n .kind) ∷ x)) (append-assoc i u (v ++ (e ++ p)))
-
--- ---- how many there are
-items-few : {A : Type 0} (R : Reader A) → Grows R → (ts : List TagValue) (k p : ℕ) (l : List A) (q : ℕ) → times k R ts p ≡ got l q → p + k ≤ q
-items-few R grows ts zero p l q g = let e = times-nil R ts 0 p l q refl g in omega (arith, e .1)
-items-few R grows ts (suc k) p l q g =
-    let t = times-cons R ts (suc k) p l q (λ z. omega arith) g in
-    let r = items-few R grows ts k (t .1) (t .2) q (rw (sub-one (suc k)) at (t .4)) in
-    omega (arith, r, grows ts p (t .0) (t .1) (t .3))
-
--- a node has no more locals than its sheet has tokens
-pub locals-few : (M : ℕ) (ts : List TagValue) (n : Node) (q : ℕ) (l : NodeLayout) → Laid M ts n q l → length (n .locals) ≤ length ts
-locals-few M ts n q l h =
-    let g = h .locals .items in
-    let a = items-few (declaration M) (declaration-grows M) ts (l .locals .count) (l .locals .at) (n .locals) (l .locals .end) g in
-    let b = times-keeps (declaration M) (keeps _ (declaration-grows M)) (l .locals .count) ts (l .locals .at) (n .locals) (l .locals .end) g in
-    omega (arith, b .1, h .locals .many)
 
 -- ---- a sheet
 pub front-types : (M : ℕ) (ts : List TagValue) (s : Sheet) (l : SheetLayout) (o o₁ o₂ : Out) → LaidSheet M ts s l → Wrote ts (l .types) o o₁ (Token.Types (l .types .count)) → o₂ ≡ emits o₁ (Token.Nodes (l .nodes .count) ∷ [])

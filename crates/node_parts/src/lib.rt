@@ -1,6 +1,7 @@
 // What stays of a sheet and its nodes, copied into the output's arrays.
 // `tags` and `values` are the sheet's tokens, and as long as each other; a layout says where the parts stand.
 use definitions::Token;
+use definitions::WORKING_TOKENS;
 use layout::NodeLayout;
 use layout::SheetLayout;
 use layout::Span;
@@ -12,14 +13,14 @@ ghost use Rattle.definitions.specs.Bytes.{tokens};
 ghost use Rattle.definitions.specs.Lists.{join};
 ghost use Rattle.definitions.specs.Tree.{Node, Sheet};
 ghost use Rattle.definitions.specs.Output.{declaredTokens, countedTokens, equationTokens, probeTokens, definitionTokens, nodeTokens};
-ghost use Rattle.layout.specs.Laid.{Laid, LaidSheet};
+ghost use Rattle.layout.specs.Laid.{LaidNode, LaidSheet};
 ghost use Rattle.emit.specs.Out.{out, emits};
 ghost use Rattle.node_parts.specs.Copies.{Copies, Words};
 
 // The tokens from one place to another.
 fn put_copy(
-    otags: &mut [u8; 8192],
-    ovalues: &mut [u32; 8192],
+    otags: &mut [u8; WORKING_TOKENS],
+    ovalues: &mut [u32; WORKING_TOKENS],
     at: usize,
     tags: &[u8],
     values: &[u32],
@@ -40,8 +41,8 @@ fn put_copy(
 
 // A token, then the items that stand there.
 fn put_items(
-    otags: &mut [u8; 8192],
-    ovalues: &mut [u32; 8192],
+    otags: &mut [u8; WORKING_TOKENS],
+    ovalues: &mut [u32; WORKING_TOKENS],
     at: usize,
     tags: &[u8],
     values: &[u32],
@@ -59,8 +60,8 @@ fn put_items(
 
 // The items that stand there, behind their count.
 fn put_counted(
-    otags: &mut [u8; 8192],
-    ovalues: &mut [u32; 8192],
+    otags: &mut [u8; WORKING_TOKENS],
+    ovalues: &mut [u32; WORKING_TOKENS],
     at: usize,
     tags: &[u8],
     values: &[u32],
@@ -75,15 +76,15 @@ fn put_counted(
 
 // A node's name and kind, inputs and outputs.
 pub fn put_front(
-    otags: &mut [u8; 8192],
-    ovalues: &mut [u32; 8192],
+    otags: &mut [u8; WORKING_TOKENS],
+    ovalues: &mut [u32; WORKING_TOKENS],
     at: usize,
     tags: &[u8],
     values: &[u32],
     l: NodeLayout,
 ) -> usize
     requires { ⌜ length (now values) ≡ length (now tags) ⌝ }
-    ensures { λ r. ⌜ ((M : ℕ) (n : Node) (q : ℕ) → Laid M (tokens (now (tags .entry)) (now (values .entry))) n q l → out (now (otags .exit)) (now (ovalues .exit)) r ≡ emits (out (now (otags .entry)) (now (ovalues .entry)) at) (Token.Node (n .name) ∷ Token.Kind (n .kind) ∷ (countedTokens declaredTokens (n .inputs) ++ countedTokens declaredTokens (n .outputs)))) ⌝ }
+    ensures { λ r. ⌜ ((M : ℕ) (n : Node) (q : ℕ) → LaidNode M (tokens (now (tags .entry)) (now (values .entry))) n q l → out (now (otags .exit)) (now (ovalues .exit)) r ≡ emits (out (now (otags .entry)) (now (ovalues .entry)) at) (Token.Node (n .name) ∷ Token.Kind (n .kind) ∷ (countedTokens declaredTokens (n .inputs) ++ countedTokens declaredTokens (n .outputs)))) ⌝ }
 {
     let x = l.name;
     let k = l.kind;
@@ -107,8 +108,8 @@ fn plus(a: u32, b: u32) -> u32
 
 // A node's locals, counted with `more` that are to follow.
 pub fn put_locals(
-    otags: &mut [u8; 8192],
-    ovalues: &mut [u32; 8192],
+    otags: &mut [u8; WORKING_TOKENS],
+    ovalues: &mut [u32; WORKING_TOKENS],
     at: usize,
     tags: &[u8],
     values: &[u32],
@@ -116,7 +117,7 @@ pub fn put_locals(
     more: u32,
 ) -> usize
     requires { ⌜ length (now values) ≡ length (now tags) ⌝ }
-    ensures { λ r. ⌜ ((M : ℕ) (n : Node) (q : ℕ) → Laid M (tokens (now (tags .entry)) (now (values .entry))) n q l → length (n .locals) + more < 4294967296 → out (now (otags .exit)) (now (ovalues .exit)) r ≡ emits (out (now (otags .entry)) (now (ovalues .entry)) at) (Token.Count (length (n .locals) + more) ∷ join (map declaredTokens (n .locals)))) ⌝ }
+    ensures { λ r. ⌜ ((M : ℕ) (n : Node) (q : ℕ) → LaidNode M (tokens (now (tags .entry)) (now (values .entry))) n q l → length (n .locals) + more < 4294967296 → out (now (otags .exit)) (now (ovalues .exit)) r ≡ emits (out (now (otags .entry)) (now (ovalues .entry)) at) (Token.Count (length (n .locals) + more) ∷ join (map declaredTokens (n .locals)))) ⌝ }
 {
     let s = l.locals;
     let n = s.count;
@@ -125,16 +126,16 @@ pub fn put_locals(
 }
 
 // A node's equations.
-pub fn put_equations(
-    otags: &mut [u8; 8192],
-    ovalues: &mut [u32; 8192],
+fn put_equations(
+    otags: &mut [u8; WORKING_TOKENS],
+    ovalues: &mut [u32; WORKING_TOKENS],
     at: usize,
     tags: &[u8],
     values: &[u32],
     l: NodeLayout,
 ) -> usize
     requires { ⌜ length (now values) ≡ length (now tags) ⌝ }
-    ensures { λ r. ⌜ ((M : ℕ) (n : Node) (q : ℕ) → Laid M (tokens (now (tags .entry)) (now (values .entry))) n q l → out (now (otags .exit)) (now (ovalues .exit)) r ≡ emits (out (now (otags .entry)) (now (ovalues .entry)) at) (countedTokens equationTokens (n .equations))) ⌝ }
+    ensures { λ r. ⌜ ((M : ℕ) (n : Node) (q : ℕ) → LaidNode M (tokens (now (tags .entry)) (now (values .entry))) n q l → out (now (otags .exit)) (now (ovalues .exit)) r ≡ emits (out (now (otags .entry)) (now (ovalues .entry)) at) (countedTokens equationTokens (n .equations))) ⌝ }
 {
     let s = l.equations;
     put_counted(otags, ovalues, at, tags, values, s)
@@ -142,15 +143,15 @@ pub fn put_equations(
 
 // A node's probes.
 pub fn put_probes(
-    otags: &mut [u8; 8192],
-    ovalues: &mut [u32; 8192],
+    otags: &mut [u8; WORKING_TOKENS],
+    ovalues: &mut [u32; WORKING_TOKENS],
     at: usize,
     tags: &[u8],
     values: &[u32],
     l: NodeLayout,
 ) -> usize
     requires { ⌜ length (now values) ≡ length (now tags) ⌝ }
-    ensures { λ r. ⌜ ((M : ℕ) (n : Node) (q : ℕ) → Laid M (tokens (now (tags .entry)) (now (values .entry))) n q l → out (now (otags .exit)) (now (ovalues .exit)) r ≡ emits (out (now (otags .entry)) (now (ovalues .entry)) at) (countedTokens probeTokens (n .probes))) ⌝ }
+    ensures { λ r. ⌜ ((M : ℕ) (n : Node) (q : ℕ) → LaidNode M (tokens (now (tags .entry)) (now (values .entry))) n q l → out (now (otags .exit)) (now (ovalues .exit)) r ≡ emits (out (now (otags .entry)) (now (ovalues .entry)) at) (countedTokens probeTokens (n .probes))) ⌝ }
 {
     let s = l.probes;
     put_counted(otags, ovalues, at, tags, values, s)
@@ -158,15 +159,15 @@ pub fn put_probes(
 
 // A whole node.
 pub fn put_node_as_it_came(
-    otags: &mut [u8; 8192],
-    ovalues: &mut [u32; 8192],
+    otags: &mut [u8; WORKING_TOKENS],
+    ovalues: &mut [u32; WORKING_TOKENS],
     at: usize,
     tags: &[u8],
     values: &[u32],
     l: NodeLayout,
 ) -> usize
     requires { ⌜ length (now values) ≡ length (now tags) ⌝ }
-    ensures { λ r. ⌜ ((M : ℕ) (n : Node) (q : ℕ) → Laid M (tokens (now (tags .entry)) (now (values .entry))) n q l → out (now (otags .exit)) (now (ovalues .exit)) r ≡ emits (out (now (otags .entry)) (now (ovalues .entry)) at) (nodeTokens n)) ⌝ }
+    ensures { λ r. ⌜ ((M : ℕ) (n : Node) (q : ℕ) → LaidNode M (tokens (now (tags .entry)) (now (values .entry))) n q l → out (now (otags .exit)) (now (ovalues .exit)) r ≡ emits (out (now (otags .entry)) (now (ovalues .entry)) at) (nodeTokens n)) ⌝ }
 {
     let locals = l.locals;
     let a = put_front(otags, ovalues, at, tags, values, l);
@@ -177,8 +178,8 @@ pub fn put_node_as_it_came(
 
 // A sheet's types with their definitions, and how many nodes follow.
 pub fn put_types(
-    otags: &mut [u8; 8192],
-    ovalues: &mut [u32; 8192],
+    otags: &mut [u8; WORKING_TOKENS],
+    ovalues: &mut [u32; WORKING_TOKENS],
     at: usize,
     tags: &[u8],
     values: &[u32],

@@ -13,29 +13,29 @@ use Rattle.definitions.specs.Clock.{Clock, inChainOrder}
 use Rattle.definitions.specs.Declock.{Stem, declared}
 use Rattle.definitions.specs.Output.{lettersOf}
 use Rattle.spelling.specs.Writing.{overAt}
-use Rattle.rows.specs.Rows.{clocksIn, Has}
+use Rattle.rows.specs.Rows.{clocksIn, RowsHold}
 use Rattle.rows.proofs.Distinct.{Distinct}
-use Rattle.order.specs.Order.{rowOf, picked, Below}
+use Rattle.order.specs.Order.{rowOf, picked, FirstBelow}
 use Rattle.needs.specs.declared.Counts.{Counts}
 use Rattle.needs.specs.Need.{Needs, Counted}
 use Rattle.many_names.specs.Many.{TooMany}
 use Rattle.many_names.proofs.Large.{flags-past, firsts-past, holds-past, flags-fit, firsts-fit, holds-fit}
-use Rattle.new_names.specs.Names.{nameOf, Numbered, Ordered}
+use Rattle.new_names.specs.Names.{nameOf, Numbered, ChainOrdered}
 use Rattle.new_names.proofs.Ids.{ids-front, map-length}
 use Rattle.new_names.proofs.Added.{rows-ordered}
 use Rattle.node_needs.proofs.Apart.{Apart}
 use Rattle.node_tables.specs.declared.Tables.{Tables}
-use Rattle.node_tables.specs.Filled.{Many, Few, Sorted, AllNumbered, Told}
+use Rattle.node_tables.specs.Filled.{Many, Few, Sorted, AllNumbered, FilledOrFull}
 
 -- ---- rows in chain order
-pub sorted-rows : (letters : ℕ → Letters) (rows order : List ℕ) (n k : ℕ) {x : ℕ} → x ≡ n → k ≤ x → picked (rowOf rows) order 0 k ≡ inChainOrder letters (clocksIn rows x) → Below order k x → Sorted letters rows order n k
+pub sorted-rows : (letters : ℕ → Letters) (rows order : List ℕ) (n k : ℕ) {x : ℕ} → x ≡ n → k ≤ x → picked (rowOf rows) order 0 k ≡ inChainOrder letters (clocksIn rows x) → FirstBelow order k x → Sorted letters rows order n k
 sorted-rows letters rows order n k e a b d =
     record { few = omega arith; sorted = b ∙ ap (λ (i : ℕ). inChainOrder letters (clocksIn rows i)) e; below = λ i u. omega (arith, d i u) }
 
-sorted-ordered : (letters : ℕ → Letters) (names : List Letters) (rows order : List ℕ) (n k : ℕ) (clocks : List Clock) → letters ≡ lettersOf names → 17 * n ≤ length rows → Has rows n clocks → Distinct clocks
-    → Sorted letters rows order n k → Ordered (lettersOf names) rows order k clocks
+sorted-ordered : (letters : ℕ → Letters) (names : List Letters) (rows order : List ℕ) (n k : ℕ) (clocks : List Clock) → letters ≡ lettersOf names → 17 * n ≤ length rows → RowsHold rows n clocks → Distinct clocks
+    → Sorted letters rows order n k → ChainOrdered (lettersOf names) rows order k clocks
 sorted-ordered letters names rows order n k clocks e room h d s =
-    subst (λ (f : ℕ → Letters). Ordered f rows order k clocks) e (rows-ordered letters rows order n k clocks room h d (s .few) (s .sorted) (s .below))
+    subst (λ (f : ℕ → Letters). ChainOrdered f rows order k clocks) e (rows-ordered letters rows order n k clocks room h d (s .few) (s .sorted) (s .below))
 
 -- ---- numbers
 -- the ids that a node declares stand at the front of their table
@@ -57,13 +57,13 @@ module _ (w : Needs) {flags firsts : List ℕ} {s : Counts} (a : length flags �
 
   module _ (names : List Letters) (node : Node) {flagOrder firstOrder flagNumbers firstNumbers holdNumbers : List ℕ} where
     -- more is needed than there are places for
-    pub told-full : {r : Tables} → r .full ≡ true → Many s → Told names node w flags firsts flagOrder firstOrder flagNumbers firstNumbers holdNumbers r
+    pub told-full : {r : Tables} → r .full ≡ true → Many s → FilledOrFull names node w flags firsts flagOrder firstOrder flagNumbers firstNumbers holdNumbers r
     told-full e u = record { kept = λ z. absurd (true≢false (sym e ∙ z)); past = λ z. many-needed u }
 
     -- the tables are filled
     pub told-filled : Apart w → Few s → (letters : ℕ → Letters) → letters ≡ lettersOf names → {k j x : ℕ} → Sorted letters flags flagOrder (s .flags) k → Sorted letters firsts firstOrder (s .firsts) j
         → AllNumbered names node s flagNumbers firstNumbers holdNumbers → x ≡ s .holds
-        → Told names node w flags firsts flagOrder firstOrder flagNumbers firstNumbers holdNumbers (record { rows = s; locals = record { flags = k; firsts = j; holds = x; condact = s .condact }; full = false })
+        → FilledOrFull names node w flags firsts flagOrder firstOrder flagNumbers firstNumbers holdNumbers (record { rows = s; locals = record { flags = k; firsts = j; holds = x; condact = s .condact }; full = false })
     told-filled apart few letters e {k} {j} {x} f g all y =
         let p : 17 * s .flags ≤ length flags = omega (arith, few .flags) in
         let q : 17 * s .firsts ≤ length firsts = omega (arith, few .firsts) in

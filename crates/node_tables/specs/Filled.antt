@@ -11,12 +11,12 @@ use Rattle.definitions.specs.Clock.{inChainOrder}
 use Rattle.definitions.specs.Declock.{ck, first, hold}
 use Rattle.definitions.specs.Output.{lettersOf}
 use Rattle.rows.specs.Rows.{clocksIn}
-use Rattle.order.specs.Order.{rowOf, picked, Below}
+use Rattle.order.specs.Order.{rowOf, picked, FirstBelow}
 use Rattle.needs.specs.declared.Counts.{Counts}
 use Rattle.needs.specs.Need.{Needs, Counted}
 use Rattle.many_names.specs.Many.{TooMany}
 use Rattle.new_names.specs.declared.Locals.{Locals}
-use Rattle.new_names.specs.Names.{Numbered, Ordered}
+use Rattle.new_names.specs.Names.{Numbered, ChainOrdered}
 use Rattle.node_tables.specs.declared.Tables.{Tables}
 
 -- the tables count so many of a kind
@@ -33,7 +33,7 @@ pub record Few (rows : Counts) : Type 0 where
 pub record Sorted (letters : ℕ → Letters) (rows order : List ℕ) (n k : ℕ) : Type 0 where
   pub few : k ≤ n
   pub sorted : picked (rowOf rows) order 0 k ≡ inChainOrder letters (clocksIn rows n)
-  pub below : Below order k n
+  pub below : FirstBelow order k n
 
 -- three tables have the numbers of so many new names of each kind
 pub record AllNumbered (names : List Letters) (node : Node) (rows : Counts) (flagNumbers firstNumbers holdNumbers : List ℕ) : Type 0 where
@@ -45,8 +45,8 @@ pub record AllNumbered (names : List Letters) (node : Node) (rows : Counts) (fla
 pub record Filled (names : List Letters) (node : Node) (w : Needs) (flags firsts flagOrder firstOrder flagNumbers firstNumbers holdNumbers : List ℕ) (rows : Counts) (l : Locals) : Type 0 where
   pub counted : Counted flags firsts rows w
   pub few : Few rows
-  pub flag-order : Ordered (lettersOf names) flags flagOrder (l .flags) (w .flags)
-  pub first-order : Ordered (lettersOf names) firsts firstOrder (l .firsts) (w .firsts)
+  pub flag-order : ChainOrdered (lettersOf names) flags flagOrder (l .flags) (w .flags)
+  pub first-order : ChainOrdered (lettersOf names) firsts firstOrder (l .firsts) (w .firsts)
   pub flag-numbers : Numbered names node ck flagNumbers (length (w .flags))
   pub first-numbers : Numbered names node first firstNumbers (length (w .firsts))
   pub hold-numbers : Numbered names node hold holdNumbers (w .holds)
@@ -54,6 +54,6 @@ pub record Filled (names : List Letters) (node : Node) (w : Needs) (flags firsts
   pub gated : l .condact ≡ w .condact
 
 -- the tables are filled; or they are full, and more is needed than the output has places for names
-pub record Told (names : List Letters) (node : Node) (w : Needs) (flags firsts flagOrder firstOrder flagNumbers firstNumbers holdNumbers : List ℕ) (r : Tables) : Type 0 where
+pub record FilledOrFull (names : List Letters) (node : Node) (w : Needs) (flags firsts flagOrder firstOrder flagNumbers firstNumbers holdNumbers : List ℕ) (r : Tables) : Type 0 where
   pub kept : r .full ≡ false → Filled names node w flags firsts flagOrder firstOrder flagNumbers firstNumbers holdNumbers (r .rows) (r .locals)
   pub past : r .full ≡ true → TooMany w

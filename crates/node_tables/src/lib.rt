@@ -2,6 +2,9 @@
 // numbers of the node's new names. More than 1,024 names of a kind are more than the output has places for: the tables are full.
 // `starts` and `letters` are the input's names, `names` is how many there are; `places` has the places of the sheet's nodes,
 // `nodes` is how many there are; `env` has the clocks of the node's names as inference left them.
+use definitions::CLOCK_TABLE;
+use definitions::MOST_NAMES;
+use definitions::MOST_NODES;
 use layout::NodeLayout;
 use needs::Counts;
 use new_names::Locals;
@@ -20,12 +23,12 @@ ghost use Rattle.definitions.specs.Output.{lettersOf};
 ghost use Rattle.environment.specs.Environment.{Agrees};
 ghost use Rattle.spelling.specs.Stems.{stemOf};
 ghost use Rattle.fresh.specs.Places.{lettersAt};
-ghost use Rattle.layout.specs.Laid.{Laid};
-ghost use Rattle.callees.specs.Callees.{Standing};
+ghost use Rattle.layout.specs.Laid.{LaidNode};
+ghost use Rattle.callees.specs.Callees.{NodesStand};
 ghost use Rattle.stateless.specs.Whole.{noNeeds, oldNeeds};
 ghost use Rattle.stateless.specs.Sheets.{withinAll};
 ghost use Rattle.new_names.specs.Names.{nameOf, Numbered};
-ghost use Rattle.node_tables.specs.Filled.{Many, Few, Sorted, AllNumbered, Told};
+ghost use Rattle.node_tables.specs.Filled.{Many, Few, Sorted, AllNumbered, FilledOrFull};
 
 // How many rows the tables have, how many names of each kind the node adds; full, where that is too many.
 pub struct Tables {
@@ -52,10 +55,10 @@ fn is_crowded(s: Counts) -> bool
     ensures { λ r. ⌜ (r ≡ true → Many s) × (r ≡ false → Few s) ⌝ }
 {
     let holds = s.holds;
-    if 1024 < s.flags {
+    if MOST_NAMES < s.flags {
         return true;
     }
-    if 1024 < s.firsts {
+    if MOST_NAMES < s.firsts {
         return true;
     }
     1024 < holds
@@ -82,9 +85,9 @@ fn full_tables(s: Counts) -> Tables
 fn order_rows(
     starts: &[u32],
     letters: &[u8],
-    rows: &[u32; 17408],
+    rows: &[u32; CLOCK_TABLE],
     n: usize,
-    order: &mut [u32; 1024],
+    order: &mut [u32; MOST_NAMES],
 ) -> usize
     requires { ⌜ n ≤ 1024 ⌝ }
     ensures { λ r. ⌜ Sorted (lettersAt (now (starts .entry)) (now (letters .entry))) (now (rows .entry)) (now (order .exit)) n r ⌝ }
@@ -101,7 +104,7 @@ fn number_stem(
     n: usize,
     stem: StemName,
     count: usize,
-    out: &mut [u32; 1024],
+    out: &mut [u32; MOST_NAMES],
 )
     ensures { λ _. ⌜ ((all : List Letters) (node : Node) → lettersAt (now (starts .entry)) (now (letters .entry)) ≡ lettersOf all → n ≤ 128 → take n (now (ids .entry)) ≡ map nameOf (declared node) → count ≤ 1024 → Numbered all node (stemOf stem) (now (out .exit)) count) ⌝ }
 {
@@ -117,12 +120,12 @@ fn number_names(
     names: u32,
     l: NodeLayout,
     s: Counts,
-    flag_numbers: &mut [u32; 1024],
-    first_numbers: &mut [u32; 1024],
-    hold_numbers: &mut [u32; 1024],
+    flag_numbers: &mut [u32; MOST_NAMES],
+    first_numbers: &mut [u32; MOST_NAMES],
+    hold_numbers: &mut [u32; MOST_NAMES],
 )
     requires { ⌜ length (now values) ≡ length (now tags) ⌝ }
-    ensures { λ _. ⌜ ((all : List Letters) (node : Node) (q : ℕ) → lettersAt (now (starts .entry)) (now (letters .entry)) ≡ lettersOf all → Laid names (tokens (now (tags .entry)) (now (values .entry))) node q l → length (declared node) ≤ 128 → Few s → AllNumbered all node s (now («flag_numbers» .exit)) (now («first_numbers» .exit)) (now («hold_numbers» .exit))) ⌝ }
+    ensures { λ _. ⌜ ((all : List Letters) (node : Node) (q : ℕ) → lettersAt (now (starts .entry)) (now (letters .entry)) ≡ lettersOf all → LaidNode names (tokens (now (tags .entry)) (now (values .entry))) node q l → length (declared node) ≤ 128 → Few s → AllNumbered all node s (now («flag_numbers» .exit)) (now («first_numbers» .exit)) (now («hold_numbers» .exit))) ⌝ }
 {
     let mut ids = [0u32; 128];
     let n = new_names::declared_ids(tags, values, names, l, &mut ids);
@@ -157,22 +160,22 @@ pub fn fill_tables(
     tags: &[u8],
     values: &[u32],
     names: u32,
-    places: &[usize; 16],
+    places: &[usize; MOST_NODES],
     nodes: usize,
     l: NodeLayout,
     env: &[u32],
     condact: u32,
-    flags: &mut [u32; 17408],
-    firsts: &mut [u32; 17408],
-    flag_order: &mut [u32; 1024],
-    first_order: &mut [u32; 1024],
-    flag_numbers: &mut [u32; 1024],
-    first_numbers: &mut [u32; 1024],
-    hold_numbers: &mut [u32; 1024],
+    flags: &mut [u32; CLOCK_TABLE],
+    firsts: &mut [u32; CLOCK_TABLE],
+    flag_order: &mut [u32; MOST_NAMES],
+    first_order: &mut [u32; MOST_NAMES],
+    flag_numbers: &mut [u32; MOST_NAMES],
+    first_numbers: &mut [u32; MOST_NAMES],
+    hold_numbers: &mut [u32; MOST_NAMES],
 ) -> Tables
     requires { ⌜ length (now values) ≡ length (now tags) ⌝ }
     requires { ⌜ nodes ≤ 16 ⌝ }
-    ensures { λ r. ⌜ ((all : List Letters) (node : Node) (q : ℕ) (clocks : Clocks) (cs : List Clocked) (types : List TypeDef) (ns : List Node) → lettersAt (now (starts .entry)) (now (letters .entry)) ≡ lettersOf all → Laid names (tokens (now (tags .entry)) (now (values .entry))) node q l → length (declared node) ≤ 128 → Agrees (now (env .entry)) names clocks → clockedBy clocks (node .equations) ≡ formed cs → withinAll cs ≡ true → Standing names (now (tags .entry)) (now (values .entry)) (now (places .entry)) nodes ns → Told all node (oldNeeds types ns node condact cs noNeeds) (now (flags .exit)) (now (firsts .exit)) (now («flag_order» .exit)) (now («first_order» .exit)) (now («flag_numbers» .exit)) (now («first_numbers» .exit)) (now («hold_numbers» .exit)) r) ⌝ }
+    ensures { λ r. ⌜ ((all : List Letters) (node : Node) (q : ℕ) (clocks : Clocks) (cs : List Clocked) (types : List TypeDef) (ns : List Node) → lettersAt (now (starts .entry)) (now (letters .entry)) ≡ lettersOf all → LaidNode names (tokens (now (tags .entry)) (now (values .entry))) node q l → length (declared node) ≤ 128 → Agrees (now (env .entry)) names clocks → clockedBy clocks (node .equations) ≡ formed cs → withinAll cs ≡ true → NodesStand names (now (tags .entry)) (now (values .entry)) (now (places .entry)) nodes ns → FilledOrFull all node (oldNeeds types ns node condact cs noNeeds) (now (flags .exit)) (now (firsts .exit)) (now («flag_order» .exit)) (now («first_order» .exit)) (now («flag_numbers» .exit)) (now («first_numbers» .exit)) (now («hold_numbers» .exit)) r) ⌝ }
 {
     let s = node_needs::node_needs(
         tags,

@@ -1,15 +1,14 @@
--- Laws of ids, of spans, of what is written only with the expression itself, of types and of defaults.
+-- Laws of spans, of what is written only with the expression itself, of types and of defaults.
 -- Assumes nothing.
 use mathlib.Core.Path.{_≡_, refl, sym, _∙_, ap}
 use mathlib.Core.List.{List, [], _∷_, _++_, map}
-use mathlib.Core.Logic.{inl}
 use mathlib.Core.Bool.{Bool, true, false}
 use mathlib.Core.Option.{Option, none, some}
 use Prim.Native.Nat.{ℕ, zero, suc, _+_, _-_, _*_, _≤_, _<_}
 use native.Mathlib.Omega.{arith}
 use lib.Dec.{ltb}
 use borrow.Author.Tests.{ltb-true, ltb-false}
-use lib.ListN.{length, getD, take, drop, length-drop}
+use lib.ListN.{length, take, drop, length-drop}
 use Rattle.definitions.specs.declared.Primitive.{Primitive}
 use Rattle.definitions.specs.declared.TypeToken.{TypeToken}
 use Rattle.definitions.specs.declared.ExprToken.{ExprToken}
@@ -21,17 +20,15 @@ use Rattle.definitions.specs.Tree.{Ty, Declared, TypeDef, Expr, Node}
 use Rattle.definitions.specs.Reading.{got, times}
 use Rattle.definitions.specs.Grammar.{ty, declaration}
 use Rattle.definitions.specs.Types.{default}
-use Rattle.definitions.specs.Clock.{Clock}
 use Rattle.definitions.specs.InferClocks.{Fault, noOutputDefault}
-use Rattle.definitions.specs.Declock.{clockPlace}
 use Rattle.definitions.specs.Output.{t, tyTokens, declaredTokens, exprTokens, operandTokens}
 use Rattle.definitions.specs.Tokens.{typeTokenOf}
 use Rattle.definitions.specs.Reading.{token}
 use Rattle.grammar.specs.declared.TypeHead.{TypeHead}
 use Rattle.grammar.specs.Outcome.{typeHead}
 use Rattle.grammar.proofs.Laws.{tokens-length, type-head-got}
+use Rattle.grammar.proofs.Longer.{token-got}
 use Rattle.grammar.proofs.Got.{times-nil, type-got}
-use Rattle.rows.specs.Rows.{clocksIn, Has}
 use Rattle.operand_type.specs.declared.TypeFound.{TypeFound}
 use Rattle.operand_type.specs.Found.{IsFound}
 use Rattle.stateless.specs.Yield.{outputTrees}
@@ -46,16 +43,6 @@ use Rattle.openings.specs.declared.Mode.{Mode}
 use Rattle.openings.specs.declared.Plan.{Plan}
 use Rattle.openings.specs.Shown.{isTree, inTree}
 use Rattle.openings.specs.Planned.{leading, gateTokens, choiceTokens, twoMore, holdTokens, Defaults, Closing}
-
--- ---- ids
-pub none-there : (l : List ℕ) (i : ℕ) → length l ≤ i → 0 ≡ getD l i 0
-none-there [] i h = refl
-none-there (x ∷ l) zero h = absurd (omega arith)
-none-there (x ∷ l) (suc i) h = none-there l i (omega arith)
-
-pub flag-there : (rows ids : List ℕ) (n : ℕ) (c : Clock) (p r : ℕ) → ((cs : List Clock) → 17 * n ≤ length rows → Has rows n cs → p ≡ clockPlace c cs) → r ≡ getD ids p 0 → 17 * n ≤ length rows → r ≡ getD ids (clockPlace c (clocksIn rows n)) 0
-unfolding Has
-flag-there rows ids n c p r f e h = e ∙ ap (λ (i : ℕ). getD ids i 0) (f (clocksIn rows n) h (inl (h, refl)))
 
 -- ---- with the expression itself
 module _ {A : Type 0} (m : Mode) (b : Bool) (i : b ≡ isTree m) (l : List A) where
@@ -248,6 +235,10 @@ array-past M ts p r i d a q g h s e l =
     let f = type-head-got (token (typeTokenOf M) ts p) r h s i e in
     let v : p + 1 ≡ s = cc in
     omega arith
+
+-- where a type's token stands, there are tokens left
+pub type-there : (M : ℕ) (gs vs : List ℕ) → length vs ≡ length gs → (p : ℕ) (r : TypeHead) → r ≡ typeHead (token (typeTokenOf M) (tokens gs vs) p) → (h : TypeToken) (s : ℕ) → r ≡ TypeHead.Token h s → p < length gs
+type-there M gs vs same p r i h s e = omega (arith, token-got (typeTokenOf M) (tokens gs vs) p h s (type-head-got (token (typeTokenOf M) (tokens gs vs) p) r h s i e) .1, tokens-length gs vs same)
 
 -- ---- a hold
 pub hold-written : (x flag : ℕ) (o o₁ o₂ : Out) → o₁ ≡ emits o (Token.Count 1 ∷ Token.Name x ∷ []) → o₂ ≡ emits o₁ (choiceTokens flag) → o₂ ≡ emits o (holdTokens x flag)

@@ -13,7 +13,7 @@ use Rattle.definitions.specs.Tokens.{TagValue}
 use Rattle.definitions.specs.Bytes.{tokens}
 use Rattle.definitions.specs.Tree.{Declared, TypeDef, Head, Expr, Exprs, Node}
 use Rattle.definitions.specs.Grammar.{declaration, node}
-use Rattle.definitions.specs.Clock.{Clock, _/_, parent, isOn, isNot, isBase}
+use Rattle.definitions.specs.Clock.{Clock, _↓_, parent, isOn, isNot, isBase}
 use Rattle.definitions.specs.Declock.{isOperatorKind, operatorOutputs}
 use Rattle.definitions.specs.Output.{e, formTokens, exprTokens}
 use Rattle.grammar.proofs.Laws.{times-length}
@@ -24,13 +24,13 @@ use types.Run.{miss}
 use Rattle.operands.proofs.Laws.{count-place}
 use Rattle.operands.proofs.Roles.{Among}
 use Rattle.callees.specs.declared.Callee.{Callee}
-use Rattle.callees.specs.Callees.{isThere, Standing, Called}
+use Rattle.callees.specs.Callees.{isThere, NodesStand, OutputsStand}
 use Rattle.needs.specs.declared.Turn.{Turn}
 use Rattle.needs.specs.Need.{isBare, preTurn, hereOn, restOn, turnOf}
 use Rattle.stateless.specs.Yield.{Ids, gateOf, yield}
 use Rattle.copying.specs.Copied.{around}
 use Rattle.openings.specs.declared.Plan.{Plan}
-use Rattle.openings.specs.Planned.{stays, choiceTokens, Headed, GatePlan, Builds, Planned}
+use Rattle.openings.specs.Planned.{stays, choiceTokens, OneToken, GatePlan, Builds, Planned}
 
 -- a form that computes is an index or not
 pub by-form : (P : Role → Type 0) → P Role.Compute → P Role.Index → (h : Head) → P (roleOfHead h)
@@ -119,7 +119,7 @@ outputs-of (some n) os h = go (isOperatorKind (n .kind)) h
     go true h = (n, refl, cc)
     go false h = let z : _≡_ {A = ℕ} 0 1 = cc in absurd (omega arith)
 
-few-outputs : (M : ℕ) (gs vs places : List ℕ) (k : ℕ) (l : List Node) → Standing M gs vs places k l → (f : ℕ) (os : List Declared) → operatorOutputs l f ≡ some os → length os ≤ 128
+few-outputs : (M : ℕ) (gs vs places : List ℕ) (k : ℕ) (l : List Node) → NodesStand M gs vs places k l → (f : ℕ) (os : List Declared) → operatorOutputs l f ≡ some os → length os ≤ 128
 unfolding operatorOutputs
 few-outputs M gs vs places k l s f os h =
     let n = outputs-of (find (λ (m : Node). eqb (m .name) f) l) os h in
@@ -132,17 +132,17 @@ few-outputs M gs vs places k l s f os h =
     rw (sym (n .2)) (omega (arith, c .2, t))
 
 -- ---- a gated call
-module _ (M : ℕ) (gs vs places : List ℕ) (k : ℕ) (l : List Node) (s : Standing M gs vs places k l) (ρ : Role) (f : ℕ) (i : ρ ≡ Role.Call f) (os : List Declared) (h : operatorOutputs l f ≡ some os) (flag : ℕ) where
-  pub gate-there : (g : ℕ) (o : Callee) (p n : ℕ) → ρ ≡ Role.Call g → Called M (tokens gs vs) (operatorOutputs l g) o → o ≡ Callee.Operator p n → GatePlan M (tokens gs vs) flag os (Plan.Gate flag p n)
-  unfolding GatePlan Called
+module _ (M : ℕ) (gs vs places : List ℕ) (k : ℕ) (l : List Node) (s : NodesStand M gs vs places k l) (ρ : Role) (f : ℕ) (i : ρ ≡ Role.Call f) (os : List Declared) (h : operatorOutputs l f ≡ some os) (flag : ℕ) where
+  pub gate-there : (g : ℕ) (o : Callee) (p n : ℕ) → ρ ≡ Role.Call g → OutputsStand M (tokens gs vs) (operatorOutputs l g) o → o ≡ Callee.Operator p n → GatePlan M (tokens gs vs) flag os (Plan.Gate flag p n)
+  unfolding GatePlan OutputsStand
   gate-there g o p n j c w =
       let x : g ≡ f = cc in
-      let y : Called M (tokens gs vs) (some os) (Callee.Operator p n) = rw (x, h, w) at c in
+      let y : OutputsStand M (tokens gs vs) (some os) (Callee.Operator p n) = rw (x, h, w) at c in
       let m = times-length (declaration M) (tokens gs vs) n p os (y .0) (y .1) in
       (refl, omega (arith, m, few-outputs M gs vs places k l s f os h), y)
 
-  pub gate-missing : (g : ℕ) (o : Callee) → ρ ≡ Role.Call g → Called M (tokens gs vs) (operatorOutputs l g) o → o ≡ Callee.Other → ⊥
-  unfolding Called
+  pub gate-missing : (g : ℕ) (o : Callee) → ρ ≡ Role.Call g → OutputsStand M (tokens gs vs) (operatorOutputs l g) o → o ≡ Callee.Other → ⊥
+  unfolding OutputsStand
   gate-missing g o j c w =
       let x : g ≡ f = cc in
       rw (x, h, w) at c
@@ -183,7 +183,7 @@ module _ (types : List TypeDef) (nodes : List Node) (node : Node) (ids : Ids) (c
   unfolding yield exprTokens around roleOfExpr operandsOf
   call-stays f es i = record { tree = λ n. rw i; holds = λ n. refl; after = λ n. refl }
 
-  when-stays : (k : _) (a : Expr) → Builds types nodes node ids c (Expr.when k a) join × Headed (Expr.when k a)
+  when-stays : (k : _) (a : Expr) → Builds types nodes node ids c (Expr.when k a) join × OneToken (Expr.when k a)
   unfolding yield exprTokens around roleOfExpr operandsOf
   when-stays k a = (
     record {
@@ -194,12 +194,12 @@ module _ (types : List TypeDef) (nodes : List Node) (node : Node) (ids : Ids) (c
     record { token = _; same = λ ps. refl },
   )
 
-  merge-stays : (x : ℕ) (a b : Expr) → Builds types nodes node ids c (Expr.merge x a b) (λ ps. choiceTokens x ++ join ps) × Headed (Expr.merge x a b)
+  merge-stays : (x : ℕ) (a b : Expr) → Builds types nodes node ids c (Expr.merge x a b) (λ ps. choiceTokens x ++ join ps) × OneToken (Expr.merge x a b)
   unfolding yield exprTokens formTokens around roleOfExpr operandsOf
   merge-stays x a b = (
     record {
       tree = λ n. refl;
-      holds = λ n. rw (append-nil (yield types nodes node ids (c / isNot x) (yield types nodes node ids (c / isOn x) n a .after) b .holds));
+      holds = λ n. rw (append-nil (yield types nodes node ids (c ↓ isNot x) (yield types nodes node ids (c ↓ isOn x) n a .after) b .holds));
       after = λ n. refl;
     },
     record { token = _; same = λ ps. refl },
@@ -216,7 +216,7 @@ module _ (types : List TypeDef) (nodes : List Node) (node : Node) (ids : Ids) (c
   kept (Expr.when k a) h = when-stays k a
   kept (Expr.merge x a b) h = merge-stays x a b
 
-  first-turned : (a b : Expr) → isBase c ≡ false → Builds types nodes node ids c (Expr.arrow a b) (λ ps. choiceTokens (ids .first c) ++ join ps) × Headed (Expr.arrow a b)
+  first-turned : (a b : Expr) → isBase c ≡ false → Builds types nodes node ids c (Expr.arrow a b) (λ ps. choiceTokens (ids .first c) ++ join ps) × OneToken (Expr.arrow a b)
   unfolding yield exprTokens formTokens around roleOfExpr operandsOf
   first-turned a b i = (
     record {

@@ -18,9 +18,9 @@ use Rattle.operands.specs.declared.Role.{Role}
 use Rattle.operands.specs.Role.{roleOfExpr, operandsOf}
 use Rattle.typedefs.specs.Table.{Table}
 use Rattle.layout.specs.declared.NodeLayout.{NodeLayout}
-use Rattle.layout.specs.Laid.{Laid}
+use Rattle.layout.specs.Laid.{LaidNode}
 use Rattle.rows.specs.Rows.{clocksIn}
-use Rattle.callees.specs.Callees.{Standing}
+use Rattle.callees.specs.Callees.{NodesStand}
 use Rattle.needs.specs.declared.Turn.{Turn}
 use Rattle.needs.specs.Need.{isBare, preTurn, hereOn, restOn}
 use Rattle.stateless.specs.Yield.{Ids, Yield, outputTrees, gateOf, yield, yields}
@@ -36,9 +36,9 @@ pub record Grounds (gs vs places typePlaces flags firsts : List ℕ) (k : Sizes)
   pub nodes : List Node
   pub node : Node
   pub end : ℕ
-  pub standing : Standing (k .names) gs vs places (k .nodes) nodes
+  pub standing : NodesStand (k .names) gs vs places (k .nodes) nodes
   pub table : Table (k .names) (tokens gs vs) typePlaces (k .types) types
-  pub laid : Laid (k .names) (tokens gs vs) node end layout
+  pub laid : LaidNode (k .names) (tokens gs vs) node end layout
   pub flags-fit : 17 * k .flags ≤ length flags
   pub firsts-fit : 17 * k .firsts ≤ length firsts
 
@@ -91,7 +91,7 @@ GatePlan M ts f os (Plan.Hold x) = ⊥
 GatePlan M ts f os (Plan.Gate x p n) = (x ≡ f) × (n ≤ 128) × ((q : ℕ) × (times n (declaration M) ts p ≡ got os q))
 
 -- one token and the operands
-pub record Headed (e : Expr) : Type 0 where
+pub record OneToken (e : Expr) : Type 0 where
   pub token : Token
   pub same : (ps : List (List Token)) → around e ps ≡ token ∷ join ps
 
@@ -146,7 +146,7 @@ module _ (types : List TypeDef) (nodes : List Node) (node : Node) where
     -- the plan says what becomes of it
     unfoldable pub Planned : ℕ → List TagValue → Plan → Type 0
     Planned M ts Plan.Copy = Builds (around e)
-    Planned M ts Plan.Operand = Builds join × Headed e
-    Planned M ts (Plan.Choose x) = Builds (λ ps. choiceTokens x ++ join ps) × Headed e
+    Planned M ts Plan.Operand = Builds join × OneToken e
+    Planned M ts (Plan.Choose x) = Builds (λ ps. choiceTokens x ++ join ps) × OneToken e
     Planned M ts (Plan.Hold f) = Held f
     Planned M ts (Plan.Gate f p n) = Gated M ts f p n

@@ -3,8 +3,10 @@
 use callees::Callee;
 use clock::Clock;
 use definitions::ExprToken;
+use definitions::MOST_NODES;
 use definitions::Token;
 use definitions::TypeToken;
+use definitions::WORKING_TOKENS;
 use grammar::Read;
 use grammar::TypeHead;
 use layout::NodeLayout;
@@ -14,14 +16,14 @@ use operands::Role;
 ghost use mathlib.Core.Path.{_≡_};
 ghost use mathlib.Core.List.{List, [], _∷_};
 ghost use mathlib.Core.Option.{some, none};
-ghost use Prim.Native.Nat.{ℕ, suc, _+_, _-_, _*_, _≤_, _<_};
+ghost use Prim.Native.Nat.{ℕ, suc, _+_, _-_, _≤_, _<_};
 ghost use lib.ListN.{length, getD};
 ghost use Rattle.definitions.specs.Bytes.{tokens};
 ghost use Rattle.definitions.specs.Lists.{join};
 ghost use Rattle.definitions.specs.Tree.{Ty, Declared, TypeDef, Expr, Node};
 ghost use Rattle.definitions.specs.Reading.{got, times};
 ghost use Rattle.definitions.specs.Grammar.{ty, declaration};
-ghost use Rattle.definitions.specs.Declock.{clockPlace, operatorOutputs, declared, operandType};
+ghost use Rattle.definitions.specs.Declock.{operatorOutputs, declared, operandType};
 ghost use Rattle.definitions.specs.declared.Token.{Token};
 ghost use Rattle.operands.specs.declared.Role.{Role};
 ghost use Rattle.layout.specs.declared.NodeLayout.{NodeLayout};
@@ -29,10 +31,9 @@ ghost use Rattle.definitions.specs.Output.{tyTokens, declaredTokens, operandTok
 ghost use Rattle.clock.specs.Value.{valueOf};
 ghost use Rattle.operands.specs.Role.{roleOfExpr};
 ghost use Rattle.operands.specs.Spread.{tree};
-ghost use Rattle.layout.specs.Laid.{Laid};
+ghost use Rattle.layout.specs.Laid.{LaidNode};
 ghost use Rattle.typedefs.specs.Table.{Table};
-ghost use Rattle.rows.specs.Rows.{clocksIn};
-ghost use Rattle.callees.specs.Callees.{Standing};
+ghost use Rattle.callees.specs.Callees.{NodesStand};
 ghost use Rattle.needs.specs.Need.{turnOf};
 ghost use Rattle.operand_type.specs.Found.{IsFound};
 ghost use Rattle.stateless.specs.Yield.{outputTrees};
@@ -82,26 +83,11 @@ pub fn is_tree(mode: Mode) -> bool
     }
 }
 
-// The i-th id; 0, where there is none.
-pub fn id_at(ids: &[u32], i: usize) -> u32
-    ensures { λ r. ⌜ r ≡ getD (now (ids .entry)) i 0 ⌝ }
-{
-    if i < ids.len() { ids[i] } else { 0 }
-}
-
 // The id of a hold, by its number.
 pub fn hold_id(ids: &[u32], n: u32) -> u32
     ensures { λ r. ⌜ r ≡ getD (now (ids .entry)) n 0 ⌝ }
 {
-    id_at(ids, n as usize)
-}
-
-// The id of a clock's flag: it stands at the clock's place among the n clocks with flags.
-pub fn flag_id(rows: &[u32], n: usize, ids: &[u32], c: Clock) -> u32
-    ensures { λ r. ⌜ (17 * n ≤ length (now (rows .entry)) → r ≡ getD (now (ids .entry)) (clockPlace (valueOf c) (clocksIn (now (rows .entry)) n)) 0) ⌝ }
-{
-    let place = rows::find(rows, n, c);
-    id_at(ids, place)
+    flat::word_at(ids, n as usize)
 }
 
 // This place, or the end of the tokens, whichever comes first.
@@ -114,8 +100,8 @@ fn within(tags: &[u8], to: usize) -> usize
 
 // The source's tokens from one place to another, where the expression itself is written.
 pub fn put_span(
-    otags: &mut [u8; 8192],
-    ovalues: &mut [u32; 8192],
+    otags: &mut [u8; WORKING_TOKENS],
+    ovalues: &mut [u32; WORKING_TOKENS],
     w: usize,
     mode: Mode,
     tags: &[u8],
@@ -139,8 +125,8 @@ pub fn put_span(
 
 // Two tokens, where the expression itself is written.
 pub fn put_two(
-    otags: &mut [u8; 8192],
-    ovalues: &mut [u32; 8192],
+    otags: &mut [u8; WORKING_TOKENS],
+    ovalues: &mut [u32; WORKING_TOKENS],
     w: usize,
     mode: Mode,
     s: Token,
@@ -164,8 +150,8 @@ fn two_more(n: u32) -> u32
 
 // The first tokens of a gated call with n outputs, where the expression itself is written.
 pub fn put_gate(
-    otags: &mut [u8; 8192],
-    ovalues: &mut [u32; 8192],
+    otags: &mut [u8; WORKING_TOKENS],
+    ovalues: &mut [u32; WORKING_TOKENS],
     w: usize,
     mode: Mode,
     condact: u32,
@@ -196,8 +182,8 @@ pub fn put_gate(
 
 // What is written before the operands, which begin at `first`.
 pub fn opening(
-    otags: &mut [u8; 8192],
-    ovalues: &mut [u32; 8192],
+    otags: &mut [u8; WORKING_TOKENS],
+    ovalues: &mut [u32; WORKING_TOKENS],
     w: usize,
     mode: Mode,
     p: Plan,
@@ -230,7 +216,7 @@ pub fn opening(
 }
 
 // The defaults of so many outputs, one after another.
-pub fn put_defaults(
+fn put_defaults(
     tags: &[u8],
     values: &[u32],
     names: u32,
@@ -238,8 +224,8 @@ pub fn put_defaults(
     types: usize,
     count: u32,
     at: usize,
-    otags: &mut [u8; 8192],
-    ovalues: &mut [u32; 8192],
+    otags: &mut [u8; WORKING_TOKENS],
+    ovalues: &mut [u32; WORKING_TOKENS],
     w: usize,
 ) -> usize
     requires { ⌜ length (now values) ≡ length (now tags) ⌝ }
@@ -281,8 +267,8 @@ pub fn closing(
     types: usize,
     mode: Mode,
     p: Plan,
-    otags: &mut [u8; 8192],
-    ovalues: &mut [u32; 8192],
+    otags: &mut [u8; WORKING_TOKENS],
+    ovalues: &mut [u32; WORKING_TOKENS],
     w: usize,
 ) -> usize
     requires { ⌜ length (now values) ≡ length (now tags) ⌝ }
@@ -333,14 +319,14 @@ fn gate(
     tags: &[u8],
     values: &[u32],
     names: u32,
-    places: &[usize; 16],
+    places: &[usize; MOST_NODES],
     nodes: usize,
     role: Role,
     flag: u32,
 ) -> Plan
     requires { ⌜ length (now values) ≡ length (now tags) ⌝ }
     requires { ⌜ nodes ≤ 16 ⌝ }
-    ensures { λ r. ⌜ ((f : ℕ) (l : List Node) (os : List Declared) → role ≡ Role.Call f → Standing names (now (tags .entry)) (now (values .entry)) (now (places .entry)) nodes l → operatorOutputs l f ≡ some os → GatePlan names (tokens (now (tags .entry)) (now (values .entry))) flag os r) ⌝ }
+    ensures { λ r. ⌜ ((f : ℕ) (l : List Node) (os : List Declared) → role ≡ Role.Call f → NodesStand names (now (tags .entry)) (now (values .entry)) (now (places .entry)) nodes l → operatorOutputs l f ≡ some os → GatePlan names (tokens (now (tags .entry)) (now (values .entry))) flag os r) ⌝ }
 {
     match role {
         Role::Call(f) => {
@@ -358,7 +344,7 @@ fn gate(
 pub fn plan_of(
     tags: &[u8],
     values: &[u32],
-    places: &[usize; 16],
+    places: &[usize; MOST_NODES],
     flags: &[u32],
     firsts: &[u32],
     flag_ids: &[u32],
@@ -375,28 +361,28 @@ pub fn plan_of(
     match t {
         Turn::Keep => stay(role),
         Turn::Hold => {
-            let f = flag_id(flags, k.flags, flag_ids, c);
+            let f = needs::flag_id(flags, k.flags, flag_ids, c);
             Plan::Hold(f)
         }
         Turn::First => {
-            let f = flag_id(firsts, k.firsts, first_ids, c);
+            let f = needs::flag_id(firsts, k.firsts, first_ids, c);
             Plan::Choose(f)
         }
         Turn::Gate => {
-            let f = flag_id(flags, k.flags, flag_ids, c);
+            let f = needs::flag_id(flags, k.flags, flag_ids, c);
             gate(tags, values, k.names, places, k.nodes, role, f)
         }
     }
 }
 
 // The tokens of the type at a place.
-pub fn put_type_at(
+fn put_type_at(
     tags: &[u8],
     values: &[u32],
     names: u32,
     at: usize,
-    otags: &mut [u8; 8192],
-    ovalues: &mut [u32; 8192],
+    otags: &mut [u8; WORKING_TOKENS],
+    ovalues: &mut [u32; WORKING_TOKENS],
     w: usize,
 ) -> usize
     requires { ⌜ length (now values) ≡ length (now tags) ⌝ }
@@ -422,13 +408,13 @@ pub fn put_type_at(
 }
 
 // The tokens of a type that was found.
-pub fn put_type(
+fn put_type(
     tags: &[u8],
     values: &[u32],
     names: u32,
     found: TypeFound,
-    otags: &mut [u8; 8192],
-    ovalues: &mut [u32; 8192],
+    otags: &mut [u8; WORKING_TOKENS],
+    ovalues: &mut [u32; WORKING_TOKENS],
     w: usize,
 ) -> usize
     requires { ⌜ length (now values) ≡ length (now tags) ⌝ }
@@ -462,8 +448,8 @@ pub fn next_hold(n: u32) -> u32
 
 // The first tokens of a hold's equation: one left name, and a choice by a flag.
 pub fn put_hold(
-    otags: &mut [u8; 8192],
-    ovalues: &mut [u32; 8192],
+    otags: &mut [u8; WORKING_TOKENS],
+    ovalues: &mut [u32; WORKING_TOKENS],
     w: usize,
     x: u32,
     flag: u32,
@@ -487,13 +473,13 @@ pub fn put_declaration(
     names: u32,
     layout: NodeLayout,
     at: usize,
-    otags: &mut [u8; 8192],
-    ovalues: &mut [u32; 8192],
+    otags: &mut [u8; WORKING_TOKENS],
+    ovalues: &mut [u32; WORKING_TOKENS],
     w: usize,
     x: u32,
 ) -> usize
     requires { ⌜ length (now values) ≡ length (now tags) ⌝ }
-    ensures { λ r. ⌜ ((e : Expr) (q : ℕ) (n : Node) (u : ℕ) (a : Ty) → tree names (tokens (now (tags .entry)) (now (values .entry))) at ≡ got e q → Laid names (tokens (now (tags .entry)) (now (values .entry))) n u layout → operandType (declared n) e ≡ some a → out (now (otags .exit)) (now (ovalues .exit)) r ≡ emits (out (now (otags .entry)) (now (ovalues .entry)) w) (declaredTokens (record { name = x; type = a }))) ⌝ }
+    ensures { λ r. ⌜ ((e : Expr) (q : ℕ) (n : Node) (u : ℕ) (a : Ty) → tree names (tokens (now (tags .entry)) (now (values .entry))) at ≡ got e q → LaidNode names (tokens (now (tags .entry)) (now (values .entry))) n u layout → operandType (declared n) e ≡ some a → out (now (otags .exit)) (now (ovalues .exit)) r ≡ emits (out (now (otags .entry)) (now (ovalues .entry)) w) (declaredTokens (record { name = x; type = a }))) ⌝ }
 {
     let found = operand_type::type_of(tags, values, names, layout, at);
     let next = emit::emit(otags, ovalues, w, Token::Name(x));

@@ -30,7 +30,7 @@ use Rattle.grammar.proofs.Laws.{wrap-got, tokens-length}
 use Rattle.grammar.proofs.Got.{tagged-value, times-nil}
 use Rattle.typedefs.proofs.Laws.{type-not-refused, type-is-basic, type-is-named, type-is-array, FirstField}
 use Rattle.layout.specs.declared.NodeLayout.{NodeLayout}
-use Rattle.layout.specs.Laid.{Laid}
+use Rattle.layout.specs.Laid.{LaidNode}
 use Rattle.operands.specs.declared.Gap.{Gap}
 use Rattle.operands.specs.declared.Operand.{Operand}
 use Rattle.operands.specs.declared.Role.{Role}
@@ -41,7 +41,7 @@ use Rattle.operands.proofs.Laws.{spread-nil, name-place}
 use Rattle.operands.proofs.Deeper.{tree-head}
 use Rattle.operands.proofs.Forms.{formed}
 use Rattle.operands.proofs.Roles.{Among}
-use Rattle.natural.proofs.Laws.{apart}
+use Rattle.operands.proofs.Apart.{apart}
 use Rattle.definitions.proofs.ExprToken.{the-type}
 use Rattle.operand_type.specs.declared.TypeFound.{TypeFound}
 use Rattle.operand_type.specs.Found.{orFound, IsFound}

@@ -21,7 +21,7 @@ ghost use Rattle.definitions.specs.Reading.{got, times};
 ghost use Rattle.definitions.specs.Grammar.{declaration};
 ghost use Rattle.definitions.specs.Declock.{declared, lastType, element, literalType, operandType};
 ghost use Rattle.operands.specs.Spread.{tree};
-ghost use Rattle.layout.specs.Laid.{Laid};
+ghost use Rattle.layout.specs.Laid.{LaidNode};
 ghost use Rattle.operand_type.specs.Found.{orFound, IsFound};
 
 // A type: by its place among the tokens; a literal's; or none.
@@ -32,7 +32,7 @@ pub enum TypeFound {
 }
 
 // The first that is known.
-pub fn or_found(a: TypeFound, b: TypeFound) -> TypeFound
+fn or_found(a: TypeFound, b: TypeFound) -> TypeFound
     ensures { λ r. ⌜ r ≡ orFound a b ⌝ }
 {
     match a {
@@ -43,7 +43,7 @@ pub fn or_found(a: TypeFound, b: TypeFound) -> TypeFound
 }
 
 // A constant's type.
-pub fn literal_type(l: Literal) -> Primitive
+fn literal_type(l: Literal) -> Primitive
     ensures { λ r. ⌜ r ≡ literalType l ⌝ }
 {
     match l {
@@ -55,7 +55,7 @@ pub fn literal_type(l: Literal) -> Primitive
 }
 
 // The type of the constant that stands there.
-pub fn constant_type(tags: &[u8], values: &[u32], names: u32, at: usize) -> TypeFound
+fn constant_type(tags: &[u8], values: &[u32], names: u32, at: usize) -> TypeFound
     requires { ⌜ length (now values) ≡ length (now tags) ⌝ }
     ensures { λ r. ⌜ ((l : Literal) (w q : ℕ) → tree names (tokens (now (tags .entry)) (now (values .entry))) at ≡ got (Expr.const l w) q → r ≡ TypeFound.Basic (literalType l)) ⌝ }
 {
@@ -70,7 +70,7 @@ pub fn constant_type(tags: &[u8], values: &[u32], names: u32, at: usize) -> Type
 }
 
 // An array type's element type.
-pub fn element_of(tags: &[u8], values: &[u32], names: u32, found: TypeFound) -> TypeFound
+fn element_of(tags: &[u8], values: &[u32], names: u32, found: TypeFound) -> TypeFound
     requires { ⌜ length (now values) ≡ length (now tags) ⌝ }
     ensures { λ r. ⌜ ((o : Option Ty) → IsFound names (tokens (now (tags .entry)) (now (values .entry))) o found → IsFound names (tokens (now (tags .entry)) (now (values .entry))) (element o) r) ⌝ }
 {
@@ -92,7 +92,7 @@ pub fn element_of(tags: &[u8], values: &[u32], names: u32, found: TypeFound) -> 
 }
 
 // The type of the last of so many declarations of a name; else what was found before.
-pub fn last_in(
+fn last_in(
     tags: &[u8],
     values: &[u32],
     names: u32,
@@ -133,7 +133,7 @@ pub fn last_in(
 // The type of a name: its last declaration's.
 pub fn last_type(tags: &[u8], values: &[u32], names: u32, node: NodeLayout, x: u32) -> TypeFound
     requires { ⌜ length (now values) ≡ length (now tags) ⌝ }
-    ensures { λ r. ⌜ ((n : Node) (u : ℕ) → Laid names (tokens (now (tags .entry)) (now (values .entry))) n u node → IsFound names (tokens (now (tags .entry)) (now (values .entry))) (lastType (declared n) x) r) ⌝ }
+    ensures { λ r. ⌜ ((n : Node) (u : ℕ) → LaidNode names (tokens (now (tags .entry)) (now (values .entry))) n u node → IsFound names (tokens (now (tags .entry)) (now (values .entry))) (lastType (declared n) x) r) ⌝ }
 {
     let inputs = node.inputs;
     let outputs = node.outputs;
@@ -154,7 +154,7 @@ pub fn last_type(tags: &[u8], values: &[u32], names: u32, node: NodeLayout, x: u
 // The type of the expression that stands there.
 pub fn type_of(tags: &[u8], values: &[u32], names: u32, node: NodeLayout, at: usize) -> TypeFound
     requires { ⌜ length (now values) ≡ length (now tags) ⌝ }
-    ensures { λ r. ⌜ ((e : Expr) (q : ℕ) (n : Node) (u : ℕ) → tree names (tokens (now (tags .entry)) (now (values .entry))) at ≡ got e q → Laid names (tokens (now (tags .entry)) (now (values .entry))) n u node → IsFound names (tokens (now (tags .entry)) (now (values .entry))) (operandType (declared n) e) r) ⌝ }
+    ensures { λ r. ⌜ ((e : Expr) (q : ℕ) (n : Node) (u : ℕ) → tree names (tokens (now (tags .entry)) (now (values .entry))) at ≡ got e q → LaidNode names (tokens (now (tags .entry)) (now (values .entry))) n u node → IsFound names (tokens (now (tags .entry)) (now (values .entry))) (operandType (declared n) e) r) ⌝ }
 {
     let v = operands::view_at(tags, values, names, at);
     let first = v.first;

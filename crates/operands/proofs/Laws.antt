@@ -35,7 +35,7 @@ use Rattle.operands.specs.declared.View.{View}
 use Rattle.operands.specs.Role.{roleOf, roleOfExpr, operandsOf}
 use Rattle.operands.specs.Spread.{tree, before, behind, later, spread, pastIn, operandAt, restAt}
 use Rattle.operands.specs.Laid.{skipped, plainAt, behindCount, behindStart, iterated, operandsAt}
-use Rattle.operands.specs.Viewed.{Laid, Viewed, Split, Stepped}
+use Rattle.operands.specs.Viewed.{OperandsLaid, Viewed, Split, Stepped}
 use Rattle.operands.proofs.Deeper.{tree-head}
 use Rattle.operands.proofs.Forms.{laid, formed}
 
@@ -233,7 +233,7 @@ module _ (M : ℕ) (ts : List TagValue) (t : ExprToken) (p : ℕ) (h : Shape) (o
       let f = laid-read M ts (shapeOf t) p (operandsOf e) q (formed M (tree M) ts p e q t g .1) in
       j (f .0) q (rw i (f .1)) ∙ ap (λ (z : Shape). operandsAt M ts z p) i
 
-  pub laid-of : Laid M ts t p o
+  pub laid-of : OperandsLaid M ts t p o
   laid-of = record {
     operands = λ e q g. rw (laid-at e q g) (lies M ts (shapeOf t) p _ q (formed M (tree M) ts p e q t g .1) .0);
     past = λ e q g. rw (laid-at e q g) (lies M ts (shapeOf t) p _ q (formed M (tree M) ts p e q t g .1) .1);
@@ -263,8 +263,8 @@ token-there f gs vs same p a q g =
     go (some b) g = cc
 
 -- what the code finds for an expression, and for tokens that are none
-pub viewed : (M : ℕ) (ts : List TagValue) (p : ℕ) (t : ExprToken) (s : ℕ) (v : View) (o : Operands) → token (exprTokenOf M) ts p ≡ got t s → v .role ≡ roleOf t → Laid M ts t s o → v ≡ record { role = v .role; first = o .first; count = o .count; gap = o .gap } → Viewed M ts p v
-viewed M ts p t s v o g i l j = record { role = λ e q h. go e q h .0; operands = λ e q h. go e q h .1; past = λ e q h. go e q h .2; within = within }
+pub viewed : (M : ℕ) (ts : List TagValue) (p : ℕ) (t : ExprToken) (s : ℕ) (v : View) (o : Operands) → token (exprTokenOf M) ts p ≡ got t s → v .role ≡ roleOf t → OperandsLaid M ts t s o → v ≡ record { role = v .role; first = o .first; count = o .count; gap = o .gap } → Viewed M ts p v
+viewed M ts p t s v o g i l j = record { role = λ e q h. go e q h .0; operands = λ e q h. go e q h .1; past = λ e q h. go e q h .2; within = within; inside = λ h. token-got (exprTokenOf M) ts p t s g .1 }
   where
     go : (e : Expr) (q : ℕ) → tree M ts p ≡ got e q → (v .role ≡ roleOfExpr e) × (spread M (v .gap) (v .count) (tree M) ts (v .first) ≡ got (operandsOf e) q) × (p < v .first)
     go e q h =
@@ -277,11 +277,15 @@ viewed M ts p t s v o g i l j = record { role = λ e q h. go e q h .0; operands 
     within : (e : Expr) (q : ℕ) → tree M ts p ≡ got e q → (v .first ≤ q) × (q ≤ length ts)
     within e q h = (spread-grows M 32 ts (v .gap) (v .count) (v .first) (operandsOf e) q (go e q h .1), places M ts p e q h .1)
 
-pub unviewed : (M : ℕ) (ts : List TagValue) (p : ℕ) (t : Refusal) (v : View) → token (exprTokenOf M) ts p ≡ rejected t → Viewed M ts p v
-unviewed M ts p t v g = record { role = λ e q h. absurd (no e q h); operands = λ e q h. absurd (no e q h); past = λ e q h. absurd (no e q h); within = λ e q h. absurd (no e q h) }
+pub unviewed : (M : ℕ) (ts : List TagValue) (p : ℕ) (t : Refusal) (v : View) → token (exprTokenOf M) ts p ≡ rejected t → v .first ≡ p → Viewed M ts p v
+unviewed M ts p t v g i = record { role = λ e q h. absurd (no e q h); operands = λ e q h. absurd (no e q h); past = λ e q h. absurd (no e q h); within = λ e q h. absurd (no e q h); inside = λ h. absurd (omega (arith, h, i)) }
   where
     no : (e : Expr) (q : ℕ) → tree M ts p ≡ got e q → ⊥
     no e q h = let a = tree-head M ts p e q h in let z : _≡_ {A = ℕ} 0 1 = cc (a .1) in omega arith
+
+-- where something is viewed, there are tokens left
+pub left-there : (M : ℕ) (gs vs : List ℕ) → length vs ≡ length gs → (p : ℕ) (v : View) → Viewed M (tokens gs vs) p v → p < v .first → p < length gs
+left-there M gs vs same p v seen h = omega (arith, seen .inside h, tokens-length gs vs same)
 
 -- what the code finds of the first operand
 pub stepped : (M : ℕ) (ts : List TagValue) (g : Gap) (p end : ℕ) (o : Operand) → o .at ≡ operandAt (length ts) g p → ((e : Expr) (q : ℕ) → tree M ts (o .at) ≡ got e q → end ≡ q) → o .next ≡ restAt (length ts) g end → o .gap ≡ later g → Stepped M ts g p o

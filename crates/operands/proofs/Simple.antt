@@ -16,6 +16,7 @@ use Rattle.definitions.specs.Tree.{Expr}
 use Rattle.definitions.specs.Reading.{got}
 use Rattle.grammar.specs.declared.Shape.{Shape}
 use Rattle.grammar.specs.Shape.{shapeOf}
+use Rattle.grammar.proofs.Laws.{tokens-length}
 use Rattle.operands.specs.declared.Gap.{Gap}
 use Rattle.operands.specs.declared.Role.{Role}
 use Rattle.operands.specs.declared.View.{View}
@@ -39,11 +40,11 @@ module _ (r : Role) (k : ℕ) (t : ExprToken) where
   mapped-is f i none h = let z : _≡_ {A = ℕ} 0 1 = cc in absurd (omega arith)
   mapped-is f i (some a) h = let e : f a ≡ t = cc in rw (sym e) (i a)
 
-module _ (M : ℕ) (gs vs : List ℕ) (same : length vs ≡ length gs) (p : ℕ) (w : View) where
+module _ (M : ℕ) (gs vs : List ℕ) (same : length vs ≡ length gs) (p : ℕ) (room : p < length gs) (w : View) where
   -- by what every token of this tag and value is
   simple : (r : Role) (k : ℕ) → ((t : ExprToken) → exprTokenOf M (getD gs p 0) (getD vs p 0) ≡ some t → Is r k t) → w ≡ simpleView r (p + 1) k → Viewed M (tokens gs vs) p w
   unfolding operandsAt
-  simple r k known e = record { role = λ x q h. go x q h .0; operands = λ x q h. go x q h .1; past = λ x q h. go x q h .2; within = within }
+  simple r k known e = record { role = λ x q h. go x q h .0; operands = λ x q h. go x q h .1; past = λ x q h. go x q h .2; within = within; inside = λ h. omega (arith, room, tokens-length gs vs same) }
     where
       go : (x : Expr) (q : ℕ) → tree M (tokens gs vs) p ≡ got x q → (w .role ≡ roleOfExpr x) × (spread M (w .gap) (w .count) (tree M) (tokens gs vs) (w .first) ≡ got (operandsOf x) q) × (p < w .first)
       go x q h =

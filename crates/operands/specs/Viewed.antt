@@ -18,7 +18,7 @@ use Rattle.operands.specs.Spread.{tree, spread}
 -- M is the number of names
 module _ (M : ℕ) (ts : List TagValue) where
   -- the operands that follow the first token t, from p on
-  pub record Laid (t : ExprToken) (p : ℕ) (o : Operands) : Type 0 where
+  pub record OperandsLaid (t : ExprToken) (p : ℕ) (o : Operands) : Type 0 where
     pub operands : (e : Expr) (q : ℕ) → form M t (tree M) ts p ≡ got e q → spread M (o .gap) (o .count) (tree M) ts (o .first) ≡ got (operandsOf e) q
     pub past : (e : Expr) (q : ℕ) → form M t (tree M) ts p ≡ got e q → p ≤ o .first
 
@@ -28,6 +28,8 @@ module _ (M : ℕ) (ts : List TagValue) where
     pub operands : (e : Expr) (q : ℕ) → tree M ts p ≡ got e q → spread M (v .gap) (v .count) (tree M) ts (v .first) ≡ got (operandsOf e) q
     pub past : (e : Expr) (q : ℕ) → tree M ts p ≡ got e q → p < v .first
     pub within : (e : Expr) (q : ℕ) → tree M ts p ≡ got e q → (v .first ≤ q) × (q ≤ length ts)
+    -- past the end nothing is viewed
+    pub inside : p < v .first → p < length ts
 
   -- n operands es with the gap g from p to q, the first of them as o says
   pub record Split (g : Gap) (n p : ℕ) (es : Exprs) (q : ℕ) (o : Operand) : Type 0 where

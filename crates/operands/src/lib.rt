@@ -20,7 +20,7 @@ ghost use Rattle.definitions.specs.Grammar.{counted};
 ghost use Rattle.grammar.specs.Shape.{following};
 ghost use Rattle.operands.specs.Leaf.{leafAt};
 ghost use Rattle.operands.specs.Laid.{plainAt, simpleView, behindCount, behindStart, operandsAt};
-ghost use Rattle.operands.specs.Viewed.{Laid, Viewed, Stepped};
+ghost use Rattle.operands.specs.Viewed.{OperandsLaid, Viewed, Stepped};
 
 // What an expression does.
 pub enum Role {
@@ -256,9 +256,9 @@ pub fn laid(tags: &[u8], values: &[u32], names: u32, shape: Shape, at: usize) ->
 }
 
 // The operands of an expression with this first token, which `next` follows.
-pub fn operands_of(tags: &[u8], values: &[u32], names: u32, t: ExprToken, next: usize) -> Operands
+fn operands_of(tags: &[u8], values: &[u32], names: u32, t: ExprToken, next: usize) -> Operands
     requires { ⌜ length (now values) ≡ length (now tags) ⌝ }
-    ensures { λ r. ⌜ Laid names (tokens (now (tags .entry)) (now (values .entry))) t next r ⌝ }
+    ensures { λ r. ⌜ OperandsLaid names (tokens (now (tags .entry)) (now (values .entry))) t next r ⌝ }
 {
     let shape = grammar::shape_of(t);
     laid(tags, values, names, shape, next)

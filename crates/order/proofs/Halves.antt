@@ -13,7 +13,7 @@ use Rattle.definitions.specs.Lists.{Letters}
 use Rattle.definitions.specs.Clock.{Clock, chainOrder, insert}
 use Rattle.order.specs.declared.Order.{Order}
 use Rattle.order.specs.declared.Place.{Place}
-use Rattle.order.specs.Order.{orderOf, rowOf, picked, Ordered, Sought}
+use Rattle.order.specs.Order.{orderOf, rowOf, picked, InOrder, Sought}
 use Rattle.order.proofs.Laws.{Gone, gone-none, gone-more, sought-end, sought-less, sought-same}
 use Rattle.order.proofs.Total.{chain-total}
 
@@ -57,7 +57,7 @@ module _ (letters : ℕ → Letters) (rows o : List ℕ) (k : ℕ) (c : Clock) w
             let e : low ≡ k = omega (arith, b .ends, b .within, ltb-false low k q) in
             rw (ap Place.Before e) (sought-end letters rows o k c low (gone-past low (omega arith) (b .past)) (omega arith) (omega arith))
 
-    module _ (s : Ordered letters rows o k) (mid : ℕ) (l : low ≤ mid) (m : mid < high) (r : Order) (q : orderOf r ≡ against mid) where
+    module _ (s : InOrder letters rows o k) (mid : ℕ) (l : low ≤ mid) (m : mid < high) (r : Order) (q : orderOf r ≡ against mid) where
       pub first-half : r ≡ Order.Less → Between low mid
       first-half u =
           record {

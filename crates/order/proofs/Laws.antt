@@ -15,7 +15,7 @@ use Rattle.definitions.specs.declared.Test.{Test}
 use Rattle.definitions.specs.Lists.{Letters, sum}
 use Rattle.definitions.specs.Bytes.{cut}
 use Rattle.definitions.specs.Output.{lettersOf}
-use Rattle.definitions.specs.Clock.{Clock, base, _/_, conditions, andThen, lexical, conditionOrder, testOrder, chainOrder, insert, inChainOrder}
+use Rattle.definitions.specs.Clock.{Clock, base, _↓_, conditions, andThen, lexical, conditionOrder, testOrder, chainOrder, insert, inChainOrder}
 use Rattle.clock.specs.Value.{at, clockAt}
 use Rattle.flat.specs.Flat.{conditionAt, conditionsFrom}
 use Rattle.flat.proofs.Laws.{at-from}
@@ -25,7 +25,7 @@ use Rattle.rows.specs.Rows.{clocksFrom, clocksIn}
 use Rattle.rows.proofs.Laws.{from-none, from-more}
 use Rattle.order.specs.declared.Order.{Order}
 use Rattle.order.specs.declared.Place.{Place}
-use Rattle.order.specs.Order.{orderOf, isSame, rowOf, picked, Below, Shifted, Sought}
+use Rattle.order.specs.Order.{orderOf, isSame, rowOf, picked, FirstBelow, Shifted, Sought}
 
 -- ---- numbers
 pub compare-less : (a b : ℕ) → a < b → compare a b ≡ Ordering·lt
@@ -342,7 +342,7 @@ shifted o t j k i x e l n p q =
       after = λ m u v. let d : m + 1 ≡ j → ⊥ = omega arith in getD-set-other t j (m + 1) x 0 d ∙ q m (omega arith) v;
     }
 
-pub below-shifted : (o o′ : List ℕ) (j k x m : ℕ) → Shifted o o′ j k x → x < m → Below o k m → j ≤ k → Below o′ (k + 1) m
+pub below-shifted : (o o′ : List ℕ) (j k x m : ℕ) → Shifted o o′ j k x → x < m → FirstBelow o k m → j ≤ k → FirstBelow o′ (k + 1) m
 below-shifted o o′ j k x m s l b w i u = go (ltb i j) refl (eqb i j) refl
   where
     go : (a : Bool) → ltb i j ≡ a → (c : Bool) → eqb i j ≡ c → getD o′ i 0 < m

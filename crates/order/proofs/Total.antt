@@ -11,7 +11,7 @@ use Rattle.definitions.specs.declared.Condition.{Condition}
 use Rattle.definitions.specs.declared.Test.{Test}
 use Rattle.definitions.specs.Lists.{Letters}
 use Rattle.definitions.specs.Clock.{Clock, conditions, andThen, lexical, conditionOrder, testOrder, chainOrder, insert, inChainOrder}
-use Rattle.order.specs.Order.{rowOf, picked, Ordered}
+use Rattle.order.specs.Order.{rowOf, picked, InOrder}
 use Rattle.order.proofs.Laws.{compare-more}
 
 -- the order of the two the other way round
@@ -231,7 +231,7 @@ module _ (letters : ℕ → Letters) where
         rw (e, z) (rising-at (s + 1) n r i j (omega arith) (omega arith))
 
     -- rows in chain order are ordered
-    pub ordered : (k : ℕ) (cs : List Clock) → picked (rowOf rows) o 0 k ≡ inChainOrder letters cs → Ordered letters rows o k
+    pub ordered : (k : ℕ) (cs : List Clock) → picked (rowOf rows) o 0 k ≡ inChainOrder letters cs → InOrder letters rows o k
     ordered k cs e i j l m =
         let z : 0 + j ≡ j = omega arith in
         let y : 0 + i ≡ i = omega arith in

@@ -31,8 +31,8 @@ picked f o i zero = []
 picked f o i (suc n) = f (getD o i 0) ∷ picked f o (i + 1) n
 
 -- the first k words are below m
-abbrev pub Below : List ℕ → ℕ → ℕ → Type 0
-Below o k m = (i : ℕ) → i < k → getD o i 0 < m
+abbrev pub FirstBelow : List ℕ → ℕ → ℕ → Type 0
+FirstBelow o k m = (i : ℕ) → i < k → getD o i 0 < m
 
 -- o′ is o with x at j, and the words from j to k one place further
 pub record Shifted (o o′ : List ℕ) (j k x : ℕ) : Type 0 where
@@ -42,8 +42,8 @@ pub record Shifted (o o′ : List ℕ) (j k x : ℕ) : Type 0 where
   pub after : (i : ℕ) → j ≤ i → i < k → getD o′ (i + 1) 0 ≡ getD o i 0
 
 -- of k rows, each is after those before it
-abbrev pub Ordered : (ℕ → Letters) → List ℕ → List ℕ → ℕ → Type 0
-Ordered letters rows o k = (i j : ℕ) → i < j → j < k → chainOrder letters (rowOf rows (getD o j 0)) (rowOf rows (getD o i 0)) ≡ Ordering·gt
+abbrev pub InOrder : (ℕ → Letters) → List ℕ → List ℕ → ℕ → Type 0
+InOrder letters rows o k = (i j : ℕ) → i < j → j < k → chainOrder letters (rowOf rows (getD o j 0)) (rowOf rows (getD o i 0)) ≡ Ordering·gt
 
 -- a clock goes before the j-th of k rows, or is there
 unfoldable pub Sought : (ℕ → Letters) → List ℕ → List ℕ → ℕ → Clock → Place → Type 0

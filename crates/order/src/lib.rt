@@ -8,7 +8,7 @@ ghost use lib.ListN.{length};
 ghost use Rattle.definitions.specs.Clock.{lexical, testOrder, conditionOrder, chainOrder, insert, inChainOrder};
 ghost use Rattle.rows.specs.Rows.{clocksIn};
 ghost use Rattle.fresh.specs.Places.{lettersAt};
-ghost use Rattle.order.specs.Order.{orderOf, isSame, rowOf, picked, Below, Shifted, Ordered, Sought};
+ghost use Rattle.order.specs.Order.{orderOf, isSame, rowOf, picked, FirstBelow, Shifted, InOrder, Sought};
 
 pub enum Order {
     Less,
@@ -33,7 +33,7 @@ fn is_same(o: Order) -> bool
 }
 
 // Letters against letters, a prefix first.
-pub fn compare_letters(x: &[u8], y: &[u8]) -> Order
+fn compare_letters(x: &[u8], y: &[u8]) -> Order
     ensures { λ r. ⌜ orderOf r ≡ lexical compare (now (x .entry)) (now (y .entry)) ⌝ }
 {
     let mut i: usize = 0;
@@ -64,7 +64,7 @@ fn wide(x: u32) -> usize
 }
 
 // Two names by their letters.
-pub fn name_order(starts: &[u32], letters: &[u8], x: u32, y: u32) -> Order
+fn name_order(starts: &[u32], letters: &[u8], x: u32, y: u32) -> Order
     ensures { λ r. ⌜ orderOf r ≡ lexical compare (lettersAt (now (starts .entry)) (now (letters .entry)) x) (lettersAt (now (starts .entry)) (now (letters .entry)) y) ⌝ }
 {
     if x == y {
@@ -80,7 +80,7 @@ pub fn name_order(starts: &[u32], letters: &[u8], x: u32, y: u32) -> Order
 }
 
 // On before not.
-pub fn test_order(a: Test, b: Test) -> Order
+fn test_order(a: Test, b: Test) -> Order
     ensures { λ r. ⌜ orderOf r ≡ testOrder a b ⌝ }
 {
     match a {
@@ -95,7 +95,7 @@ pub fn test_order(a: Test, b: Test) -> Order
     }
 }
 
-pub fn condition_order(starts: &[u32], letters: &[u8], k: Condition, l: Condition) -> Order
+fn condition_order(starts: &[u32], letters: &[u8], k: Condition, l: Condition) -> Order
     ensures { λ r. ⌜ orderOf r ≡ conditionOrder (lettersAt (now (starts .entry)) (now (letters .entry))) k l ⌝ }
 {
     let o = name_order(starts, letters, k.name, l.name);
@@ -109,11 +109,11 @@ pub fn condition_order(starts: &[u32], letters: &[u8], k: Condition, l: Conditio
 }
 
 // Two rows' clocks, condition by condition, a parent before its children.
-pub fn row_order(starts: &[u32], letters: &[u8], rows: &[u32], x: u32, y: u32) -> Order
+fn row_order(starts: &[u32], letters: &[u8], rows: &[u32], x: u32, y: u32) -> Order
     ensures { λ r. ⌜ orderOf r ≡ chainOrder (lettersAt (now (starts .entry)) (now (letters .entry))) (rowOf (now (rows .entry)) x) (rowOf (now (rows .entry)) y) ⌝ }
 {
-    let a = 17 * wide(x);
-    let b = 17 * wide(y);
+    let a = flat::WORDS * wide(x);
+    let b = flat::WORDS * wide(y);
     let d = flat::depth_at(rows, a);
     let e = flat::depth_at(rows, b);
     let mut i: usize = 0;
@@ -140,7 +140,7 @@ pub fn row_order(starts: &[u32], letters: &[u8], rows: &[u32], x: u32, y: u32) -
 // Where the row x goes among the first k rows that the order names, by halves.
 fn seek(starts: &[u32], letters: &[u8], rows: &[u32], order: &[u32], k: usize, x: u32) -> Place
     requires { ⌜ k ≤ length (now order) ⌝ }
-    requires { ⌜ Ordered (lettersAt (now starts) (now letters)) (now rows) (now order) k ⌝ }
+    requires { ⌜ InOrder (lettersAt (now starts) (now letters)) (now rows) (now order) k ⌝ }
     ensures { λ r. ⌜ Sought (lettersAt (now (starts .entry)) (now (letters .entry))) (now (rows .entry)) (now (order .entry)) k (rowOf (now (rows .entry)) x) r ⌝ }
 {
     let mut low: usize = 0;
@@ -189,11 +189,11 @@ fn insert_row(
     x: u32,
 ) -> usize
     requires { ⌜ k < length (now order) ⌝ }
-    requires { ⌜ Ordered (lettersAt (now starts) (now letters)) (now rows) (now order) k ⌝ }
+    requires { ⌜ InOrder (lettersAt (now starts) (now letters)) (now rows) (now order) k ⌝ }
     ensures { λ r. ⌜ length (now (order .exit)) ≡ length (now (order .entry)) ⌝ }
     ensures { λ r. ⌜ r ≤ k + 1 ⌝ }
     ensures { λ r. ⌜ picked (rowOf (now (rows .entry))) (now (order .exit)) 0 r ≡ insert (lettersAt (now (starts .entry)) (now (letters .entry))) (rowOf (now (rows .entry)) x) (picked (rowOf (now (rows .entry))) (now (order .entry)) 0 k) ⌝ }
-    ensures { λ r. ⌜ ((m : ℕ) → x < m → Below (now (order .entry)) k m → Below (now (order .exit)) r m) ⌝ }
+    ensures { λ r. ⌜ ((m : ℕ) → x < m → FirstBelow (now (order .entry)) k m → FirstBelow (now (order .exit)) r m) ⌝ }
 {
     let place = seek(starts, letters, rows, order, k, x);
     match place {
@@ -211,7 +211,7 @@ pub fn sort_rows(starts: &[u32], letters: &[u8], rows: &[u32], order: &mut [u32]
     ensures { λ r. ⌜ length (now (order .exit)) ≡ length (now (order .entry)) ⌝ }
     ensures { λ r. ⌜ r ≤ n ⌝ }
     ensures { λ r. ⌜ picked (rowOf (now (rows .entry))) (now (order .exit)) 0 r ≡ inChainOrder (lettersAt (now (starts .entry)) (now (letters .entry))) (clocksIn (now (rows .entry)) n) ⌝ }
-    ensures { λ r. ⌜ Below (now (order .exit)) r n ⌝ }
+    ensures { λ r. ⌜ FirstBelow (now (order .exit)) r n ⌝ }
 {
     let mut i = n;
     let mut k: usize = 0;

@@ -23,12 +23,12 @@ use Rattle.shapes.proofs.ClockNames.{NamedEquation, clocking-named}
 use Rattle.runs.proofs.Names.{names-apart}
 use Rattle.environment.specs.Environment.{Agrees}
 use Rattle.fresh.specs.declared.Counts.{Counts}
-use Rattle.fresh.specs.Table.{Sound, Holds}
+use Rattle.fresh.specs.Table.{Sound, NamesHeld}
 use Rattle.fresh.proofs.Table.{id-most}
 use Rattle.fresh.proofs.Places.{cut-length}
 use Rattle.layout.specs.declared.SheetLayout.{SheetLayout}
 use Rattle.layout.specs.Laid.{LaidSheet, Places}
-use Rattle.callees.specs.Callees.{Standing}
+use Rattle.callees.specs.Callees.{NodesStand}
 use Rattle.infer_clocks.specs.Clocked.{Sole}
 use Rattle.needs.specs.Need.{Needs}
 use Rattle.stateless.specs.Whole.{noNeeds, oldNeeds}
@@ -41,7 +41,7 @@ use Rattle.node_needs.proofs.Apart.{apart-none, apart-old}
 use Rattle.many_names.specs.Many.{TooMany}
 use Rattle.many_names.proofs.Named.{named-none, named-old}
 use Rattle.many_names.proofs.Many.{too-many}
-use Rattle.output_names.specs.Faultless.{nodeNeeds, Faultless, Ready}
+use Rattle.output_names.specs.Faultless.{nodeNeeds, Faultless, NamesReady}
 
 -- ---- a table that is marked as full
 module _ {lens letters : List ℕ} {c d : Counts} (s : Sound lens letters c) (e : d .names ≡ c .names) (f : d .letters ≡ c .letters) where
@@ -54,12 +54,12 @@ module _ {lens letters : List ℕ} {c d : Counts} (s : Sound lens letters c) (e 
         reached = s .reached;
       }
 
-  pub marked-full : d .full ≡ true → (names : List Letters) → length lens < length names → Holds lens letters d names
+  pub marked-full : d .full ≡ true → (names : List Letters) → length lens < length names → NamesHeld lens letters d names
   marked-full g names h =
       record { sound = marked-sound; kept = λ z. absurd (true≢false (sym g ∙ z)); past = λ z. rw (lt-leb (length names) (length lens) h) }
 
 -- ---- the names that a node adds
-module _ {starts letters tags values places : List ℕ} {M many condact : ℕ} {names : List Letters} {s : Sheet} {n : ClockedNode} (h : Ready starts letters tags values places M many condact names s n) where
+module _ {starts letters tags values places : List ℕ} {M many condact : ℕ} {names : List Letters} {s : Sheet} {n : ClockedNode} (h : NamesReady starts letters tags values places M many condact names s n) where
   -- the id of `condact` is that among the names
   pub same-gate : oldNeeds (s .types) (s .nodes) (n .node) condact (n .clocking .equations) noNeeds ≡ nodeNeeds names s n
   same-gate = ap (λ (i : ℕ). oldNeeds (s .types) (s .nodes) (n .node) i (n .clocking .equations) noNeeds) (h .gate)
@@ -77,15 +77,15 @@ module _ {starts letters tags values places : List ℕ} {M many condact : ℕ} {
       too-many names (n .node) w all (declared-few M (tokens tags values) p (n .node) q g) (names-apart [] names (h .distinct)) (once .flags) (once .firsts) named c
 
   module _ {lens text : List ℕ} {c : Counts} (all : List Letters) where
-    pub by-gate : Holds lens text c (namesBy names all (n .node) (oldNeeds (s .types) (s .nodes) (n .node) condact (n .clocking .equations) noNeeds)) → Holds lens text c (namesBy names all (n .node) (nodeNeeds names s n))
-    by-gate g = subst (λ (w : Needs). Holds lens text c (namesBy names all (n .node) w)) same-gate g
+    pub by-gate : NamesHeld lens text c (namesBy names all (n .node) (oldNeeds (s .types) (s .nodes) (n .node) condact (n .clocking .equations) noNeeds)) → NamesHeld lens text c (namesBy names all (n .node) (nodeNeeds names s n))
+    by-gate g = subst (λ (w : Needs). NamesHeld lens text c (namesBy names all (n .node) w)) same-gate g
 
     -- it uses clocks, or not
-    pub adds-names : {u : Bool} → u ≡ usesClocks (n .node) → u ≡ true → Holds lens text c (namesBy names all (n .node) (nodeNeeds names s n)) → Holds lens text c (withNewNames names s all n)
-    adds-names e f g = let u = sym e ∙ f in subst (λ (l : List Letters). Holds lens text c l) (sym (names-by-needs names s all n u (h .going u))) g
+    pub adds-names : {u : Bool} → u ≡ usesClocks (n .node) → u ≡ true → NamesHeld lens text c (namesBy names all (n .node) (nodeNeeds names s n)) → NamesHeld lens text c (withNewNames names s all n)
+    adds-names e f g = let u = sym e ∙ f in subst (λ (l : List Letters). NamesHeld lens text c l) (sym (names-by-needs names s all n u (h .going u))) g
 
-    pub adds-none : {u : Bool} → u ≡ usesClocks (n .node) → u ≡ false → Holds lens text c all → Holds lens text c (withNewNames names s all n)
-    adds-none e f g = subst (λ (l : List Letters). Holds lens text c l) (sym (names-same names s all n (sym e ∙ f))) g
+    pub adds-none : {u : Bool} → u ≡ usesClocks (n .node) → u ≡ false → NamesHeld lens text c all → NamesHeld lens text c (withNewNames names s all n)
+    adds-none e f g = subst (λ (l : List Letters). NamesHeld lens text c l) (sym (names-same names s all n (sym e ∙ f))) g
 
 -- ---- the id of `condact`
 pub condact-few : (given letters : List ℕ) {r : ℕ} → length given ≤ 1024 → r ≡ condactId (cut given letters) → r ≤ 1024
@@ -109,29 +109,29 @@ module _ {env env₀ : List ℕ} {M n : ℕ} {nodes : List Node} (sole : Sole en
 -- ---- the nodes one by one
 module _ {starts letters tags values : List ℕ} {M : ℕ} {bytes : List ℕ} {r : Input} {ns : List ClockedNode} (f : Faultless starts letters tags values M bytes r ns) where
   -- before the first node
-  pub names-start : {lens text : List ℕ} {c : Counts} {all : List Letters} → r .names ≡ all → Holds lens text c all → Holds lens text c (outputNames (r .names) (r .sheet) (r .names) (take 0 ns))
-  names-start {lens} {text} {c} e h = subst (λ (l : List Letters). Holds lens text c l) (sym e ∙ sym (names-end (r .names) (r .sheet) (r .names))) h
+  pub names-start : {lens text : List ℕ} {c : Counts} {all : List Letters} → r .names ≡ all → NamesHeld lens text c all → NamesHeld lens text c (outputNames (r .names) (r .sheet) (r .names) (take 0 ns))
+  names-start {lens} {text} {c} e h = subst (λ (l : List Letters). NamesHeld lens text c l) (sym e ∙ sym (names-end (r .names) (r .sheet) (r .names))) h
 
   -- behind the last
-  pub names-all : {lens text : List ℕ} {c : Counts} (i : ℕ) → length (r .sheet .nodes) ≤ i → Holds lens text c (outputNames (r .names) (r .sheet) (r .names) (take i ns)) → Holds lens text c (namesOut (r .names) (r .sheet) ns)
+  pub names-all : {lens text : List ℕ} {c : Counts} (i : ℕ) → length (r .sheet .nodes) ≤ i → NamesHeld lens text c (outputNames (r .names) (r .sheet) (r .names) (take i ns)) → NamesHeld lens text c (namesOut (r .names) (r .sheet) ns)
   names-all {lens} {text} {c} i l h =
       let a : take i ns ≡ ns = all-before (clockings-form 0 (r .sheet .nodes) ns (f .clocked)) i l in
-      subst (λ (x : List Letters). Holds lens text c x) (ap (outputNames (r .names) (r .sheet) (r .names)) a ∙ sym (names-out (r .names) (r .sheet) ns)) h
+      subst (λ (x : List Letters). NamesHeld lens text c x) (ap (outputNames (r .names) (r .sheet) (r .names)) a ∙ sym (names-out (r .names) (r .sheet) ns)) h
 
   -- the nodes stand in their places
   pub nodes-stand : {l : SheetLayout} {places : List ℕ} {n : ℕ} → LaidSheet M (tokens tags values) (r .sheet) l → n ≡ l .nodes .count
-      → ((x : List Node) (q : ℕ) → times n (node M) (tokens tags values) (l .nodes .at) ≡ got x q → Places (node M) (tokens tags values) places x) → Standing M tags values places n (r .sheet .nodes)
+      → ((x : List Node) (q : ℕ) → times n (node M) (tokens tags values) (l .nodes .at) ≡ got x q → Places (node M) (tokens tags values) places x) → NodesStand M tags values places n (r .sheet .nodes)
   nodes-stand {l} {places} {n} laid e h =
       record {
         count = sym (e ∙ laid .nodes .many);
         each = h (r .sheet .nodes) (l .nodes .end) (subst (λ (i : ℕ). times i (node M) (tokens tags values) (l .nodes .at) ≡ got (r .sheet .nodes) (l .nodes .end)) (sym e) (laid .nodes .items));
       }
 
-  module _ {places : List ℕ} {n condact : ℕ} (stands : Standing M tags values places n (r .sheet .nodes)) (gate : condact ≡ condactId (r .names)) (i : ℕ) (u : i < n) where
+  module _ {places : List ℕ} {n condact : ℕ} (stands : NodesStand M tags values places n (r .sheet .nodes)) (gate : condact ≡ condactId (r .names)) (i : ℕ) (u : i < n) where
     here : NodeHere (r .sheet .nodes) ns i
     here = node-here (clockings-form 0 (r .sheet .nodes) ns (f .clocked)) i (omega (arith, stands .count))
 
-    ready-here : Ready starts letters tags values places M n condact (r .names) (r .sheet) (here .clocked)
+    ready-here : NamesReady starts letters tags values places M n condact (r .names) (r .sheet) (here .clocked)
     ready-here =
         let facts = read-facts bytes (f .are-bytes) r (f .read) in
         let clear = no-faults r ns (f .faultless) (here .clocked) (here .member) in
@@ -149,9 +149,9 @@ module _ {starts letters tags values : List ℕ} {M : ℕ} {bytes : List ℕ} {r
         }
 
     pub names-more : {env env₀ lens text lens₁ text₁ : List ℕ} {c c₁ : Counts} → Sole env₀ M (r .sheet .nodes) → (n ≤ 1 → env ≡ env₀) → (at : ℕ) → at ≡ getD places i 0
-        → ((old : List Letters) (s : Sheet) (n₁ : ClockedNode) (q : ℕ) (all : List Letters) → Ready starts letters tags values places M n condact old s n₁ → node M (tokens tags values) at ≡ got (n₁ .node) q → (n ≤ 1 → usesClocks (n₁ .node) ≡ true → Agrees env M (n₁ .clocking .names)) → Holds lens text c all → Holds lens₁ text₁ c₁ (withNewNames old s all n₁))
-        → Holds lens text c (outputNames (r .names) (r .sheet) (r .names) (take i ns)) → Holds lens₁ text₁ c₁ (outputNames (r .names) (r .sheet) (r .names) (take (i + 1) ns))
+        → ((old : List Letters) (s : Sheet) (n₁ : ClockedNode) (q : ℕ) (all : List Letters) → NamesReady starts letters tags values places M n condact old s n₁ → node M (tokens tags values) at ≡ got (n₁ .node) q → (n ≤ 1 → usesClocks (n₁ .node) ≡ true → Agrees env M (n₁ .clocking .names)) → NamesHeld lens text c all → NamesHeld lens₁ text₁ c₁ (withNewNames old s all n₁))
+        → NamesHeld lens text c (outputNames (r .names) (r .sheet) (r .names) (take i ns)) → NamesHeld lens₁ text₁ c₁ (outputNames (r .names) (r .sheet) (r .names) (take (i + 1) ns))
     names-more {lens₁} {text₁} {c₁} sole same at e add h =
         let p = stands .each .stands i (here .clocked .node) (here .node-here) in
         let g : node M (tokens tags values) at ≡ got (here .clocked .node) (p .0) = ap (node M (tokens tags values)) e ∙ p .1 in
-        subst (λ (l : List Letters). Holds lens₁ text₁ c₁ l) (sym (names-front (r .names) (r .sheet) here (r .names))) (add (r .names) (r .sheet) (here .clocked) (p .0) (outputNames (r .names) (r .sheet) (r .names) (take i ns)) ready-here g (sole-here sole (stands .count) same here) h)
+        subst (λ (l : List Letters). NamesHeld lens₁ text₁ c₁ l) (sym (names-front (r .names) (r .sheet) here (r .names))) (add (r .names) (r .sheet) (here .clocked) (p .0) (outputNames (r .names) (r .sheet) (r .names) (take i ns)) ready-here g (sole-here sole (stands .count) same here) h)

@@ -16,7 +16,7 @@ use Rattle.definitions.specs.Output.{lettersOf, condactId, ClockedNode}
 use Rattle.definitions.specs.Answer.{Input, input, clockings}
 use Rattle.fresh.specs.Places.{lettersAt}
 use Rattle.shapes.specs.Shape.{All, Bytes, ShapedEquation}
-use Rattle.callees.specs.Callees.{Standing}
+use Rattle.callees.specs.Callees.{NodesStand}
 use Rattle.needs.specs.Need.{Needs}
 use Rattle.stateless.specs.Faults.{oldFault}
 use Rattle.stateless.specs.Whole.{noNeeds, oldNeeds}
@@ -39,11 +39,11 @@ pub record Faultless (starts letters tags values : List ℕ) (M : ℕ) (bytes : 
   pub faultless : firstFaultsFrom r 0 ns ≡ []
 
 -- a node of such a sheet: it has its clocks and no fault; the names are well formed and distinct, and the node's ids are their places
-pub record Ready (starts letters tags values places : List ℕ) (M many condact : ℕ) (names : List Letters) (s : Sheet) (n : ClockedNode) : Type 0 where
+pub record NamesReady (starts letters tags values places : List ℕ) (M many condact : ℕ) (names : List Letters) (s : Sheet) (n : ClockedNode) : Type 0 where
   pub named : lettersAt starts letters ≡ lettersOf names
   pub few-names : M ≤ 1024
   pub few-tokens : length tags ≤ 4096
-  pub standing : Standing M tags values places many (s .nodes)
+  pub standing : NodesStand M tags values places many (s .nodes)
   pub gate : condact ≡ condactId names
   pub forms : clocking (n .node) ≡ formed (n .clocking)
   pub clean : clockFaults (n .clocking .findings) ≡ []

@@ -2,6 +2,9 @@
 // `starts` and `letters` are the input's names, `names` is how many there are; `lengths` and `text`, with counts, a table of the
 // output's names; `places` has the places of the sheet's nodes, `nodes` is how many there are; `condact` is the id of `condact`.
 // `env`, `flags` and `firsts` are working tables, lent so that they are made once.
+use definitions::CLOCK_TABLE;
+use definitions::MOST_NAMES;
+use definitions::MOST_NODES;
 use fresh::Counts;
 use layout::NodeLayout;
 use node_tables::Tables;
@@ -19,14 +22,14 @@ ghost use Rattle.definitions.specs.InferClocks.{usesClocks};
 ghost use Rattle.definitions.specs.Output.{ClockedNode, withNewNames, namesOut};
 ghost use Rattle.definitions.specs.Answer.{Input};
 ghost use Rattle.environment.specs.Environment.{Agrees};
-ghost use Rattle.fresh.specs.Table.{Sound, Holds};
-ghost use Rattle.layout.specs.Laid.{Laid};
+ghost use Rattle.fresh.specs.Table.{Sound, NamesHeld};
+ghost use Rattle.layout.specs.Laid.{LaidNode};
 ghost use Rattle.infer_clocks.specs.Clocked.{Sole};
 ghost use Rattle.needs.specs.Need.{Needs};
 ghost use Rattle.stateless.specs.Rewritten.{namesBy};
 ghost use Rattle.many_names.specs.Many.{TooMany};
-ghost use Rattle.node_tables.specs.Filled.{Told};
-ghost use Rattle.output_names.specs.Faultless.{nodeNeeds, Faultless, Ready};
+ghost use Rattle.node_tables.specs.Filled.{FilledOrFull};
+ghost use Rattle.output_names.specs.Faultless.{nodeNeeds, Faultless, NamesReady};
 
 fn wide(x: u32) -> usize
     ensures { λ r. ⌜ r ≡ x ⌝ }
@@ -45,7 +48,7 @@ fn narrow(x: usize) -> u32
 fn mark_full(lengths: &[u8], text: &[u8], c: Counts) -> Counts
     requires { ⌜ Sound (now lengths) (now text) c ⌝ }
     ensures { λ r. ⌜ Sound (now (lengths .entry)) (now (text .entry)) r ⌝ }
-    ensures { λ r. ⌜ ((all : List Letters) → length (now (lengths .entry)) < length all → Holds (now (lengths .entry)) (now (text .entry)) r all) ⌝ }
+    ensures { λ r. ⌜ ((all : List Letters) → length (now (lengths .entry)) < length all → NamesHeld (now (lengths .entry)) (now (text .entry)) r all) ⌝ }
 {
     Counts {
         names: c.names,
@@ -56,19 +59,19 @@ fn mark_full(lengths: &[u8], text: &[u8], c: Counts) -> Counts
 
 // The names of a node's new locals added, by its working tables; the table is full, where they are.
 fn add_tables(
-    lengths: &mut [u8; 1024],
+    lengths: &mut [u8; MOST_NAMES],
     text: &mut [u8; 16384],
     c: Counts,
     t: Tables,
-    flag_numbers: &[u32; 1024],
-    flag_order: &[u32; 1024],
-    first_numbers: &[u32; 1024],
-    first_order: &[u32; 1024],
-    hold_numbers: &[u32; 1024],
+    flag_numbers: &[u32; MOST_NAMES],
+    flag_order: &[u32; MOST_NAMES],
+    first_numbers: &[u32; MOST_NAMES],
+    first_order: &[u32; MOST_NAMES],
+    hold_numbers: &[u32; MOST_NAMES],
 ) -> Counts
     requires { ⌜ Sound (now lengths) (now text) c ⌝ }
     ensures { λ r. ⌜ Sound (now (lengths .exit)) (now (text .exit)) r ⌝ }
-    ensures { λ r. ⌜ ((names : List Letters) (n : Node) (w : Needs) (flags firsts : List ℕ) (all : List Letters) → Told names n w flags firsts (now («flag_order» .entry)) (now («first_order» .entry)) (now («flag_numbers» .entry)) (now («first_numbers» .entry)) (now («hold_numbers» .entry)) t → (TooMany w → 1024 < length (namesBy names all n w)) → Holds (now (lengths .entry)) (now (text .entry)) c all → Holds (now (lengths .exit)) (now (text .exit)) r (namesBy names all n w)) ⌝ }
+    ensures { λ r. ⌜ ((names : List Letters) (n : Node) (w : Needs) (flags firsts : List ℕ) (all : List Letters) → FilledOrFull names n w flags firsts (now («flag_order» .entry)) (now («first_order» .entry)) (now («flag_numbers» .entry)) (now («first_numbers» .entry)) (now («hold_numbers» .entry)) t → (TooMany w → 1024 < length (namesBy names all n w)) → NamesHeld (now (lengths .entry)) (now (text .entry)) c all → NamesHeld (now (lengths .exit)) (now (text .exit)) r (namesBy names all n w)) ⌝ }
 {
     let locals = t.locals;
     if t.full {
@@ -89,7 +92,7 @@ fn add_tables(
 
 // The same of a node with this layout, whose names' clocks `env` has.
 fn add_clocked(
-    lengths: &mut [u8; 1024],
+    lengths: &mut [u8; MOST_NAMES],
     text: &mut [u8; 16384],
     c: Counts,
     starts: &[u32],
@@ -97,25 +100,25 @@ fn add_clocked(
     tags: &[u8],
     values: &[u32],
     names: u32,
-    places: &[usize; 16],
+    places: &[usize; MOST_NODES],
     nodes: usize,
     l: NodeLayout,
-    env: &[u32; 17408],
-    flags: &mut [u32; 17408],
-    firsts: &mut [u32; 17408],
+    env: &[u32; CLOCK_TABLE],
+    flags: &mut [u32; CLOCK_TABLE],
+    firsts: &mut [u32; CLOCK_TABLE],
     condact: u32,
 ) -> Counts
     requires { ⌜ length (now values) ≡ length (now tags) ⌝ }
     requires { ⌜ nodes ≤ 16 ⌝ }
     requires { ⌜ Sound (now lengths) (now text) c ⌝ }
     ensures { λ r. ⌜ Sound (now (lengths .exit)) (now (text .exit)) r ⌝ }
-    ensures { λ r. ⌜ ((old : List Letters) (s : Sheet) (n : ClockedNode) (p q : ℕ) (all : List Letters) → Ready (now (starts .entry)) (now (letters .entry)) (now (tags .entry)) (now (values .entry)) (now (places .entry)) names nodes condact old s n → node names (tokens (now (tags .entry)) (now (values .entry))) p ≡ got (n .node) q → Laid names (tokens (now (tags .entry)) (now (values .entry))) (n .node) q l → Agrees (now (env .entry)) names (n .clocking .names) → Holds (now (lengths .entry)) (now (text .entry)) c all → Holds (now (lengths .exit)) (now (text .exit)) r (namesBy old all (n .node) (nodeNeeds old s n))) ⌝ }
+    ensures { λ r. ⌜ ((old : List Letters) (s : Sheet) (n : ClockedNode) (p q : ℕ) (all : List Letters) → NamesReady (now (starts .entry)) (now (letters .entry)) (now (tags .entry)) (now (values .entry)) (now (places .entry)) names nodes condact old s n → node names (tokens (now (tags .entry)) (now (values .entry))) p ≡ got (n .node) q → LaidNode names (tokens (now (tags .entry)) (now (values .entry))) (n .node) q l → Agrees (now (env .entry)) names (n .clocking .names) → NamesHeld (now (lengths .entry)) (now (text .entry)) c all → NamesHeld (now (lengths .exit)) (now (text .exit)) r (namesBy old all (n .node) (nodeNeeds old s n))) ⌝ }
 {
-    let mut flag_order = [0u32; 1024];
-    let mut first_order = [0u32; 1024];
-    let mut flag_numbers = [0u32; 1024];
-    let mut first_numbers = [0u32; 1024];
-    let mut hold_numbers = [0u32; 1024];
+    let mut flag_order = [0u32; MOST_NAMES];
+    let mut first_order = [0u32; MOST_NAMES];
+    let mut flag_numbers = [0u32; MOST_NAMES];
+    let mut first_numbers = [0u32; MOST_NAMES];
+    let mut hold_numbers = [0u32; MOST_NAMES];
     let t = node_tables::fill_tables(
         starts,
         letters,
@@ -150,7 +153,7 @@ fn add_clocked(
 
 // The names that the node at a place adds: none, if it uses no clocks.
 fn add_node(
-    lengths: &mut [u8; 1024],
+    lengths: &mut [u8; MOST_NAMES],
     text: &mut [u8; 16384],
     c: Counts,
     starts: &[u32],
@@ -158,12 +161,12 @@ fn add_node(
     tags: &[u8],
     values: &[u32],
     names: u32,
-    places: &[usize; 16],
+    places: &[usize; MOST_NODES],
     nodes: usize,
     at: usize,
-    env: &mut [u32; 17408],
-    flags: &mut [u32; 17408],
-    firsts: &mut [u32; 17408],
+    env: &mut [u32; CLOCK_TABLE],
+    flags: &mut [u32; CLOCK_TABLE],
+    firsts: &mut [u32; CLOCK_TABLE],
     condact: u32,
 ) -> Counts
     requires { ⌜ length (now values) ≡ length (now tags) ⌝ }
@@ -171,7 +174,7 @@ fn add_node(
     requires { ⌜ Sound (now lengths) (now text) c ⌝ }
     ensures { λ r. ⌜ Sound (now (lengths .exit)) (now (text .exit)) r ⌝ }
     ensures { λ _. ⌜ (nodes ≤ 1 → now (env .exit) ≡ now (env .entry)) ⌝ }
-    ensures { λ r. ⌜ ((old : List Letters) (s : Sheet) (n : ClockedNode) (q : ℕ) (all : List Letters) → Ready (now (starts .entry)) (now (letters .entry)) (now (tags .entry)) (now (values .entry)) (now (places .entry)) names nodes condact old s n → node names (tokens (now (tags .entry)) (now (values .entry))) at ≡ got (n .node) q → (nodes ≤ 1 → usesClocks (n .node) ≡ true → Agrees (now (env .entry)) names (n .clocking .names)) → Holds (now (lengths .entry)) (now (text .entry)) c all → Holds (now (lengths .exit)) (now (text .exit)) r (withNewNames old s all n)) ⌝ }
+    ensures { λ r. ⌜ ((old : List Letters) (s : Sheet) (n : ClockedNode) (q : ℕ) (all : List Letters) → NamesReady (now (starts .entry)) (now (letters .entry)) (now (tags .entry)) (now (values .entry)) (now (places .entry)) names nodes condact old s n → node names (tokens (now (tags .entry)) (now (values .entry))) at ≡ got (n .node) q → (nodes ≤ 1 → usesClocks (n .node) ≡ true → Agrees (now (env .entry)) names (n .clocking .names)) → NamesHeld (now (lengths .entry)) (now (text .entry)) c all → NamesHeld (now (lengths .exit)) (now (text .exit)) r (withNewNames old s all n)) ⌝ }
 {
     let uses = sheet::node_uses_clocks(tags, values, names, at);
     if uses {
@@ -208,18 +211,18 @@ pub fn sheet_names(
     tags: &[u8],
     values: &[u32],
     names: u32,
-    lengths: &mut [u8; 1024],
+    lengths: &mut [u8; MOST_NAMES],
     text: &mut [u8; 16384],
-    env: &mut [u32; 17408],
-    flags: &mut [u32; 17408],
-    firsts: &mut [u32; 17408],
+    env: &mut [u32; CLOCK_TABLE],
+    flags: &mut [u32; CLOCK_TABLE],
+    firsts: &mut [u32; CLOCK_TABLE],
 ) -> Counts
     requires { ⌜ length (now values) ≡ length (now tags) ⌝ }
     requires { ⌜ sum (now given) ≡ length (now letters) ⌝ }
     requires { ⌜ length (now given) ≤ 1024 ⌝ }
     requires { ⌜ length (now letters) ≤ 16384 ⌝ }
     ensures { λ c. ⌜ Sound (now (lengths .exit)) (now (text .exit)) c ⌝ }
-    ensures { λ c. ⌜ ((bytes : List ℕ) (r : Input) (ns : List ClockedNode) → Faultless (now (starts .entry)) (now (letters .entry)) (now (tags .entry)) (now (values .entry)) names bytes r ns → r .names ≡ cut (now (given .entry)) (now (letters .entry)) → Sole (now (env .entry)) names (r .sheet .nodes) → Holds (now (lengths .exit)) (now (text .exit)) c (namesOut (r .names) (r .sheet) ns)) ⌝ }
+    ensures { λ c. ⌜ ((bytes : List ℕ) (r : Input) (ns : List ClockedNode) → Faultless (now (starts .entry)) (now (letters .entry)) (now (tags .entry)) (now (values .entry)) names bytes r ns → r .names ≡ cut (now (given .entry)) (now (letters .entry)) → Sole (now (env .entry)) names (r .sheet .nodes) → NamesHeld (now (lengths .exit)) (now (text .exit)) c (namesOut (r .names) (r .sheet) ns)) ⌝ }
     ensures { λ _. ⌜ ((bytes : List ℕ) (r : Input) (ns : List ClockedNode) → Faultless (now (starts .entry)) (now (letters .entry)) (now (tags .entry)) (now (values .entry)) names bytes r ns → Sole (now (env .entry)) names (r .sheet .nodes) → Sole (now (env .exit)) names (r .sheet .nodes)) ⌝ }
 {
     let mut c = fresh::copy_names(given, letters, lengths, text);
@@ -227,7 +230,7 @@ pub fn sheet_names(
     let whole = layout::sheet_at(tags, values, names);
     let span = whole.nodes;
     let n = wide(span.count);
-    if 16 < n {
+    if MOST_NODES < n {
         return c;
     }
     let places = layout::node_places(tags, values, names, n, span.at);

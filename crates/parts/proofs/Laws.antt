@@ -15,7 +15,7 @@ use Rattle.definitions.specs.Refusals.{Answer, accepted, refused, faulty, told,
 use Rattle.definitions.specs.Bytes.{Parts, size, M, L, T, lengths, letters, tags, values, tokens, fourByteWords, cut, badName, parts}
 use Rattle.parts.specs.declared.Sizes.{Sizes}
 use Rattle.parts.specs.declared.PartsAnswer.{PartsAnswer}
-use Rattle.parts.specs.Answers.{wordAt, sizesOf, partsOf, answered, toldOf, partsAnswer, tagsAfter, valuesAfter, Sized, Accepted}
+use Rattle.parts.specs.Answers.{wordAt, sizesOf, partsOf, answered, toldOf, partsAnswer, tagsAfter, valuesAfter, SizedParts, Accepted}
 use Rattle.parts.proofs.Words.{word-of, word-take, words-length}
 
 -- the sizes that the code reads are the sheet's
@@ -73,7 +73,7 @@ module _ (b : List ℕ) where
 
   -- the sizes read are the sheet's
   pub sized : (m l t : ℕ) → SizesRead b m l t → 12 ≤ length b → m ≤ 1024 → l ≤ 16384 → 2 ≤ t → t ≤ 4096 → length b ≡ 12 + m + l + 5 * t
-      → Sized b (record { names = m; letters = l; tokens = t })
+      → SizedParts b (record { names = m; letters = l; tokens = t })
   sized m l t r a d e f g h = record { told = rw (r .names, r .letters, r .tokens); long = a; names = omega arith; letters = omega arith; few = omega arith; many = omega arith; whole = omega arith }
 
   -- the refusal that the definition gives is the code's answer
@@ -92,7 +92,7 @@ module _ (b : List ℕ) where
       must (eqb (badName [] (cut (lengths b) (letters b))) (M b)) (Refusal.Name (badName [] (cut (lengths b) (letters b)))) >>= λ _.
       accepted (partsOf b)
 
-  module _ (s : Sizes) (z : Sized b s) where
+  module _ (s : Sizes) (z : SizedParts b s) where
     names-left : parts b ≡ namesChecked
     unfolding parts partsOf namesChecked
     names-left = rw (le-leb 12 (length b) (z .long), le-leb (M b) 1024 (z .names), le-leb (L b) 16384 (z .letters), le-leb 2 (T b) (z .few), le-leb (T b) 4096 (z .many), eq-eqb (length b) (12 + M b + L b + 5 * T b) (z .whole))
@@ -221,7 +221,7 @@ module _ (b : List ℕ) where
     right-length : length b ≡ 12 + M b + L b + 5 * T b
     right-length = stable (length b) (12 + M b + L b + 5 * T b) (λ u. n Refusal.Length (other-length b long-enough few-names few-letters tokens-least tokens-most u))
 
-    right-sizes : Sized b (sizesOf b)
+    right-sizes : SizedParts b (sizesOf b)
     right-sizes = record { told = refl; long = long-enough; names = few-names; letters = few-letters; few = tokens-least; many = tokens-most; whole = right-length }
 
     sum-right : sum (lengths b) ≡ L b
@@ -274,7 +274,7 @@ module _ (b : List ℕ) where
     pub answer-sizes : s ≡ sizesOf b
     answer-sizes = let f : PartsAnswer.Parts (sizesOf b) ≡ partsAnswer b = accepted-answer b (partsOf b) (accepted-is answer-accepted) in cc
 
-    pub answer-sized : Sized b s
+    pub answer-sized : SizedParts b s
     answer-sized = rw answer-sizes (answer-accepted .sized)
 
     pub answer-parts : parts b ≡ accepted (partsOf b)

@@ -50,7 +50,7 @@ valuesAfter (refused r) bytes lent = lent
 valuesAfter (faulty l) bytes lent = lent
 
 -- these are the sheet's sizes, each is within its limit, and they give the sheet's length
-pub record Sized (bytes : List ℕ) (s : Sizes) : Type 0 where
+pub record SizedParts (bytes : List ℕ) (s : Sizes) : Type 0 where
   pub told : s ≡ sizesOf bytes
   pub long : 12 ≤ length bytes
   pub names : M bytes ≤ mostNames
@@ -61,11 +61,11 @@ pub record Sized (bytes : List ℕ) (s : Sizes) : Type 0 where
 
 -- what the reading of the sizes tells
 unfoldable pub SizesTold : PartsAnswer → List ℕ → Type 0
-SizesTold (PartsAnswer.Parts s) bytes = Sized bytes s
+SizesTold (PartsAnswer.Parts s) bytes = SizedParts bytes s
 SizesTold (PartsAnswer.Refused r) bytes = parts bytes ≡ refused r
 
 -- refusals 1 to 4 do not apply
 pub record Accepted (bytes : List ℕ) : Type 0 where
-  pub sized : Sized bytes (sizesOf bytes)
+  pub sized : SizedParts bytes (sizesOf bytes)
   pub summed : sum (lengths bytes) ≡ L bytes
   pub distinct : badName [] (cut (lengths bytes) (letters bytes)) ≡ M bytes

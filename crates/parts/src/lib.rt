@@ -1,11 +1,13 @@
 // A sheet's sizes, length and names are checked, and its tokens go into working arrays.
+use definitions::MOST_NAMES;
 use definitions::Refusal;
+use definitions::WORKING_TOKENS;
 ghost use mathlib.Core.Path.{_≡_};
 ghost use Prim.Native.Nat.{_+_, _*_, _≤_, _<_};
 ghost use lib.ListN.{length, take, drop};
 ghost use Rattle.definitions.specs.Lists.{sum, over};
 ghost use Rattle.definitions.specs.Bytes.{fourByteWords, parts};
-ghost use Rattle.parts.specs.Answers.{wordAt, Sized, SizesTold, partsAnswer, tagsAfter, valuesAfter};
+ghost use Rattle.parts.specs.Answers.{wordAt, SizedParts, SizesTold, partsAnswer, tagsAfter, valuesAfter};
 
 // The three sizes: "names M, letters L, tokens T".
 pub struct Sizes {
@@ -39,7 +41,7 @@ fn wide_byte(x: u8) -> usize
 }
 
 // The word of four bytes at a place, low byte first.
-pub fn read_word(bytes: &[u8], at: usize) -> u32
+fn read_word(bytes: &[u8], at: usize) -> u32
     requires { ⌜ at + 4 ≤ length (now bytes) ⌝ }
     ensures { λ r. ⌜ r ≡ wordAt (now (bytes .entry)) at ⌝ }
 {
@@ -73,7 +75,7 @@ fn read_sizes(sheet: &[u8]) -> PartsAnswer
     let names = wide_word(read_word(sheet, 0));
     let letters = wide_word(read_word(sheet, 4));
     let tokens = wide_word(read_word(sheet, 8));
-    if 1024 < names {
+    if MOST_NAMES < names {
         return PartsAnswer::Refused(Refusal::Size(0));
     }
     if 16384 < letters {
@@ -97,7 +99,7 @@ fn read_sizes(sheet: &[u8]) -> PartsAnswer
 
 // The names of a sheet whose sizes are right.
 fn check_names(sheet: &[u8], sizes: Sizes) -> PartsAnswer
-    requires { ⌜ Sized (now sheet) sizes ⌝ }
+    requires { ⌜ SizedParts (now sheet) sizes ⌝ }
     ensures { λ r. ⌜ r ≡ partsAnswer (now (sheet .entry)) ⌝ }
 {
     let count = sizes.names;
@@ -115,7 +117,7 @@ fn check_names(sheet: &[u8], sizes: Sizes) -> PartsAnswer
 }
 
 // Sizes, length and names: refusals 1 to 4.
-pub fn check_parts(sheet: &[u8]) -> PartsAnswer
+fn check_parts(sheet: &[u8]) -> PartsAnswer
     ensures { λ r. ⌜ r ≡ partsAnswer (now (sheet .entry)) ⌝ }
 {
     let a = read_sizes(sheet);
@@ -126,7 +128,7 @@ pub fn check_parts(sheet: &[u8]) -> PartsAnswer
 }
 
 // n bytes from a place of the sheet, over the front of the tags.
-fn copy_tags(sheet: &[u8], at: usize, n: usize, tags: &mut [u8; 8192])
+fn copy_tags(sheet: &[u8], at: usize, n: usize, tags: &mut [u8; WORKING_TOKENS])
     requires { ⌜ (at + n ≤ length (now sheet)) × (n ≤ 8192) ⌝ }
     ensures { λ r. ⌜ now (tags .exit) ≡ over (take n (drop at (now (sheet .entry)))) (now (tags .entry)) ⌝ }
 {
@@ -138,7 +140,7 @@ fn copy_tags(sheet: &[u8], at: usize, n: usize, tags: &mut [u8; 8192])
 }
 
 // The n words from a place of the sheet to its end, over the front of the values.
-fn copy_values(sheet: &[u8], at: usize, n: usize, values: &mut [u32; 8192])
+fn copy_values(sheet: &[u8], at: usize, n: usize, values: &mut [u32; WORKING_TOKENS])
     requires { ⌜ (at + 4 * n ≡ length (now sheet)) × (n ≤ 8192) ⌝ }
     ensures { λ r. ⌜ now (values .exit) ≡ over (fourByteWords (drop at (now (sheet .entry)))) (now (values .entry)) ⌝ }
 {
@@ -150,7 +152,11 @@ fn copy_values(sheet: &[u8], at: usize, n: usize, values: &mut [u32; 8192])
 }
 
 // A sheet's parts: turned down by 1 to 4, or its tokens stand in the working arrays.
-pub fn read_parts(sheet: &[u8], tags: &mut [u8; 8192], values: &mut [u32; 8192]) -> PartsAnswer
+pub fn read_parts(
+    sheet: &[u8],
+    tags: &mut [u8; WORKING_TOKENS],
+    values: &mut [u32; WORKING_TOKENS],
+) -> PartsAnswer
     ensures answer { λ r. ⌜ r ≡ partsAnswer (now (sheet .entry)) ⌝ }
     ensures tags { λ r. ⌜ now (tags .exit) ≡ tagsAfter (parts (now (sheet .entry))) (now (sheet .entry)) (now (tags .entry)) ⌝ }
     ensures values { λ r. ⌜ now (values .exit) ≡ valuesAfter (parts (now (sheet .entry))) (now (sheet .entry)) (now (values .entry)) ⌝ }

@@ -19,7 +19,7 @@ use Rattle.fresh.specs.Places.{startsFrom, between, lettersAt}
 use Rattle.fresh.proofs.Places.{starts-length}
 use Rattle.order.proofs.Laws.{letters-of}
 use Rattle.parts.specs.declared.Sizes.{Sizes}
-use Rattle.parts.specs.Answers.{sizesOf, tagsAfter, valuesAfter, Sized, Accepted}
+use Rattle.parts.specs.Answers.{sizesOf, tagsAfter, valuesAfter, SizedParts, Accepted}
 use Rattle.parts.proofs.Laws.{SizesFit, lengths-part, letters-part, few-lengths, lengths-long, letters-long, names-told, tokens-told}
 use Rattle.parts.proofs.Laws as parts-laws
 use Rattle.sheet.specs.Answers.{Stands, SheetRead}
@@ -50,8 +50,8 @@ same-letters letters l starts n h e = fun-ext (λ x. same-between letters (getD 
     at i = ap (λ (s : List ℕ). getD s i 0) (e ∙ over-front l (zeros n)) ∙ over-zeros l n i h
 
 module _ (b : List ℕ) (s : Sizes) (a : Accepted b × (s ≡ sizesOf b)) where
-  sized : Sized b s
-  sized = subst⁻¹ (Sized b) (a .1) (a .0 .sized)
+  sized : SizedParts b s
+  sized = subst⁻¹ (SizedParts b) (a .1) (a .0 .sized)
 
   pub fit : SizesFit b s
   fit = parts-laws.fit b s sized

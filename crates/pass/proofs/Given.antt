@@ -15,11 +15,11 @@ use Rattle.texts.specs.declared.Lending.{Lending}
 use Rattle.texts.specs.Lending.{lentText, Gives}
 use Rattle.query.specs.declared.NodeAnswer.{NodeAnswer}
 use Rattle.query.specs.declared.NodeCounts.{NodeCounts}
-use Rattle.query.specs.Standing.{Clocked, NodeTold}
+use Rattle.query.specs.Standing.{NodeWithClocks, NodeTold}
 use Rattle.query.specs.Words.{Written}
 use Rattle.pass.specs.declared.ClocksAnswer.{ClocksAnswer}
 use Rattle.pass.specs.declared.ListingAnswer.{ListingAnswer}
-use Rattle.pass.specs.Answers.{clocksOf, listingOf, listingsOf, listingAnswered, ClocksGiven, ListingGiven}
+use Rattle.pass.specs.Answers.{clocksOf, listingOf, listingsOf, listingAnswered, ClocksInWords, ListingGiven}
 
 -- ---- refusals 1 to 7
 module _ {A : Type 0} (f : Input → Answer A) where
@@ -29,7 +29,7 @@ module _ {A : Type 0} (f : Input → Answer A) where
   turned (refused r) t h = h
   turned (faulty l) t h = h
 
-clocks-down : (k : ℕ) (v : Answer NodeClocks) (es cs fs : List ℕ) (t : Refusal) → told v ≡ down t → ClocksGiven k v es cs fs es cs fs (ClocksAnswer.Refused t)
+clocks-down : (k : ℕ) (v : Answer NodeClocks) (es cs fs : List ℕ) (t : Refusal) → told v ≡ down t → ClocksInWords k v es cs fs es cs fs (ClocksAnswer.Refused t)
 clocks-down k (accepted q) es cs fs t h = let z : _≡_ {A = ℕ} 0 1 = cc in absurd (omega arith)
 clocks-down k (refused r) es cs fs t h = let e : t ≡ r = cc in record { answer = ap ClocksAnswer.Refused e; equations = refl; chains = refl; faults = refl }
 clocks-down k (faulty l) es cs fs t h = let e : t ≡ Refusal.Faulty (length l) = cc in record { answer = ap ClocksAnswer.Refused e; equations = refl; chains = refl; faults = refl }
@@ -40,7 +40,7 @@ listing-down (refused r) lent t h = let e : t ≡ r = cc in record { answer = ap
 listing-down (faulty l) lent t h = let e : t ≡ Refusal.Faulty (length l) = cc in record { answer = ap ListingAnswer.Refused e; bytes = refl }
 
 module _ (b : List ℕ) (t : Refusal) (h : told (input b) ≡ down t) where
-  pub clocks-refused : (k : ℕ) (es cs fs : List ℕ) → ClocksGiven k (clocksAnswer b k) es cs fs es cs fs (ClocksAnswer.Refused t)
+  pub clocks-refused : (k : ℕ) (es cs fs : List ℕ) → ClocksInWords k (clocksAnswer b k) es cs fs es cs fs (ClocksAnswer.Refused t)
   unfolding clocksAnswer
   clocks-refused k es cs fs = clocks-down k (input b >>= λ r. clocksOf r k) es cs fs t (turned (λ r. clocksOf r k) (input b) t h)
 
@@ -66,7 +66,7 @@ module _ (b : List ℕ) (i : Input) (h : input b ≡ accepted i) where
   unfolding listingsAnswer
   listings-read lent = rw h
 
-pub clocks-same : (k : ℕ) (v w : Answer NodeClocks) (es cs fs es′ cs′ fs′ : List ℕ) (r : ClocksAnswer) → v ≡ w → ClocksGiven k w es cs fs es′ cs′ fs′ r → ClocksGiven k v es cs fs es′ cs′ fs′ r
+pub clocks-same : (k : ℕ) (v w : Answer NodeClocks) (es cs fs es′ cs′ fs′ : List ℕ) (r : ClocksAnswer) → v ≡ w → ClocksInWords k w es cs fs es′ cs′ fs′ r → ClocksInWords k v es cs fs es′ cs′ fs′ r
 clocks-same k v w es cs fs es′ cs′ fs′ r e g = rw e g
 
 pub listing-same : (v w : Answer Letters) (lent after : List ℕ) (r : ListingAnswer) → v ≡ w → ListingGiven w lent after r → ListingGiven v lent after r
@@ -78,7 +78,7 @@ module _ (M : ℕ) (ts : List TagValue) (env t : List ℕ) (i : Input) (k : ℕ)
   unfolding NodeTold
   node-down r e = let x : NodeTold M ts env t k (NodeAnswer.Refused r) (nodeAt i k) = rw e at h in x
 
-  pub clocks-turned : (r : Refusal) (es cs fs : List ℕ) → a ≡ NodeAnswer.Refused r → ClocksGiven k (clocksOf i k) es cs fs es cs fs (ClocksAnswer.Refused r)
+  pub clocks-turned : (r : Refusal) (es cs fs : List ℕ) → a ≡ NodeAnswer.Refused r → ClocksInWords k (clocksOf i k) es cs fs es cs fs (ClocksAnswer.Refused r)
   clocks-turned r es cs fs e = rw (node-down r e) (record { answer = refl; equations = refl; chains = refl; faults = refl })
 
   pub listing-turned : (r : Refusal) (lent : List ℕ) → a ≡ NodeAnswer.Refused r → ListingGiven (listingOf i k (length lent)) lent lent (ListingAnswer.Refused r)
@@ -86,13 +86,13 @@ module _ (M : ℕ) (ts : List TagValue) (env t : List ℕ) (i : Input) (k : ℕ)
 
   -- node k
   module _ (told : listing.Told) (e : a ≡ NodeAnswer.Node told) where
-    pub node-there : (n : ClockedNode) × (nodeAt i k ≡ accepted n) × Clocked M ts env t k told n × (k < 16)
+    pub node-there : (n : ClockedNode) × (nodeAt i k ≡ accepted n) × NodeWithClocks M ts env t k told n × (k < 16)
     unfolding NodeTold
     node-there = let x : NodeTold M ts env t k (NodeAnswer.Node told) (nodeAt i k) = rw e at h in x
 
 -- the clocks of node k
 pub clocks-given : (letters : ℕ → Letters) (i : Input) (k number : ℕ) (n : ClockedNode) (es cs fs es′ cs′ fs′ : List ℕ) (r : NodeCounts) → letters ≡ lettersOf (i .names) → number ≡ k → nodeAt i k ≡ accepted n
-    → Written number (nodeClocks letters n) es cs fs es′ cs′ fs′ r → ClocksGiven k (clocksOf i k) es cs fs es′ cs′ fs′ (ClocksAnswer.Clocks r)
+    → Written number (nodeClocks letters n) es cs fs es′ cs′ fs′ r → ClocksInWords k (clocksOf i k) es cs fs es′ cs′ fs′ (ClocksAnswer.Clocks r)
 clocks-given letters i k number n es cs fs es′ cs′ fs′ r e f h w =
     let x : Written k (nodeClocks (lettersOf (i .names)) n) es cs fs es′ cs′ fs′ r = rw (e, f) at w in
     rw h (record { answer = ap ClocksAnswer.Clocks (x .counts); equations = x .equations; chains = x .chains; faults = x .faults })

@@ -24,7 +24,7 @@ use Rattle.spelling.specs.Writing.{overAt, farthest}
 use Rattle.spelling.proofs.Writing.{over-front}
 use Rattle.query.specs.declared.Measured.{Measured}
 use Rattle.query.specs.declared.NodeAnswer.{NodeAnswer}
-use Rattle.query.specs.Standing.{Clocked, ClockedAs}
+use Rattle.query.specs.Standing.{NodeWithClocks, ClockedAs}
 use Rattle.query.specs.Sizes.{sizeOf, Measures}
 use Rattle.query.specs.Words.{PutText}
 use Rattle.query.proofs.Nodes.{cons-clocked, none-clocked, node-formed, node-deep, clockings-append}
@@ -108,7 +108,7 @@ module _ (letters : ℕ → Letters) (M : ℕ) (ts : List TagValue) (n from plac
       rw w (record { answer = refl; bytes = refl })
 
   pub last-listed : (told : listing.Told) (lent after : List ℕ) (r : ListingAnswer) → a ≡ NodeAnswer.Node told
-      → ((y : ClockedNode) → Clocked (told .names) ts env t (told .number) told y → ListingGiven (lentText (join (numbered (nodeListing letters) 0 l) ++ nodeListing letters (told .number) y) (length lent)) lent after r)
+      → ((y : ClockedNode) → NodeWithClocks (told .names) ts env t (told .number) told y → ListingGiven (lentText (join (numbered (nodeListing letters) 0 l) ++ nodeListing letters (told .number) y) (length lent)) lent after r)
       → ListingGiven (nodesListed letters (ns ++ (x ∷ [])) (length lent)) lent after r
   last-listed told lent after r f P =
       let d = clocked-as M ts env t k x a C told f in

@@ -47,17 +47,17 @@ chainsAfter (refused r) lent = lent
 chainsAfter (faulty l) lent = lent
 
 -- the fault list afterwards: all clock faults of node k, as far as it reaches (`clockFaultsAfter`, in words)
-abbrev pub faultsAfter : ℕ → Answer NodeClocks → List ℕ → List ℕ
-faultsAfter k (accepted q) lent = faultsOver k (q .faults) lent
-faultsAfter k (refused r) lent = lent
-faultsAfter k (faulty l) lent = lent
+abbrev pub clockFaultWordsAfter : ℕ → Answer NodeClocks → List ℕ → List ℕ
+clockFaultWordsAfter k (accepted q) lent = faultsOver k (q .faults) lent
+clockFaultWordsAfter k (refused r) lent = lent
+clockFaultWordsAfter k (faulty l) lent = lent
 
 -- the clock query of node k: the answer, and the three lent lists afterwards
-pub record ClocksGiven (k : ℕ) (v : Answer NodeClocks) (es cs fs es′ cs′ fs′ : List ℕ) (r : ClocksAnswer) : Type 0 where
+pub record ClocksInWords (k : ℕ) (v : Answer NodeClocks) (es cs fs es′ cs′ fs′ : List ℕ) (r : ClocksAnswer) : Type 0 where
   pub answer : r ≡ clocksAnswered v
   pub equations : es′ ≡ equationsAfter v es
   pub chains : cs′ ≡ chainsAfter v cs
-  pub faults : fs′ ≡ faultsAfter k v fs
+  pub faults : fs′ ≡ clockFaultWordsAfter k v fs
 
 -- a listing's answer: how many bytes were written, or the refusal
 abbrev pub listingAnswered : Answer Letters → ListingAnswer

@@ -1,5 +1,11 @@
 // The clock pass: the entry points. Each takes a sheet's bytes, and what it answers and writes is said for all inputs.
+use definitions::CHAIN_TABLE;
+use definitions::CLOCK_TABLE;
+use definitions::FINDING_TABLE;
 use definitions::Refusal;
+use definitions::SMALL_CLOCK_TABLE;
+use definitions::SMALL_FINDING_TABLE;
+use definitions::WORKING_TOKENS;
 use listing::Told;
 use parts::Sizes;
 use query::Measured;
@@ -24,8 +30,8 @@ ghost use Rattle.parts.specs.Answers.{Accepted, sizesOf};
 ghost use Rattle.sheet.specs.Answers.{Stands};
 ghost use Rattle.spelling.specs.Writing.{farthest};
 ghost use Rattle.texts.specs.Lending.{lentText};
-ghost use Rattle.query.specs.Standing.{Standing, Roomy, Ample, Clocked};
-ghost use Rattle.pass.specs.Answers.{clocksOf, listingOf, nodesListed, listingsOf, ClocksGiven, ListingGiven};
+ghost use Rattle.query.specs.Standing.{Standing, Roomy, Ample, NodeWithClocks};
+ghost use Rattle.pass.specs.Answers.{clocksOf, listingOf, nodesListed, listingsOf, ClocksInWords, ListingGiven};
 
 // A node's name, passes and counts, or turned down.
 pub enum ClocksAnswer {
@@ -81,7 +87,7 @@ fn clocks_in(
     faults: &mut [u32],
 ) -> ClocksAnswer
     requires { ⌜ length (now values) ≡ length (now tags) ⌝ }
-    ensures { λ r. ⌜ ((i : Input) → Standing (now (starts .entry)) (now (letters .entry)) (now (tags .entry)) (now (values .entry)) names i → Roomy names (length (now (tags .entry))) (now (env .entry)) (now (table .entry)) → Ample (now (table .entry)) (now (rows .entry)) (now (chain .entry)) → ClocksGiven k (clocksOf i k) (now (equations .entry)) (now (chains .entry)) (now (faults .entry)) (now (equations .exit)) (now (chains .exit)) (now (faults .exit)) r) ⌝ }
+    ensures { λ r. ⌜ ((i : Input) → Standing (now (starts .entry)) (now (letters .entry)) (now (tags .entry)) (now (values .entry)) names i → Roomy names (length (now (tags .entry))) (now (env .entry)) (now (table .entry)) → Ample (now (table .entry)) (now (rows .entry)) (now (chain .entry)) → ClocksInWords k (clocksOf i k) (now (equations .entry)) (now (chains .entry)) (now (faults .entry)) (now (equations .exit)) (now (chains .exit)) (now (faults .exit)) r) ⌝ }
 {
     let found = query::clock_at(tags, values, names, k, env, table);
     match found {
@@ -116,11 +122,11 @@ fn clocks_small(
     faults: &mut [u32],
 ) -> ClocksAnswer
     requires { ⌜ length (now values) ≡ length (now tags) ⌝ }
-    ensures { λ r. ⌜ ((i : Input) → Standing (now (starts .entry)) (now (letters .entry)) (now (tags .entry)) (now (values .entry)) names i → length (now (tags .entry)) ≤ 256 → names ≤ 256 → ClocksGiven k (clocksOf i k) (now (equations .entry)) (now (chains .entry)) (now (faults .entry)) (now (equations .exit)) (now (chains .exit)) (now (faults .exit)) r) ⌝ }
+    ensures { λ r. ⌜ ((i : Input) → Standing (now (starts .entry)) (now (letters .entry)) (now (tags .entry)) (now (values .entry)) names i → length (now (tags .entry)) ≤ 256 → names ≤ 256 → ClocksInWords k (clocksOf i k) (now (equations .entry)) (now (chains .entry)) (now (faults .entry)) (now (equations .exit)) (now (chains .exit)) (now (faults .exit)) r) ⌝ }
 {
-    let mut env = [0u32; 4352];
-    let mut table = [0u32; 9728];
-    let mut rows = [0u32; 4352];
+    let mut env = [0u32; SMALL_CLOCK_TABLE];
+    let mut table = [0u32; SMALL_FINDING_TABLE];
+    let mut rows = [0u32; SMALL_CLOCK_TABLE];
     let mut chain = [0u32; 256];
     clocks_in(
         starts,
@@ -152,11 +158,11 @@ fn clocks_large(
     faults: &mut [u32],
 ) -> ClocksAnswer
     requires { ⌜ length (now values) ≡ length (now tags) ⌝ }
-    ensures { λ r. ⌜ ((i : Input) → Standing (now (starts .entry)) (now (letters .entry)) (now (tags .entry)) (now (values .entry)) names i → ClocksGiven k (clocksOf i k) (now (equations .entry)) (now (chains .entry)) (now (faults .entry)) (now (equations .exit)) (now (chains .exit)) (now (faults .exit)) r) ⌝ }
+    ensures { λ r. ⌜ ((i : Input) → Standing (now (starts .entry)) (now (letters .entry)) (now (tags .entry)) (now (values .entry)) names i → ClocksInWords k (clocksOf i k) (now (equations .entry)) (now (chains .entry)) (now (faults .entry)) (now (equations .exit)) (now (chains .exit)) (now (faults .exit)) r) ⌝ }
 {
-    let mut env = [0u32; 17408];
-    let mut table = [0u32; 155648];
-    let mut rows = [0u32; 69632];
+    let mut env = [0u32; CLOCK_TABLE];
+    let mut table = [0u32; FINDING_TABLE];
+    let mut rows = [0u32; CHAIN_TABLE];
     let mut chain = [0u32; 4096];
     clocks_in(
         starts,
@@ -188,7 +194,7 @@ fn clocks_standing(
     faults: &mut [u32],
 ) -> ClocksAnswer
     requires { ⌜ length (now values) ≡ length (now tags) ⌝ }
-    ensures { λ r. ⌜ ((i : Input) → Standing (now (starts .entry)) (now (letters .entry)) (now (tags .entry)) (now (values .entry)) names i → ClocksGiven k (clocksOf i k) (now (equations .entry)) (now (chains .entry)) (now (faults .entry)) (now (equations .exit)) (now (chains .exit)) (now (faults .exit)) r) ⌝ }
+    ensures { λ r. ⌜ ((i : Input) → Standing (now (starts .entry)) (now (letters .entry)) (now (tags .entry)) (now (values .entry)) names i → ClocksInWords k (clocksOf i k) (now (equations .entry)) (now (chains .entry)) (now (faults .entry)) (now (equations .exit)) (now (chains .exit)) (now (faults .exit)) r) ⌝ }
 {
     if tags.len() <= 256 && names <= 256 {
         return clocks_small(
@@ -229,7 +235,7 @@ fn clocks_front(
 ) -> ClocksAnswer
     requires { ⌜ Accepted (now sheet) × (sizes ≡ sizesOf (now sheet)) ⌝ }
     requires { ⌜ (4096 ≤ length (now tags)) × (4096 ≤ length (now values)) ⌝ }
-    ensures { λ r. ⌜ ((i : Input) → input (now (sheet .entry)) ≡ accepted i → Stands (now (sheet .entry)) (now (tags .entry)) (now (values .entry)) i → ClocksGiven k (clocksAnswer (now (sheet .entry)) k) (now (equations .entry)) (now (chains .entry)) (now (faults .entry)) (now (equations .exit)) (now (chains .exit)) (now (faults .exit)) r) ⌝ }
+    ensures { λ r. ⌜ ((i : Input) → input (now (sheet .entry)) ≡ accepted i → Stands (now (sheet .entry)) (now (tags .entry)) (now (values .entry)) i → ClocksInWords k (clocksAnswer (now (sheet .entry)) k) (now (equations .entry)) (now (chains .entry)) (now (faults .entry)) (now (equations .exit)) (now (chains .exit)) (now (faults .exit)) r) ⌝ }
 {
     let n = sizes.tokens;
     let from = 12 + sizes.names;
@@ -258,10 +264,10 @@ pub fn clocks(
     chains: &mut [u32],
     faults: &mut [u32],
 ) -> ClocksAnswer
-    ensures { λ r. ⌜ ClocksGiven node (clocksAnswer (now (sheet .entry)) node) (now (equations .entry)) (now (chains .entry)) (now (faults .entry)) (now (equations .exit)) (now (chains .exit)) (now (faults .exit)) r ⌝ }
+    ensures { λ r. ⌜ ClocksInWords node (clocksAnswer (now (sheet .entry)) node) (now (equations .entry)) (now (chains .entry)) (now (faults .entry)) (now (equations .exit)) (now (chains .exit)) (now (faults .exit)) r ⌝ }
 {
-    let mut tags = [0u8; 8192];
-    let mut values = [0u32; 8192];
+    let mut tags = [0u8; WORKING_TOKENS];
+    let mut values = [0u32; WORKING_TOKENS];
     let answer = sheet::read(sheet, &mut tags, &mut values);
     match answer {
         SheetAnswer::Refused(r) => ClocksAnswer::Refused(r),
@@ -294,7 +300,7 @@ fn listing_told(
     chain: &mut [u32],
 ) -> ListingAnswer
     requires { ⌜ length (now values) ≡ length (now tags) ⌝ }
-    ensures { λ r. ⌜ ((n : ClockedNode) → Clocked (told .names) (tokens (now (tags .entry)) (now (values .entry))) (now (env .entry)) (now (table .entry)) (told .number) told n → Ample (now (table .entry)) (now (rows .entry)) (now (chain .entry)) → length (now (letters .entry)) ≤ 16384 → length (now (tags .entry)) ≤ 4096 → ListingGiven (lentText (nodeListing (lettersAt (now (starts .entry)) (now (letters .entry))) (told .number) n) (length (now (out .entry)))) (now (out .entry)) (now (out .exit)) r) ⌝ }
+    ensures { λ r. ⌜ ((n : ClockedNode) → NodeWithClocks (told .names) (tokens (now (tags .entry)) (now (values .entry))) (now (env .entry)) (now (table .entry)) (told .number) told n → Ample (now (table .entry)) (now (rows .entry)) (now (chain .entry)) → length (now (letters .entry)) ≤ 16384 → length (now (tags .entry)) ≤ 4096 → ListingGiven (lentText (nodeListing (lettersAt (now (starts .entry)) (now (letters .entry))) (told .number) n) (length (now (out .entry)))) (now (out .entry)) (now (out .exit)) r) ⌝ }
 {
     let lent = listing::node_into(
         out,
@@ -364,9 +370,9 @@ fn listing_small(
     requires { ⌜ length (now values) ≡ length (now tags) ⌝ }
     ensures { λ r. ⌜ ((i : Input) → Standing (now (starts .entry)) (now (letters .entry)) (now (tags .entry)) (now (values .entry)) names i → length (now (tags .entry)) ≤ 256 → names ≤ 256 → ListingGiven (listingOf i k (length (now (out .entry)))) (now (out .entry)) (now (out .exit)) r) ⌝ }
 {
-    let mut env = [0u32; 4352];
-    let mut table = [0u32; 9728];
-    let mut rows = [0u32; 4352];
+    let mut env = [0u32; SMALL_CLOCK_TABLE];
+    let mut table = [0u32; SMALL_FINDING_TABLE];
+    let mut rows = [0u32; SMALL_CLOCK_TABLE];
     let mut chain = [0u32; 256];
     listing_in(
         out,
@@ -396,9 +402,9 @@ fn listing_large(
     requires { ⌜ length (now values) ≡ length (now tags) ⌝ }
     ensures { λ r. ⌜ ((i : Input) → Standing (now (starts .entry)) (now (letters .entry)) (now (tags .entry)) (now (values .entry)) names i → ListingGiven (listingOf i k (length (now (out .entry)))) (now (out .entry)) (now (out .exit)) r) ⌝ }
 {
-    let mut env = [0u32; 17408];
-    let mut table = [0u32; 155648];
-    let mut rows = [0u32; 69632];
+    let mut env = [0u32; CLOCK_TABLE];
+    let mut table = [0u32; FINDING_TABLE];
+    let mut rows = [0u32; CHAIN_TABLE];
     let mut chain = [0u32; 4096];
     listing_in(
         out,
@@ -467,8 +473,8 @@ fn listing_front(
 pub fn listing(sheet: &[u8], node: usize, out: &mut [u8]) -> ListingAnswer
     ensures { λ r. ⌜ ListingGiven (listingAnswer (now (sheet .entry)) node (length (now (out .entry)))) (now (out .entry)) (now (out .exit)) r ⌝ }
 {
-    let mut tags = [0u8; 8192];
-    let mut values = [0u32; 8192];
+    let mut tags = [0u8; WORKING_TOKENS];
+    let mut values = [0u32; WORKING_TOKENS];
     let answer = sheet::read(sheet, &mut tags, &mut values);
     match answer {
         SheetAnswer::Refused(r) => ListingAnswer::Refused(r),
@@ -496,7 +502,7 @@ fn listings_told(
 ) -> ListingAnswer
     requires { ⌜ length (now values) ≡ length (now tags) ⌝ }
     requires { ⌜ before + farthest < 2 ^ 64 ⌝ }
-    ensures { λ r. ⌜ ((ns : List Node) (q : ℕ) (l : List ClockedNode) (last : ClockedNode) → times n (node names) (tokens (now (tags .entry)) (now (values .entry))) from ≡ got ns q → clockings 0 ns ≡ accepted l → before ≡ length (join (numbered (nodeListing (lettersAt (now (starts .entry)) (now (letters .entry)))) 0 l)) → Clocked (told .names) (tokens (now (tags .entry)) (now (values .entry))) (now (env .entry)) (now (table .entry)) (told .number) told last → Roomy names (length (now (tags .entry))) (now (env .entry)) (now (table .entry)) → Ample (now (table .entry)) (now (rows .entry)) (now (chain .entry)) → length (now (letters .entry)) ≤ 16384 → length (now (tags .entry)) ≤ 4096 → ListingGiven (lentText (join (numbered (nodeListing (lettersAt (now (starts .entry)) (now (letters .entry)))) 0 l) ++ nodeListing (lettersAt (now (starts .entry)) (now (letters .entry))) (told .number) last) (length (now (out .entry)))) (now (out .entry)) (now (out .exit)) r) ⌝ }
+    ensures { λ r. ⌜ ((ns : List Node) (q : ℕ) (l : List ClockedNode) (last : ClockedNode) → times n (node names) (tokens (now (tags .entry)) (now (values .entry))) from ≡ got ns q → clockings 0 ns ≡ accepted l → before ≡ length (join (numbered (nodeListing (lettersAt (now (starts .entry)) (now (letters .entry)))) 0 l)) → NodeWithClocks (told .names) (tokens (now (tags .entry)) (now (values .entry))) (now (env .entry)) (now (table .entry)) (told .number) told last → Roomy names (length (now (tags .entry))) (now (env .entry)) (now (table .entry)) → Ample (now (table .entry)) (now (rows .entry)) (now (chain .entry)) → length (now (letters .entry)) ≤ 16384 → length (now (tags .entry)) ≤ 4096 → ListingGiven (lentText (join (numbered (nodeListing (lettersAt (now (starts .entry)) (now (letters .entry)))) 0 l) ++ nodeListing (lettersAt (now (starts .entry)) (now (letters .entry))) (told .number) last) (length (now (out .entry)))) (now (out .entry)) (now (out .exit)) r) ⌝ }
 {
     let s = query::measure_told(starts, letters, tags, values, env, table, told, rows, chain);
     let m = before + s.listing;
@@ -649,9 +655,9 @@ fn listings_small(
     requires { ⌜ length (now values) ≡ length (now tags) ⌝ }
     ensures { λ r. ⌜ ((i : Input) → Standing (now (starts .entry)) (now (letters .entry)) (now (tags .entry)) (now (values .entry)) names i → length (now (tags .entry)) ≤ 256 → names ≤ 256 → ListingGiven (listingsOf i (length (now (out .entry)))) (now (out .entry)) (now (out .exit)) r) ⌝ }
 {
-    let mut env = [0u32; 4352];
-    let mut table = [0u32; 9728];
-    let mut rows = [0u32; 4352];
+    let mut env = [0u32; SMALL_CLOCK_TABLE];
+    let mut table = [0u32; SMALL_FINDING_TABLE];
+    let mut rows = [0u32; SMALL_CLOCK_TABLE];
     let mut chain = [0u32; 256];
     listings_in(
         out,
@@ -679,9 +685,9 @@ fn listings_large(
     requires { ⌜ length (now values) ≡ length (now tags) ⌝ }
     ensures { λ r. ⌜ ((i : Input) → Standing (now (starts .entry)) (now (letters .entry)) (now (tags .entry)) (now (values .entry)) names i → ListingGiven (listingsOf i (length (now (out .entry)))) (now (out .entry)) (now (out .exit)) r) ⌝ }
 {
-    let mut env = [0u32; 17408];
-    let mut table = [0u32; 155648];
-    let mut rows = [0u32; 69632];
+    let mut env = [0u32; CLOCK_TABLE];
+    let mut table = [0u32; FINDING_TABLE];
+    let mut rows = [0u32; CHAIN_TABLE];
     let mut chain = [0u32; 4096];
     listings_in(
         out,
@@ -746,8 +752,8 @@ fn listings_front(
 pub fn listings(sheet: &[u8], out: &mut [u8]) -> ListingAnswer
     ensures { λ r. ⌜ ListingGiven (listingsAnswer (now (sheet .entry)) (length (now (out .entry)))) (now (out .entry)) (now (out .exit)) r ⌝ }
 {
-    let mut tags = [0u8; 8192];
-    let mut values = [0u32; 8192];
+    let mut tags = [0u8; WORKING_TOKENS];
+    let mut values = [0u32; WORKING_TOKENS];
     let answer = sheet::read(sheet, &mut tags, &mut values);
     match answer {
         SheetAnswer::Refused(r) => ListingAnswer::Refused(r),

@@ -18,7 +18,7 @@ use Rattle.runs.specs.Demand.{DemandThreeAt}
 use Rattle.runs.proofs.Sheet.{demand-three-at}
 use Rattle.stateless.proofs.Answers.{rewrite-refused}
 use Rattle.rewriting.specs.declared.RewriteAnswer.{RewriteAnswer}
-use Rattle.rewriting.specs.Given.{RewriteGiven}
+use Rattle.rewriting.specs.Given.{RewriteInWords}
 use Rattle.rewriting.proofs.Outcomes.{given-refused}
 
 -- ---- what a slice of bytes has is below 256
@@ -49,11 +49,11 @@ front-written (b ∷ out) [] h = absurd (omega arith)
 front-written (b ∷ out) (x ∷ lent) h = ap (λ (l : List ℕ). b ∷ l) (front-written out lent (omega arith))
 
 -- THE LAW: where so many bytes were written, they keep every plain node's runs
-pub written-demand : (bytes lent list lent′ list′ : List ℕ) (a : RewriteAnswer) → Bytes bytes → RewriteGiven (rewriteAnswer bytes (length lent)) lent list lent′ list′ a
+pub written-demand : (bytes lent list lent′ list′ : List ℕ) (a : RewriteAnswer) → Bytes bytes → RewriteInWords (rewriteAnswer bytes (length lent)) lent list lent′ list′ a
     → (n : ℕ) → a ≡ RewriteAnswer.Written n → DemandThreeAt bytes (take n lent′)
 written-demand bytes lent list lent′ list′ a b g n e = go (rewriteAnswer bytes (length lent)) refl g
   where
-    go : (v : Answer (List ℕ)) → rewriteAnswer bytes (length lent) ≡ v → RewriteGiven v lent list lent′ list′ a → DemandThreeAt bytes (take n lent′)
+    go : (v : Answer (List ℕ)) → rewriteAnswer bytes (length lent) ≡ v → RewriteInWords v lent list lent′ list′ a → DemandThreeAt bytes (take n lent′)
     go (refused r) h x = let y = sym e ∙ x .answer in let z : _≡_ {A = ℕ} 0 1 = cc in absurd (omega arith)
     go (faulty l) h x = let y = sym e ∙ x .answer in let z : _≡_ {A = ℕ} 0 1 = cc in absurd (omega arith)
     go (accepted out) h x =
@@ -63,5 +63,5 @@ written-demand bytes lent list lent′ list′ a b g n e = go (rewriteAnswer byt
         subst⁻¹ (DemandThreeAt bytes) f (demand-three-at bytes (length lent) out b h)
 
 -- refusals 1 to 7
-pub rewrite-down : (bytes lent list : List ℕ) (x : Refusal) → told (input bytes) ≡ down x → RewriteGiven (rewriteAnswer bytes (length lent)) lent list lent list (RewriteAnswer.Refused x)
+pub rewrite-down : (bytes lent list : List ℕ) (x : Refusal) → told (input bytes) ≡ down x → RewriteInWords (rewriteAnswer bytes (length lent)) lent list lent list (RewriteAnswer.Refused x)
 rewrite-down bytes lent list x h = given-refused (rewriteAnswer bytes (length lent)) lent list x (rewrite-refused bytes (length lent) x h)

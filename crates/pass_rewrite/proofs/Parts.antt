@@ -8,13 +8,13 @@ use Rattle.definitions.specs.Lists.{sum}
 use Rattle.definitions.specs.Bytes.{lengths, letters, cut}
 use Rattle.definitions.specs.Answer.{Input}
 use Rattle.parts.specs.declared.Sizes.{Sizes}
-use Rattle.parts.specs.Answers.{sizesOf, Sized, Accepted}
+use Rattle.parts.specs.Answers.{sizesOf, SizedParts, Accepted}
 use Rattle.parts.proofs.Laws.{lengths-part, letters-part, letters-long}
 use Rattle.sheet.specs.Answers.{Stands}
 
 module _ (b : List ℕ) (s : Sizes) (a : Accepted b × (s ≡ sizesOf b)) where
-  sized : Sized b s
-  sized = subst⁻¹ (Sized b) (a .1) (a .0 .sized)
+  sized : SizedParts b s
+  sized = subst⁻¹ (SizedParts b) (a .1) (a .0 .sized)
 
   -- the letters are as many as the lengths say
   pub all-letters : sum (take (12 + s .names - 12) (drop 12 b)) ≡ length (take (12 + s .names + s .letters - (12 + s .names)) (drop (12 + s .names) b))

@@ -1,6 +1,9 @@
 // The clock pass: the entry points that rewrite a sheet and spell a fault. Each takes a sheet's bytes, and what it answers and writes is
 // said for all inputs.
+use definitions::CLOCK_TABLE;
+use definitions::FINDING_TABLE;
 use definitions::Refusal;
+use definitions::WORKING_TOKENS;
 use first_faults::FaultFound;
 use infer_clocks::Deepest;
 use parts::Sizes;
@@ -26,7 +29,7 @@ ghost use Rattle.sheet.specs.Answers.{Stands};
 ghost use Rattle.runs.specs.Demand.{DemandThreeAt};
 ghost use Rattle.query.specs.Standing.{Standing};
 ghost use Rattle.first_faults.specs.Faults.{foundOf, faultIn};
-ghost use Rattle.rewriting.specs.Given.{RewriteGiven};
+ghost use Rattle.rewriting.specs.Given.{RewriteInWords};
 ghost use Rattle.pass.specs.Answers.{ListingGiven};
 ghost use Rattle.pass_rewrite.specs.Texts.{textIn, textOf};
 
@@ -65,7 +68,7 @@ fn rewrite_front(
 ) -> RewriteAnswer
     requires { ⌜ Accepted (now sheet) × (sizes ≡ sizesOf (now sheet)) ⌝ }
     requires { ⌜ (4096 ≤ length (now tags)) × (4096 ≤ length (now values)) ⌝ }
-    ensures { λ a. ⌜ ((i : Input) → input (now (sheet .entry)) ≡ accepted i → Stands (now (sheet .entry)) (now (tags .entry)) (now (values .entry)) i → RewriteGiven (rewriteAnswer (now (sheet .entry)) (length (now (out .entry)))) (now (out .entry)) (now (faults .entry)) (now (out .exit)) (now (faults .exit)) a) ⌝ }
+    ensures { λ a. ⌜ ((i : Input) → input (now (sheet .entry)) ≡ accepted i → Stands (now (sheet .entry)) (now (tags .entry)) (now (values .entry)) i → RewriteInWords (rewriteAnswer (now (sheet .entry)) (length (now (out .entry)))) (now (out .entry)) (now (faults .entry)) (now (out .exit)) (now (faults .exit)) a) ⌝ }
 {
     let n = sizes.tokens;
     let from = 12 + sizes.names;
@@ -88,11 +91,11 @@ fn rewrite_front(
 // writes no byte, and under 10 alone each faulty node's first fault over the front of the lent list, three words a fault. The second
 // clause is demand 3: every run of a rewritten plain node, kept to each name's clock, is a run of the source node.
 pub fn rewrite(sheet: &[u8], out: &mut [u8], faults: &mut [u32]) -> RewriteAnswer
-    ensures { λ a. ⌜ RewriteGiven (rewriteAnswer (now (sheet .entry)) (length (now (out .entry)))) (now (out .entry)) (now (faults .entry)) (now (out .exit)) (now (faults .exit)) a ⌝ }
+    ensures { λ a. ⌜ RewriteInWords (rewriteAnswer (now (sheet .entry)) (length (now (out .entry)))) (now (out .entry)) (now (faults .entry)) (now (out .exit)) (now (faults .exit)) a ⌝ }
     ensures { λ a. ⌜ ((n : ℕ) → a ≡ RewriteAnswer.Written n → DemandThreeAt (now (sheet .entry)) (take n (now (out .exit)))) ⌝ }
 {
-    let mut tags = [0u8; 8192];
-    let mut values = [0u32; 8192];
+    let mut tags = [0u8; WORKING_TOKENS];
+    let mut values = [0u32; WORKING_TOKENS];
     let answer = sheet::read(sheet, &mut tags, &mut values);
     match answer {
         SheetAnswer::Refused(r) => RewriteAnswer::Refused(r),
@@ -116,8 +119,8 @@ fn node_fault(
 {
     let condact = narrow(fresh::find_condact(given, letters));
     let t = first_faults::tables_of(tags, values, names, condact);
-    let mut env = [0u32; 17408];
-    let mut table = [0u32; 155648];
+    let mut env = [0u32; CLOCK_TABLE];
+    let mut table = [0u32; FINDING_TABLE];
     first_faults::fault_at(tags, values, t, k, j, &mut env, &mut table)
 }
 
@@ -201,8 +204,8 @@ fn text_front(
 pub fn text(sheet: &[u8], node: usize, fault: usize, out: &mut [u8]) -> ListingAnswer
     ensures { λ a. ⌜ ListingGiven (textAnswer (now (sheet .entry)) node fault (length (now (out .entry)))) (now (out .entry)) (now (out .exit)) a ⌝ }
 {
-    let mut tags = [0u8; 8192];
-    let mut values = [0u32; 8192];
+    let mut tags = [0u8; WORKING_TOKENS];
+    let mut values = [0u32; WORKING_TOKENS];
     let answer = sheet::read(sheet, &mut tags, &mut values);
     match answer {
         SheetAnswer::Refused(r) => ListingAnswer::Refused(r),

@@ -15,7 +15,7 @@ use Rattle.definitions.specs.Tree.{Equation, Node}
 use Rattle.definitions.specs.Clock.{Clock, sameClock}
 use Rattle.definitions.specs.InferClocks.{Natural, Formed, deep, formed, _>>=_, Clocks, clockOf, Pass, natural, isPort, hasClock, give, giveNatural}
 use Rattle.passes.specs.Passes.{given, stepped}
-use Rattle.passes.specs.Settled.{Settled, All, Each, Names, Keeps, Idle, Calm, dated, dates, Moves}
+use Rattle.passes.specs.Settled.{Unchanged, EachOf, Each, Names, KeepsClocks, Idle, Calm, dated, dates, Moves}
 use Rattle.passes.proofs.Naming.{names-map, Same, natural-same}
 
 -- ---- what a change of clocks leaves as it was
@@ -26,12 +26,12 @@ pub moves-then : (present : ℕ) (s s′ s″ : List ℕ) (c c′ c″ : Clocks)
 moves-then present s s′ s″ c c′ c″ f g = record { same = λ x b l h. let u = g .same x b l h in let v = f .same x b l (u .0) in (v .0, u .1 ∙ v .1) }
 
 -- a name that is put down as changed in this pass is not settled
-put-here : (present : ℕ) (s : List ℕ) (x b : ℕ) → b ≤ present → Settled (set s x present) b x → ⊥
+put-here : (present : ℕ) (s : List ℕ) (x b : ℕ) → b ≤ present → Unchanged (set s x present) b x → ⊥
 put-here present s x b l h =
     let i : x < length s = omega (arith, h .inside, length-set s x present) in
     omega (arith, h .earlier, getD-set-same s x present 0 i)
 
-put-else : (present : ℕ) (s : List ℕ) (x y b : ℕ) → (y ≡ x → ⊥) → Settled (set s x present) b y → Settled s b y
+put-else : (present : ℕ) (s : List ℕ) (x y b : ℕ) → (y ≡ x → ⊥) → Unchanged (set s x present) b y → Unchanged s b y
 put-else present s x y b n h = record { inside = omega (arith, h .inside, length-set s x present); earlier = omega (arith, h .earlier, getD-set-other s x y present 0 n) }
 
 clock-else : (clocks : Clocks) (x y : ℕ) (c : Clock) → (y ≡ x → ⊥) → clockOf (record { name = x; clock = c } ∷ clocks) y ≡ clockOf clocks y
@@ -43,7 +43,7 @@ module _ (n : Node) (c : Clock) (present x : ℕ) (p : Pass) (since : List ℕ) 
   pub moves-one : Moves present since (dated n c present x p since) (p .clocks) (given n c x p .clocks)
   moves-one = go (isPort n x || hasClock (p .clocks) x c)
     where
-      put : (y b : ℕ) → b ≤ present → Settled (set since x present) b y → Settled since b y × (clockOf (record { name = x; clock = c } ∷ p .clocks) y ≡ clockOf (p .clocks) y)
+      put : (y b : ℕ) → b ≤ present → Unchanged (set since x present) b y → Unchanged since b y × (clockOf (record { name = x; clock = c } ∷ p .clocks) y ≡ clockOf (p .clocks) y)
       put y b l h =
           let m : y ≡ x → ⊥ = λ e. put-here present since x b l (rw e at h) in
           (put-else present since x y b m h, clock-else (p .clocks) x y c m)
@@ -64,16 +64,16 @@ module _ (n : Node) (c : Clock) (present : ℕ) where
   Kept clocks x = (isPort n x || hasClock clocks x c) ≡ true
 
   -- names that are settled then have kept their clocks
-  pub kept-all : (xs : List ℕ) (p : Pass) (since : List ℕ) → All (Settled (dates n c present xs p since) present) xs → All (Kept (p .clocks)) xs × (give n c xs p ≡ p)
-  unfolding All dates give
+  pub kept-all : (xs : List ℕ) (p : Pass) (since : List ℕ) → EachOf (Unchanged (dates n c present xs p since) present) xs → EachOf (Kept (p .clocks)) xs × (give n c xs p ≡ p)
+  unfolding EachOf dates give
   kept-all [] p since h = (tt, refl)
   kept-all (x ∷ xs) p since h = go (λ k. kept-all xs p since k) (isPort n x || hasClock (p .clocks) x c) refl
     where
-      go : (All (Settled (dates n c present xs p since) present) xs → All (Kept (p .clocks)) xs × (give n c xs p ≡ p)) → (t : Bool) → (isPort n x || hasClock (p .clocks) x c) ≡ t → (Kept (p .clocks) x × All (Kept (p .clocks)) xs) × (give n c xs (given n c x p) ≡ p)
+      go : (EachOf (Unchanged (dates n c present xs p since) present) xs → EachOf (Kept (p .clocks)) xs × (give n c xs p ≡ p)) → (t : Bool) → (isPort n x || hasClock (p .clocks) x c) ≡ t → (Kept (p .clocks) x × EachOf (Kept (p .clocks)) xs) × (give n c xs (given n c x p) ≡ p)
       go rest true e =
           let i : given n c x p ≡ p = rw e in
           let j : dates n c present xs (given n c x p) (dated n c present x p since) ≡ dates n c present xs p since = rw e in
-          let r = rest (subst (λ (s : List ℕ). All (Settled s present) xs) j (h .1)) in
+          let r = rest (subst (λ (s : List ℕ). EachOf (Unchanged s present) xs) j (h .1)) in
           ((e, r .0), rw i (r .1))
       go rest false e =
           let j : dated n c present x p since ≡ set since x present = rw e in
@@ -81,8 +81,8 @@ module _ (n : Node) (c : Clock) (present : ℕ) where
           absurd (put-here present since x present (omega arith) (rw j at m))
 
 -- names that keep their clocks change nothing
-give-kept : (n : Node) (c : Clock) (xs : List ℕ) (p : Pass) → All (λ x. (isPort n x || hasClock (p .clocks) x c) ≡ true) xs → give n c xs p ≡ p
-unfolding All give
+give-kept : (n : Node) (c : Clock) (xs : List ℕ) (p : Pass) → EachOf (λ x. (isPort n x || hasClock (p .clocks) x c) ≡ true) xs → give n c xs p ≡ p
+unfolding EachOf give
 give-kept n c [] p h = refl
 give-kept n c (x ∷ xs) p h = rw (h .0) (give-kept n c xs p (h .1))
 
@@ -90,7 +90,7 @@ give-kept n c (x ∷ xs) p h = rw (h .0) (give-kept n c xs p (h .1))
 pub idle-step : (n : Node) (e : Equation) (p : Pass) → Idle n (p .clocks) e → stepped n e p ≡ formed p
 idle-step n e p h = ap (λ (v : Natural). v >>= λ o. formed (giveNatural n o (e .left) p)) (h .found) ∙ ap formed (go (h .clock) (h .keeps))
   where
-    go : (o : Option Clock) → Keeps n (p .clocks) o (e .left) → giveNatural n o (e .left) p ≡ p
+    go : (o : Option Clock) → KeepsClocks n (p .clocks) o (e .left) → giveNatural n o (e .left) p ≡ p
     go none k = refl
     go (some c) k = give-kept n c (e .left) p k
 
@@ -99,12 +99,12 @@ has-same : (clocks clocks′ : Clocks) (x : ℕ) (c : Clock) → clockOf clocks�
 has-same clocks clocks′ x c e = ap (λ (o : Option Clock). elim o [ none ↦ false | some d ↦ sameClock c d ]) e
 
 module _ (n : Node) (clocks clocks′ : Clocks) where
-  all-kept : (c : Clock) (xs : List ℕ) → All (Same clocks clocks′) xs → All (λ x. (isPort n x || hasClock clocks x c) ≡ true) xs → All (λ x. (isPort n x || hasClock clocks′ x c) ≡ true) xs
-  unfolding All
+  all-kept : (c : Clock) (xs : List ℕ) → EachOf (Same clocks clocks′) xs → EachOf (λ x. (isPort n x || hasClock clocks x c) ≡ true) xs → EachOf (λ x. (isPort n x || hasClock clocks′ x c) ≡ true) xs
+  unfolding EachOf
   all-kept c [] h k = tt
   all-kept c (x ∷ xs) h k = (ap (λ (b : Bool). isPort n x || b) (has-same clocks clocks′ x c (h .0)) ∙ k .0, all-kept c xs (h .1) (k .1))
 
-  keeps-same : (o : Option Clock) (xs : List ℕ) → All (Same clocks clocks′) xs → Keeps n clocks o xs → Keeps n clocks′ o xs
+  keeps-same : (o : Option Clock) (xs : List ℕ) → EachOf (Same clocks clocks′) xs → KeepsClocks n clocks o xs → KeepsClocks n clocks′ o xs
   keeps-same none xs h k = tt
   keeps-same (some c) xs h k = all-kept c xs h k
 

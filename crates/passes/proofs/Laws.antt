@@ -20,6 +20,7 @@ use Rattle.definitions.specs.Reading.{Got, got, times}
 use Rattle.definitions.specs.Grammar.{name, declaration, expr, equation}
 use Rattle.definitions.specs.Clock.{Clock, base}
 use Rattle.definitions.specs.InferClocks.{Natural, Formed, deep, formed, _>>=_, Clocks, clockOf, Pass, Inferred, natural, ports, isPort, hasClock, give, giveNatural, pass, passesFrom, inferred}
+use Rattle.clock.specs.declared.Natural as clock
 use Rattle.clock.specs.declared.Presence.{Presence}
 use Rattle.clock.specs.Value.{valueOf, naturalAt, naturalOf}
 use Rattle.environment.specs.Environment.{envAt, Agrees, Assigned, Cleared}
@@ -34,12 +35,10 @@ use Rattle.layout.specs.Spans.{pastIn, endOf, Spanned}
 use Rattle.layout.specs.Laid.{LaidEquation}
 use Rattle.layout.specs.declared.Span.{Span}
 use Rattle.layout.proofs.Laws.{laid-equation}
-use Rattle.natural.specs.declared.Found.{Found}
-use Rattle.natural.specs.Natural.{Finds}
 use Rattle.passes.specs.declared.Passing.{Passing}
 use Rattle.passes.specs.declared.Inference.{Inference}
-use Rattle.passes.specs.Passes.{Marked, Places, Stands, onClock, given, stepped, Infers}
-use Rattle.passes.specs.Settled.{endFrom, placeOf, Ended, named, Settled, Quiet, Calm, Calms, dated, dates, Moves, Turned, Gone}
+use Rattle.passes.specs.Passes.{Marked, PortsPlaced, PassSoFar, onClock, given, stepped, Infers}
+use Rattle.passes.specs.Settled.{endFrom, placeOf, Ended, named, Unchanged, Quiet, Calm, Calms, dated, dates, Moves, Turned, Gone}
 use Rattle.passes.proofs.Naming.{each-name}
 use Rattle.passes.proofs.Calm.{moves-none, moves-all, idle-step, calm-still, calm-idle, calm-free, calm-given}
 
@@ -86,7 +85,7 @@ shift true false u v w e = e
 shift false true u v w e = refl
 shift false false u v w e = e
 
-pub port-set : (t t′ p p′ : List ℕ) (x : ℕ) (c : Clock) → c ≡ base → Assigned t t′ x c → p′ ≡ set p x 1 → (m : ℕ) → 17 * m ≤ length t → m ≤ length p → x < m → Places m t′ p′ [] t p (x ∷ [])
+pub port-set : (t t′ p p′ : List ℕ) (x : ℕ) (c : Clock) → c ≡ base → Assigned t t′ x c → p′ ≡ set p x 1 → (m : ℕ) → 17 * m ≤ length t → m ≤ length p → x < m → PortsPlaced m t′ p′ [] t p (x ∷ [])
 port-set t t′ p p′ x c i a e m l k h = record { clocks = λ y u. clocks y (eqb y x) refl; marks = λ y u. marks y (eqb y x) refl }
   where
     clocks : (y : ℕ) (b : Bool) → eqb y x ≡ b → envAt t′ y ≡ choose (eqb y x || false) (some base) (envAt t y)
@@ -98,17 +97,17 @@ port-set t t′ p p′ x c i a e m l k h = record { clocks = λ y u. clocks y (e
     marks y false q = rw q (rw e (getD-set-other p x y 1 0 (eqb-false y x q)))
 
 -- no mark outside the table
-pub port-lost : (t t′ p : List ℕ) (x : ℕ) → length p ≤ x → (m : ℕ) → 17 * m ≤ length t → m ≤ length p → x < m → Places m t′ p [] t p (x ∷ [])
+pub port-lost : (t t′ p : List ℕ) (x : ℕ) → length p ≤ x → (m : ℕ) → 17 * m ≤ length t → m ≤ length p → x < m → PortsPlaced m t′ p [] t p (x ∷ [])
 port-lost t t′ p x h m l k u = absurd (omega arith)
 
 -- ---- a list of ports
 abbrev nameOf : Declared → ℕ
 nameOf d = d .name
 
-pub places-start : (m : ℕ) (t p l : List ℕ) → Places m t p l t p l
+pub places-start : (m : ℕ) (t p l : List ℕ) → PortsPlaced m t p l t p l
 places-start m t p l = record { clocks = λ x u. refl; marks = λ x u. refl }
 
-pub places-step : (m : ℕ) (t p t′ p′ t₀ p₀ rest l : List ℕ) (x : ℕ) → Places m t′ p′ [] t p (x ∷ []) → Places m t p (x ∷ rest) t₀ p₀ l → Places m t′ p′ rest t₀ p₀ l
+pub places-step : (m : ℕ) (t p t′ p′ t₀ p₀ rest l : List ℕ) (x : ℕ) → PortsPlaced m t′ p′ [] t p (x ∷ []) → PortsPlaced m t p (x ∷ rest) t₀ p₀ l → PortsPlaced m t′ p′ rest t₀ p₀ l
 places-step m t p t′ p′ t₀ p₀ rest l x a b =
     record {
       clocks = λ y u. shift (eqb y x) (among y rest) (some base) (envAt t′ y) (envAt t y) (a .clocks y u) ∙ b .clocks y u;
@@ -119,12 +118,12 @@ places-step m t p t′ p′ t₀ p₀ rest l x a b =
 pub record Placing (M : ℕ) (ts : List TagValue) (t p t₀ p₀ : List ℕ) (left place : ℕ) (l : List Declared) (q : ℕ) : Type 0 where
   pub rest : List Declared
   pub items : times left (declaration M) ts place ≡ got rest q
-  pub places : Places M t p (map nameOf rest) t₀ p₀ (map nameOf l)
+  pub places : PortsPlaced M t p (map nameOf rest) t₀ p₀ (map nameOf l)
 
 pub placing-start : (M : ℕ) (ts : List TagValue) (t p : List ℕ) (k at : ℕ) (l : List Declared) (q : ℕ) → times k (declaration M) ts at ≡ got l q → Placing M ts t p t p k at l q
 placing-start M ts t p k at l q g = record { rest = l; items = g; places = places-start M t p (map nameOf l) }
 
-pub placing-end : (M : ℕ) (ts : List TagValue) (t p t₀ p₀ : List ℕ) (left place : ℕ) (l : List Declared) (q : ℕ) → left ≡ 0 → Placing M ts t p t₀ p₀ left place l q → Places M t p [] t₀ p₀ (map nameOf l)
+pub placing-end : (M : ℕ) (ts : List TagValue) (t p t₀ p₀ : List ℕ) (left place : ℕ) (l : List Declared) (q : ℕ) → left ≡ 0 → Placing M ts t p t₀ p₀ left place l q → PortsPlaced M t p [] t₀ p₀ (map nameOf l)
 placing-end M ts t p t₀ p₀ left place l q z h =
     let n = times-nil (declaration M) ts left place (h .rest) q z (h .items) in
     let e : map nameOf (h .rest) ≡ [] = ap (map nameOf) (n .0) in
@@ -143,14 +142,14 @@ module _ (M : ℕ) (gs vs : List ℕ) (same-length : length vs ≡ length gs) wh
       (sym (v .0) ∙ sym e, omega arith)
 
   pub placing-step : (t p t′ p′ t₀ p₀ : List ℕ) (left place next : ℕ) (l : List Declared) (q : ℕ) (r : Read) (x : ℕ) → 0 < left → r ≡ outcome (declaration M (tokens gs vs) place) → r ≡ Read.Next next → x ≡ getD vs place 0 →
-      ((m : ℕ) → 17 * m ≤ length t → m ≤ length p → x < m → Places m t′ p′ [] t p (x ∷ [])) → 17 * M ≤ length t → M ≤ length p →
+      ((m : ℕ) → 17 * m ≤ length t → m ≤ length p → x < m → PortsPlaced m t′ p′ [] t p (x ∷ [])) → 17 * M ≤ length t → M ≤ length p →
       Placing M (tokens gs vs) t p t₀ p₀ left place l q → Placing M (tokens gs vs) t′ p′ t₀ p₀ (left - 1) next l q
   placing-step t p t′ p′ t₀ p₀ left place next l q r x z e b j s u v h =
       let k = times-cons (declaration M) (tokens gs vs) left place (h .rest) q (λ y. omega (arith, y)) (h .items) in
       let d = declared-name place (k .0) (k .1) (k .3) in
       let n : k .1 ≡ next = same _ (k .0) (k .1) r next (k .3) e b in
-      let w : Places M t p (k .0 .name ∷ map nameOf (k .2)) t₀ p₀ (map nameOf l) = rw (k .5) at (h .places) in
-      let y : Places M t′ p′ [] t p (k .0 .name ∷ []) = rw (j ∙ d .0) at (s M u v (rw (j ∙ d .0) (d .1))) in
+      let w : PortsPlaced M t p (k .0 .name ∷ map nameOf (k .2)) t₀ p₀ (map nameOf l) = rw (k .5) at (h .places) in
+      let y : PortsPlaced M t′ p′ [] t p (k .0 .name ∷ []) = rw (j ∙ d .0) at (s M u v (rw (j ∙ d .0) (d .1))) in
       record { rest = k .2; items = rw (sym n) (k .4); places = places-step M t p t′ p′ t₀ p₀ (map nameOf (k .2)) (map nameOf l) (k .0 .name) y w }
 
   -- no declaration is refused
@@ -171,22 +170,22 @@ or-right false b e = e
 or-none : (a b : Bool) → a ≡ false → b ≡ false → (a || b) ≡ false
 or-none a b e f = rw (e, f)
 
-module _ (t marks since : List ℕ) (present : ℕ) (n : Node) (m : ℕ) (k : Marked marks m (ports n)) (x : ℕ) (c : Clock) (l : x < m) (changed : Bool) (p : Pass) (s : Stands t m changed p) where
+module _ (t marks since : List ℕ) (present : ℕ) (n : Node) (m : ℕ) (k : Marked marks m (ports n)) (x : ℕ) (c : Clock) (l : x < m) (changed : Bool) (p : Pass) (s : PassSoFar t m changed p) where
   -- a name that keeps its clock
-  kept : (isPort n x || hasClock (p .clocks) x c) ≡ true → Stands t m changed (given n c x p) × (since ≡ dated n c present x p since)
+  kept : (isPort n x || hasClock (p .clocks) x c) ≡ true → PassSoFar t m changed (given n c x p) × (since ≡ dated n c present x p since)
   kept e = rw e (s, refl)
 
-  pub name-port : (b : Bool) → b ≡ eqb (getD marks x 0) 1 → b ≡ true → Stands t m changed (given n c x p) × (since ≡ dated n c present x p since)
+  pub name-port : (b : Bool) → b ≡ eqb (getD marks x 0) 1 → b ≡ true → PassSoFar t m changed (given n c x p) × (since ≡ dated n c present x p since)
   name-port b i j = kept (or-left (isPort n x) (hasClock (p .clocks) x c) (sym (k .same x l) ∙ (sym i ∙ j)))
 
   module _ (b : Bool) (i : b ≡ eqb (getD marks x 0) 1) (j : b ≡ false) (d : Bool) (u : d ≡ onClock (envAt t x) c) where
     on : d ≡ hasClock (p .clocks) x c
     on = u ∙ (ap (λ (o : Option Clock). onClock o c) (s .agrees .same x l) ∙ has-on (p .clocks) x c)
 
-    pub name-has : d ≡ true → Stands t m changed (given n c x p) × (since ≡ dated n c present x p since)
+    pub name-has : d ≡ true → PassSoFar t m changed (given n c x p) × (since ≡ dated n c present x p since)
     name-has v = kept (or-right (isPort n x) (hasClock (p .clocks) x c) (sym on ∙ v))
 
-    pub name-new : (t′ since′ : List ℕ) → d ≡ false → Assigned t t′ x c → since′ ≡ set since x present → Stands t′ m true (given n c x p) × (since′ ≡ dated n c present x p since)
+    pub name-new : (t′ since′ : List ℕ) → d ≡ false → Assigned t t′ x c → since′ ≡ set since x present → PassSoFar t′ m true (given n c x p) × (since′ ≡ dated n c present x p since)
     name-new t′ since′ v a e =
         rw (or-none (isPort n x) (hasClock (p .clocks) x c) (sym (k .same x l) ∙ (sym i ∙ j)) (sym on ∙ v))
         (record { agrees = agrees-assign t t′ m x c (p .clocks) l a (s .agrees); changes = refl }, e)
@@ -197,15 +196,15 @@ pub record Giving (M : ℕ) (ts : List TagValue) (n : Node) (c : Clock) (present
   pub rest : List ℕ
   pub pass : Pass
   pub items : times left (name M) ts place ≡ got rest q
-  pub stands : Stands t M made pass
+  pub stands : PassSoFar t M made pass
   pub final : give n c rest pass ≡ f
   pub changes : dates n c present rest pass since ≡ s
 
-pub giving-start : (M : ℕ) (ts : List TagValue) (n : Node) (c : Clock) (present : ℕ) (t since : List ℕ) (made : Bool) (k at q : ℕ) (xs : List ℕ) (p : Pass) → times k (name M) ts at ≡ got xs q → Stands t M made p →
+pub giving-start : (M : ℕ) (ts : List TagValue) (n : Node) (c : Clock) (present : ℕ) (t since : List ℕ) (made : Bool) (k at q : ℕ) (xs : List ℕ) (p : Pass) → times k (name M) ts at ≡ got xs q → PassSoFar t M made p →
     Giving M ts n c present t since made k at q (give n c xs p) (dates n c present xs p since)
 giving-start M ts n c present t since made k at q xs p g s = record { rest = xs; pass = p; items = g; stands = s; final = refl; changes = refl }
 
-pub giving-end : (M : ℕ) (ts : List TagValue) (n : Node) (c : Clock) (present : ℕ) (t since : List ℕ) (made : Bool) (left place q : ℕ) (f : Pass) (s : List ℕ) → left ≡ 0 → Giving M ts n c present t since made left place q f s → Stands t M made f × (since ≡ s)
+pub giving-end : (M : ℕ) (ts : List TagValue) (n : Node) (c : Clock) (present : ℕ) (t since : List ℕ) (made : Bool) (left place q : ℕ) (f : Pass) (s : List ℕ) → left ≡ 0 → Giving M ts n c present t since made left place q f s → PassSoFar t M made f × (since ≡ s)
 unfolding give dates
 giving-end M ts n c present t since made left place q f s z h =
     let e = times-nil (name M) ts left place (h .rest) q z (h .items) in
@@ -214,7 +213,7 @@ giving-end M ts n c present t since made left place q f s z h =
     (rw (sym i) (h .stands), j)
 
 pub giving-step : (M : ℕ) (gs vs : List ℕ) → length vs ≡ length gs → (n : Node) (c : Clock) (present : ℕ) (t t′ since since′ marks : List ℕ) (made made′ : Bool) (left place next q : ℕ) (f : Pass) (s : List ℕ) (x : ℕ) → 0 < left → next ≡ pastIn (length gs) place → Marked marks M (ports n) → x ≡ getD vs place 0 →
-    ((n : Node) (p : Pass) (m : ℕ) → Marked marks m (ports n) → x < m → Stands t m made p → Stands t′ m made′ (given n c x p) × (since′ ≡ dated n c present x p since)) →
+    ((n : Node) (p : Pass) (m : ℕ) → Marked marks m (ports n) → x < m → PassSoFar t m made p → PassSoFar t′ m made′ (given n c x p) × (since′ ≡ dated n c present x p since)) →
     Giving M (tokens gs vs) n c present t since made left place q f s → Giving M (tokens gs vs) n c present t′ since′ made′ (left - 1) next q f s
 unfolding give dates name
 giving-step M gs vs same-length n c present t t′ since since′ marks made made′ left place next q f s x z j m g o h =
@@ -224,7 +223,7 @@ giving-step M gs vs same-length n c present t t′ since since′ marks made mad
     let u : place < length gs = omega arith in
     let v = tagged-value gs vs same-length place 4 M (k .0) (k .1) u (k .3) in
     let e : next ≡ k .1 = j ∙ (ap (λ (b : Bool). choose b (place + 1) place) (lt-ltb place (length gs) u) ∙ sym (w .0)) in
-    let y : Stands t′ M made′ (given n c (k .0) (h .pass)) × (since′ ≡ dated n c present (k .0) (h .pass) since) = rw (v .0 ∙ sym g) (o n (h .pass) M m (rw (v .0 ∙ sym g) at (v .2)) (h .stands)) in
+    let y : PassSoFar t′ M made′ (given n c (k .0) (h .pass)) × (since′ ≡ dated n c present (k .0) (h .pass) since) = rw (v .0 ∙ sym g) (o n (h .pass) M m (rw (v .0 ∙ sym g) at (v .2)) (h .stands)) in
     let d : dates n c present (k .2) (given n c (k .0) (h .pass)) (dated n c present (k .0) (h .pass) since) ≡ s = rw (k .5) at (h .changes) in
     record { rest = k .2; pass = given n c (k .0) (h .pass); items = rw e (k .4); stands = y .0; final = rw (k .5) at (h .final); changes = rw (y .1) d }
 
@@ -242,14 +241,14 @@ module _ (t : ℕ) (a : t ≡ 4 → ⊥) (b : t ≡ 54 → ⊥) where
   pub tag-clock : 67 ≤ t → leb t 69 ≡ named t
   tag-clock l = rw (ne-eqb t 4 a, ne-eqb t 54 b, le-ltb t 67 l)
 
-pub quiet-start : (gs vs since : List ℕ) (made from : ℕ) → (i : ℕ) → from ≤ i → i < from → i < length gs → named (getD gs i 0) ≡ true → Settled since made (getD vs i 0)
+pub quiet-start : (gs vs since : List ℕ) (made from : ℕ) → (i : ℕ) → from ≤ i → i < from → i < length gs → named (getD gs i 0) ≡ true → Unchanged since made (getD vs i 0)
 quiet-start gs vs since made from i a b c d = absurd (omega arith)
 
-pub quiet-more : (gs vs since : List ℕ) (made from k : ℕ) → ((i : ℕ) → from ≤ i → i < k → i < length gs → named (getD gs i 0) ≡ true → Settled since made (getD vs i 0)) →
-    (named (getD gs k 0) ≡ true → Settled since made (getD vs k 0)) → (i : ℕ) → from ≤ i → i < k + 1 → i < length gs → named (getD gs i 0) ≡ true → Settled since made (getD vs i 0)
+pub quiet-more : (gs vs since : List ℕ) (made from k : ℕ) → ((i : ℕ) → from ≤ i → i < k → i < length gs → named (getD gs i 0) ≡ true → Unchanged since made (getD vs i 0)) →
+    (named (getD gs k 0) ≡ true → Unchanged since made (getD vs k 0)) → (i : ℕ) → from ≤ i → i < k + 1 → i < length gs → named (getD gs i 0) ≡ true → Unchanged since made (getD vs i 0)
 quiet-more gs vs since made from k h g i a b c d = go (eqb i k) refl
   where
-    go : (t : Bool) → eqb i k ≡ t → Settled since made (getD vs i 0)
+    go : (t : Bool) → eqb i k ≡ t → Unchanged since made (getD vs i 0)
     go true e = let j : i ≡ k = eqb-true i k e in rw j (g (rw j at d))
     go false e = h i a (omega (arith, eqb-false i k e)) c d
 
@@ -288,34 +287,34 @@ module _ (M : ℕ) (gs vs : List ℕ) (same-length : length vs ≡ length gs) (a
   pub lies : LaidEquation M (tokens gs vs) e q (record { left = l; right = l .end; end = endOf (outcome (expr M 32 (tokens gs vs) (l .end))) at })
   lies = laid-equation gs vs same-length M at l i _ (λ a u h. ap (λ (x : Got Expr). endOf (outcome x) at) h) e q g
 
-module _ (n : Node) (e : Equation) (p : Pass) (present : ℕ) (since : List ℕ) (f : Found) (q : ℕ) (h : Finds f (natural (p .clocks) (e .right)) q) where
-  step : (v : Natural) → naturalOf (f .natural) ≡ v → stepped n e p ≡ (v >>= λ o. formed (giveNatural n o (e .left) p))
-  step v i = ap (λ (w : Natural). w >>= λ o. formed (giveNatural n o (e .left) p)) (sym (h .clock) ∙ i)
+module _ (n : Node) (e : Equation) (p : Pass) (present : ℕ) (since : List ℕ) (f : clock.Natural) (h : naturalOf f ≡ natural (p .clocks) (e .right)) where
+  step : (v : Natural) → naturalOf f ≡ v → stepped n e p ≡ (v >>= λ o. formed (giveNatural n o (e .left) p))
+  step v i = ap (λ (w : Natural). w >>= λ o. formed (giveNatural n o (e .left) p)) (sym h ∙ i)
 
-  found : (k : Presence) → f .natural .presence ≡ k → naturalOf (f .natural) ≡ naturalAt k (valueOf (f .natural .clock))
-  found k i = ap (λ (z : Presence). naturalAt z (valueOf (f .natural .clock))) i
+  found : (k : Presence) → f .presence ≡ k → naturalOf f ≡ naturalAt k (valueOf (f .clock))
+  found k i = ap (λ (z : Presence). naturalAt z (valueOf (f .clock))) i
 
-  pub equation-free : (t : List ℕ) (m : ℕ) (changed : Bool) → f .natural .presence ≡ Presence.Free → Stands t m changed p → Turned n e present since since t m p (Passing.Made changed)
+  pub equation-free : (t : List ℕ) (m : ℕ) (changed : Bool) → f .presence ≡ Presence.Free → PassSoFar t m changed p → Turned n e present since since t m p (Passing.Made changed)
   unfolding Turned
-  equation-free t m changed i s = (p, step (formed none) (found Presence.Free i), s, moves-none present since (p .clocks), calm-free n e p present since (sym (h .clock) ∙ found Presence.Free i))
+  equation-free t m changed i s = (p, step (formed none) (found Presence.Free i), s, moves-none present since (p .clocks), calm-free n e p present since (sym h ∙ found Presence.Free i))
 
-  pub equation-on : (t since′ : List ℕ) (m : ℕ) (made : Bool) → f .natural .presence ≡ Presence.On →
-      Stands t m made (give n (valueOf (f .natural .clock)) (e .left) p) × (since′ ≡ dates n (valueOf (f .natural .clock)) present (e .left) p since) → Turned n e present since since′ t m p (Passing.Made made)
+  pub equation-on : (t since′ : List ℕ) (m : ℕ) (made : Bool) → f .presence ≡ Presence.On →
+      PassSoFar t m made (give n (valueOf (f .clock)) (e .left) p) × (since′ ≡ dates n (valueOf (f .clock)) present (e .left) p since) → Turned n e present since since′ t m p (Passing.Made made)
   unfolding Turned
   equation-on t since′ m made i s =
-      let c = valueOf (f .natural .clock) in
-      rw (s .1) (give n c (e .left) p, step (formed (some c)) (found Presence.On i), s .0, moves-all n c present (e .left) p since, calm-given n e p present since c (sym (h .clock) ∙ found Presence.On i))
+      let c = valueOf (f .clock) in
+      rw (s .1) (give n c (e .left) p, step (formed (some c)) (found Presence.On i), s .0, moves-all n c present (e .left) p since, calm-given n e p present since c (sym h ∙ found Presence.On i))
 
-  pub equation-deep : (t since′ : List ℕ) (m : ℕ) → f .natural .presence ≡ Presence.Deep → Turned n e present since since′ t m p Passing.Deep
+  pub equation-deep : (t since′ : List ℕ) (m : ℕ) → f .presence ≡ Presence.Deep → Turned n e present since since′ t m p Passing.Deep
   unfolding Turned
   equation-deep t since′ m i = step deep (found Presence.Deep i)
 
 -- ---- an equation that need not be read
-pub equation-calm : (M : ℕ) (gs vs since : List ℕ) → length vs ≡ length gs → (made present at end : ℕ) (t : List ℕ) (changed : Bool) → Quiet gs vs since made at end → (n : Node) (p : Pass) (e : Equation) → equation M (tokens gs vs) at ≡ got e end → Stands t M changed p → Calm n since made (p .clocks) e →
+pub equation-calm : (M : ℕ) (gs vs since : List ℕ) → length vs ≡ length gs → (made present at end : ℕ) (t : List ℕ) (changed : Bool) → Quiet gs vs since made at end → (n : Node) (p : Pass) (e : Equation) → equation M (tokens gs vs) at ≡ got e end → PassSoFar t M changed p → Calm n since made (p .clocks) e →
     Turned n e present since since t M p (Passing.Made changed)
 unfolding Turned
 equation-calm M gs vs since same-length made present at end t changed k n p e g s h =
-    let i = h .idle (k .later) (each-name M gs vs same-length (Settled since made) at e end g (k .settled)) in
+    let i = h .idle (k .later) (each-name M gs vs same-length (Unchanged since made) at e end g (k .settled)) in
     (p, idle-step n e p i, s, moves-none present since (p .clocks), calm-idle n since present (p .clocks) e i)
 
 -- ---- a pass
@@ -340,7 +339,7 @@ pub record Going (M : ℕ) (ts : List TagValue) (n : Node) (es : List Equation) 
   pub so-far : Pass
   pub here : place ≡ placeOf M ts at i
   pub items : times (count - i) (equation M) ts place ≡ got rest q
-  pub stands : Stands t M changed so-far
+  pub stands : PassSoFar t M changed so-far
   pub final : pass n rest so-far ≡ f
   pub ahead : Calms n since made (so-far .clocks) rest
   pub behind : (e : Equation) → List·Memᴰ e es → List·Memᴰ e rest ⊎ Calm n since (made + 1) (so-far .clocks) e
@@ -365,7 +364,7 @@ going-end M ts n es made at t since changed count i place q f z h =
 
 module _ (M : ℕ) (ts : List TagValue) (n : Node) (es : List Equation) (made at : ℕ) (t t′ since since′ marks ends : List ℕ) (changed : Bool) (count i place end q : ℕ) (f : Formed Pass) (r : Passing) (z : i < count) (m : Marked marks M (ports n)) (E : Ended M ts at count ends)
     (D : (e : Equation) (u : ℕ) → equation M ts place ≡ got e u → (i < 64 → getD ends i 0 ≡ endFrom M ts place) → end ≡ endFrom M ts place)
-    (T : (n : Node) (p : Pass) (e : Equation) → Marked marks M (ports n) → equation M ts place ≡ got e end → Stands t M changed p → Calm n since made (p .clocks) e → Turned n e (made + 1) since since′ t′ M p r)
+    (T : (n : Node) (p : Pass) (e : Equation) → Marked marks M (ports n) → equation M ts place ≡ got e end → PassSoFar t M changed p → Calm n since made (p .clocks) e → Turned n e (made + 1) since since′ t′ M p r)
     (h : Going M ts n es made at t since changed count i place q f) where
   -- the table says where the equation ends
   ends-there : end ≡ endFrom M ts place
@@ -471,7 +470,7 @@ module _ (M : ℕ) (ts : List TagValue) (n : Node) (t t′ since since′ marks 
   gone = P n (n .equations) q (h .clocks) m E g (h .agrees) (h .calms)
 
   module _ (b : Bool) (i : r ≡ Passing.Made b) where
-    made-one : (p : Pass) × (pass n (n .equations) (record { changed = false; clocks = h .clocks }) ≡ formed p) × Stands t′ M b p × Calms n since′ (made + 1) (p .clocks) (n .equations)
+    made-one : (p : Pass) × (pass n (n .equations) (record { changed = false; clocks = h .clocks }) ≡ formed p) × PassSoFar t′ M b p × Calms n since′ (made + 1) (p .clocks) (n .equations)
     unfolding Gone
     made-one = rw i at gone
 
@@ -494,7 +493,7 @@ module _ (M : ℕ) (ts : List TagValue) (n : Node) (t t′ since since′ marks 
       let x : pass n (n .equations) (record { changed = false; clocks = h .clocks }) ≡ deep = rw i at gone in
       sym one ∙ too-deep n (most - (made + 1)) made (h .clocks) x
 
--- "Passes stop after one without change or after equations + 1"
+-- "Passes stop after one without change, or after equations + 1."
 few : (n : Node) (k made : ℕ) (clocks : Clocks) (i : Inferred) → passesFrom n k made clocks ≡ formed i → i .passes ≤ made + k
 unfolding passesFrom
 few n zero made clocks i e = let j : made ≡ i .passes = cc in omega arith
@@ -541,7 +540,7 @@ unfolding clockOf
 on-base [] x = refl
 on-base (y ∷ l) x = rw (on-base l x, eqb-sym y x) (chosen-twice (eqb x y) (among x l) (some base) none)
 
-module _ (M : ℕ) (n : Node) (t t₀ p₀ t₁ p₁ t₂ p₂ : List ℕ) (room : 17 * M ≤ length t) (c : Cleared t t₀ M) (d : (x : ℕ) → x < M → getD p₀ x 0 ≡ 0) (a : Places M t₁ p₁ [] t₀ p₀ (map nameOf (n .inputs))) (b : Places M t₂ p₂ [] t₁ p₁ (map nameOf (n .outputs))) where
+module _ (M : ℕ) (n : Node) (t t₀ p₀ t₁ p₁ t₂ p₂ : List ℕ) (room : 17 * M ≤ length t) (c : Cleared t t₀ M) (d : (x : ℕ) → x < M → getD p₀ x 0 ≡ 0) (a : PortsPlaced M t₁ p₁ [] t₀ p₀ (map nameOf (n .inputs))) (b : PortsPlaced M t₂ p₂ [] t₁ p₁ (map nameOf (n .outputs))) where
   pub ports-marked : Marked p₂ M (ports n)
   ports-marked = record { same = λ x u. ap (λ (k : ℕ). eqb k 1) (number x u) ∙ (marked-one (among x (map nameOf (n .inputs)) || among x (map nameOf (n .outputs))) ∙ sym (among-append x (n .inputs) (n .outputs))) }
     where

@@ -27,7 +27,7 @@ use Rattle.operands.specs.declared.Role.{Role}
 use Rattle.operands.specs.Role.{roleOf, roleOfExpr, operandsOf}
 use Rattle.operands.specs.Spread.{tree, spread, later}
 use Rattle.operands.proofs.Laws.{name-place, reads, token-there, spread-nil, spread-cons, spread-grows, before-place, behind-place}
-use Rattle.passes.specs.Settled.{named, All, Each, Eaches, Names}
+use Rattle.passes.specs.Settled.{named, EachOf, Each, Eaches, Names}
 
 -- ---- the name in a first token
 -- a role's name is the value v of a token whose tag is that of a name
@@ -186,8 +186,8 @@ module _ (M : ℕ) (gs vs : List ℕ) (same-length : length vs ≡ length gs) wh
           )
 
     -- left names
-    each-left : (xs : List ℕ) (k p q : ℕ) → times k (name M) (tokens gs vs) p ≡ got xs q → (p ≤ q) × (Between p q → All P xs)
-    unfolding name All
+    each-left : (xs : List ℕ) (k p q : ℕ) → times k (name M) (tokens gs vs) p ≡ got xs q → (p ≤ q) × (Between p q → EachOf P xs)
+    unfolding name EachOf
     each-left [] zero p q g = let e = times-nil (name M) (tokens gs vs) zero p [] q refl g in (omega (arith, e .1), λ h. tt)
     each-left [] (suc k) p q g =
         let t = times-cons (name M) (tokens gs vs) (suc k) p [] q (λ z. omega (arith, z)) g in
@@ -218,8 +218,8 @@ module _ (M : ℕ) (gs vs : List ℕ) (same-length : length vs ≡ length gs) wh
 
 -- ---- what holds of each name
 module _ (P Q : ℕ → Type 0) (f : (x : ℕ) → P x → Q x) where
-  all-map : (xs : List ℕ) → All P xs → All Q xs
-  unfolding All
+  all-map : (xs : List ℕ) → EachOf P xs → EachOf Q xs
+  unfolding EachOf
   all-map [] h = tt
   all-map (x ∷ xs) h = (f x (h .0), all-map xs (h .1))
 

@@ -19,12 +19,12 @@ pub record Marked (t : List ℕ) (m : ℕ) (l : List ℕ) : Type 0 where
   pub same : (x : ℕ) → x < m → eqb (getD t x 0) 1 ≡ among x l
 
 -- once those of r are put on base and marked too, the tables are what t₀ and p₀ are with those of l on base and marked
-pub record Places (m : ℕ) (t p r t₀ p₀ l : List ℕ) : Type 0 where
+pub record PortsPlaced (m : ℕ) (t p r t₀ p₀ l : List ℕ) : Type 0 where
   pub clocks : (x : ℕ) → x < m → choose (among x r) (some base) (envAt t x) ≡ choose (among x l) (some base) (envAt t₀ x)
   pub marks : (x : ℕ) → x < m → choose (among x r) 1 (getD p x 0) ≡ choose (among x l) 1 (getD p₀ x 0)
 
 -- a pass so far
-pub record Stands (t : List ℕ) (m : ℕ) (changed : Bool) (p : Pass) : Type 0 where
+pub record PassSoFar (t : List ℕ) (m : ℕ) (changed : Bool) (p : Pass) : Type 0 where
   pub agrees : Agrees t m (p .clocks)
   pub changes : changed ≡ p .changed
 

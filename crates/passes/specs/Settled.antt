@@ -15,7 +15,7 @@ use Rattle.definitions.specs.InferClocks.{Formed, deep, formed, Clocks, clockOf
 use Rattle.grammar.specs.Outcome.{outcome}
 use Rattle.layout.specs.Spans.{endOf}
 use Rattle.passes.specs.declared.Passing.{Passing}
-use Rattle.passes.specs.Passes.{Stands, given, stepped}
+use Rattle.passes.specs.Passes.{PassSoFar, given, stepped}
 
 -- where the equation at p ends; p, where it is refused
 abbrev pub endFrom : ℕ → List TagValue → ℕ → ℕ
@@ -35,20 +35,20 @@ abbrev pub named : ℕ → Bool
 named tag = choose (eqb tag 4) true (choose (eqb tag 54) true (choose (ltb tag 67) false (leb tag 69)))
 
 -- the clock of x last changed in a pass before this one
-pub record Settled (since : List ℕ) (bound x : ℕ) : Type 0 where
+pub record Unchanged (since : List ℕ) (bound x : ℕ) : Type 0 where
   pub inside : x < length since
   pub earlier : getD since x 0 < bound
 
 -- passes were made, and the names in these tokens last changed before the last of them
 pub record Quiet (gs vs since : List ℕ) (made from to : ℕ) : Type 0 where
   pub later : 0 < made
-  pub settled : (i : ℕ) → from ≤ i → i < to → i < length gs → named (getD gs i 0) ≡ true → Settled since made (getD vs i 0)
+  pub settled : (i : ℕ) → from ≤ i → i < to → i < length gs → named (getD gs i 0) ≡ true → Unchanged since made (getD vs i 0)
 
 module _ (P : ℕ → Type 0) where
   -- P of each name of a list
-  unfoldable pub All : List ℕ → Type 0
-  All [] = Unit {0}
-  All (x ∷ xs) = P x × All xs
+  unfoldable pub EachOf : List ℕ → Type 0
+  EachOf [] = Unit {0}
+  EachOf (x ∷ xs) = P x × EachOf xs
 
   -- P of each name by which the natural clock of an expression goes
   unfoldable mutual
@@ -68,23 +68,23 @@ module _ (P : ℕ → Type 0) where
 
   -- P of each name by which an equation goes in a pass
   pub record Names (e : Equation) : Type 0 where
-    pub left : All (e .left)
+    pub left : EachOf (e .left)
     pub right : Each (e .right)
 
 -- these names take no other clock
-abbrev pub Keeps : Node → Clocks → Option Clock → List ℕ → Type 0
-Keeps n clocks none xs = Unit {0}
-Keeps n clocks (some c) xs = All (λ x. (isPort n x || hasClock clocks x c) ≡ true) xs
+abbrev pub KeepsClocks : Node → Clocks → Option Clock → List ℕ → Type 0
+KeepsClocks n clocks none xs = Unit {0}
+KeepsClocks n clocks (some c) xs = EachOf (λ x. (isPort n x || hasClock clocks x c) ≡ true) xs
 
 -- an equation that changes nothing
 pub record Idle (n : Node) (clocks : Clocks) (e : Equation) : Type 0 where
   pub clock : Option Clock
   pub found : natural clocks (e .right) ≡ formed clock
-  pub keeps : Keeps n clocks clock (e .left)
+  pub keeps : KeepsClocks n clocks clock (e .left)
 
 -- an equation that changes nothing, if its names are settled
 pub record Calm (n : Node) (since : List ℕ) (bound : ℕ) (clocks : Clocks) (e : Equation) : Type 0 where
-  pub idle : 0 < bound → Names (Settled since bound) e → Idle n clocks e
+  pub idle : 0 < bound → Names (Unchanged since bound) e → Idle n clocks e
 
 -- the same of all equations
 pub record Calms (n : Node) (since : List ℕ) (bound : ℕ) (clocks : Clocks) (es : List Equation) : Type 0 where
@@ -101,14 +101,14 @@ dates n c present (x ∷ xs) p since = dates n c present xs (given n c x p) (dat
 
 -- what is settled after a step of the pass `present` was so before it, and is on the same clock
 pub record Moves (present : ℕ) (since since′ : List ℕ) (clocks clocks′ : Clocks) : Type 0 where
-  pub same : (x b : ℕ) → b ≤ present → Settled since′ b x → Settled since b x × (clockOf clocks′ x ≡ clockOf clocks x)
+  pub same : (x b : ℕ) → b ≤ present → Unchanged since′ b x → Unchanged since b x × (clockOf clocks′ x ≡ clockOf clocks x)
 
 -- the code's answer for an equation in the pass `present`
 unfoldable pub Turned : Node → Equation → ℕ → List ℕ → List ℕ → List ℕ → ℕ → Pass → Passing → Type 0
 Turned n e present since since′ t m p Passing.Deep = stepped n e p ≡ deep
-Turned n e present since since′ t m p (Passing.Made b) = (p′ : Pass) × (stepped n e p ≡ formed p′) × Stands t m b p′ × Moves present since since′ (p .clocks) (p′ .clocks) × Calm n since′ present (p′ .clocks) e
+Turned n e present since since′ t m p (Passing.Made b) = (p′ : Pass) × (stepped n e p ≡ formed p′) × PassSoFar t m b p′ × Moves present since since′ (p .clocks) (p′ .clocks) × Calm n since′ present (p′ .clocks) e
 
 -- the code's answer for the pass `present`
 unfoldable pub Gone : Node → List Equation → ℕ → List ℕ → List ℕ → ℕ → Passing → Formed Pass → Type 0
 Gone n es present since′ t m Passing.Deep v = v ≡ deep
-Gone n es present since′ t m (Passing.Made b) v = (p : Pass) × (v ≡ formed p) × Stands t m b p × Calms n since′ present (p .clocks) es
+Gone n es present since′ t m (Passing.Made b) v = (p : Pass) × (v ≡ formed p) × PassSoFar t m b p × Calms n since′ present (p .clocks) es

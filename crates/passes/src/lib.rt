@@ -5,6 +5,7 @@
 // counts as changed.
 use clock::Clock;
 use clock::Presence;
+use definitions::MOST_NAMES;
 use grammar::Read;
 use layout::NodeLayout;
 ghost use mathlib.Core.Path.{_≡_};
@@ -21,9 +22,9 @@ ghost use Rattle.definitions.specs.InferClocks as rules;
 ghost use Rattle.definitions.specs.InferClocks.{Clocks, Pass, ports, give, passesFrom, inferred};
 ghost use Rattle.clock.specs.Value.{valueOf};
 ghost use Rattle.environment.specs.Environment.{envAt, Agrees};
-ghost use Rattle.layout.specs.Laid.{Laid};
-ghost use Rattle.passes.specs.Passes.{Marked, Places, Stands, onClock, given, Infers};
-ghost use Rattle.passes.specs.Settled.{endFrom, Ended, named, Settled, Quiet, Calm, Calms, dated, dates, Turned, Gone};
+ghost use Rattle.layout.specs.Laid.{LaidNode};
+ghost use Rattle.passes.specs.Passes.{Marked, PortsPlaced, PassSoFar, onClock, given, Infers};
+ghost use Rattle.passes.specs.Settled.{endFrom, Ended, named, Unchanged, Quiet, Calm, Calms, dated, dates, Turned, Gone};
 
 // A pass, or an equation in one: too deep a clock was formed, or whether something has changed so far.
 pub enum Passing {
@@ -54,7 +55,7 @@ fn clear(marks: &mut [u8], m: u32)
 
 // An input or output: on base, and marked.
 fn set_port(env: &mut [u32], marks: &mut [u8], x: u32)
-    ensures { λ r. ⌜ ((m : ℕ) → 17 * m ≤ length (now (env .entry)) → m ≤ length (now (marks .entry)) → x < m → Places m (now (env .exit)) (now (marks .exit)) [] (now (env .entry)) (now (marks .entry)) (x ∷ [])) ⌝ }
+    ensures { λ r. ⌜ ((m : ℕ) → 17 * m ≤ length (now (env .entry)) → m ≤ length (now (marks .entry)) → x < m → PortsPlaced m (now (env .exit)) (now (marks .exit)) [] (now (env .entry)) (now (marks .entry)) (x ∷ [])) ⌝ }
 {
     let b = clock::base();
     environment::assign(env, x, b);
@@ -76,7 +77,7 @@ fn set_ports(
     marks: &mut [u8],
 )
     requires { ⌜ length (now values) ≡ length (now tags) ⌝ }
-    ensures { λ r. ⌜ ((l : List Declared) (q : ℕ) → times count (declaration names) (tokens (now (tags .entry)) (now (values .entry))) at ≡ got l q → 17 * names ≤ length (now (env .entry)) → names ≤ length (now (marks .entry)) → Places names (now (env .exit)) (now (marks .exit)) [] (now (env .entry)) (now (marks .entry)) (map (λ d. d .name) l)) ⌝ }
+    ensures { λ r. ⌜ ((l : List Declared) (q : ℕ) → times count (declaration names) (tokens (now (tags .entry)) (now (values .entry))) at ≡ got l q → 17 * names ≤ length (now (env .entry)) → names ≤ length (now (marks .entry)) → PortsPlaced names (now (env .exit)) (now (marks .exit)) [] (now (env .entry)) (now (marks .entry)) (map (λ d. d .name) l)) ⌝ }
 {
     let mut left = count;
     let mut place = at;
@@ -97,7 +98,7 @@ fn set_ports(
 }
 
 // Is a name an input or output?
-pub fn is_port(marks: &[u8], x: u32) -> bool
+fn is_port(marks: &[u8], x: u32) -> bool
     ensures { λ r. ⌜ r ≡ eqb (getD (now (marks .entry)) x 0) 1 ⌝ }
 {
     let i = x as usize;
@@ -109,10 +110,10 @@ pub fn is_port(marks: &[u8], x: u32) -> bool
 }
 
 // Is a name on this clock?
-pub fn has_clock(env: &[u32], x: u32, c: Clock) -> bool
+fn has_clock(env: &[u32], x: u32, c: Clock) -> bool
     ensures { λ r. ⌜ r ≡ onClock (envAt (now (env .entry)) x) (valueOf c) ⌝ }
 {
-    let b = 17 * (x as usize);
+    let b = flat::WORDS * (x as usize);
     let w = flat::word_at(env, b);
     if w == 0 {
         return false;
@@ -141,7 +142,7 @@ fn give_name(
     c: Clock,
     changed: bool,
 ) -> bool
-    ensures { λ r. ⌜ ((n : Node) (p : Pass) (m : ℕ) → Marked (now (marks .entry)) m (ports n) → x < m → Stands (now (env .entry)) m changed p → Stands (now (env .exit)) m r (given n (valueOf c) x p) × (now (since .exit) ≡ dated n (valueOf c) present x p (now (since .entry)))) ⌝ }
+    ensures { λ r. ⌜ ((n : Node) (p : Pass) (m : ℕ) → Marked (now (marks .entry)) m (ports n) → x < m → PassSoFar (now (env .entry)) m changed p → PassSoFar (now (env .exit)) m r (given n (valueOf c) x p) × (now (since .exit) ≡ dated n (valueOf c) present x p (now (since .entry)))) ⌝ }
 {
     if is_port(marks, x) {
         return changed;
@@ -169,7 +170,7 @@ fn give_names(
     changed: bool,
 ) -> bool
     requires { ⌜ length (now values) ≡ length (now tags) ⌝ }
-    ensures { λ r. ⌜ ((n : Node) (p : Pass) (xs : List ℕ) (q : ℕ) → Marked (now (marks .entry)) names (ports n) → times count (name names) (tokens (now (tags .entry)) (now (values .entry))) at ≡ got xs q → Stands (now (env .entry)) names changed p → Stands (now (env .exit)) names r (give n (valueOf c) xs p) × (now (since .exit) ≡ dates n (valueOf c) present xs p (now (since .entry)))) ⌝ }
+    ensures { λ r. ⌜ ((n : Node) (p : Pass) (xs : List ℕ) (q : ℕ) → Marked (now (marks .entry)) names (ports n) → times count (name names) (tokens (now (tags .entry)) (now (values .entry))) at ≡ got xs q → PassSoFar (now (env .entry)) names changed p → PassSoFar (now (env .exit)) names r (give n (valueOf c) xs p) × (now (since .exit) ≡ dates n (valueOf c) present xs p (now (since .entry)))) ⌝ }
 {
     let mut made = changed;
     let mut left = count;
@@ -201,7 +202,7 @@ fn is_name(tag: u8) -> bool
 
 // Did a name's clock change in the last of the passes made, or in the one after it?
 fn is_recent(since: &[usize], x: u32, made: usize) -> bool
-    ensures { λ r. ⌜ (r ≡ false → Settled (now (since .entry)) made x) ⌝ }
+    ensures { λ r. ⌜ (r ≡ false → Unchanged (now (since .entry)) made x) ⌝ }
 {
     let i = x as usize;
     if since.len() <= i {
@@ -212,7 +213,7 @@ fn is_recent(since: &[usize], x: u32, made: usize) -> bool
 
 // Is a token one of a name whose clock changed so late?
 fn is_changed(since: &[usize], tag: u8, x: u32, made: usize) -> bool
-    ensures { λ r. ⌜ (r ≡ false → named tag ≡ true → Settled (now (since .entry)) made x) ⌝ }
+    ensures { λ r. ⌜ (r ≡ false → named tag ≡ true → Unchanged (now (since .entry)) made x) ⌝ }
 {
     if is_name(tag) {
         return is_recent(since, x, made);
@@ -266,12 +267,11 @@ fn read_equation(
     changed: bool,
 ) -> Passing
     requires { ⌜ length (now values) ≡ length (now tags) ⌝ }
-    ensures { λ r. ⌜ ((n : Node) (p : Pass) (e : Equation) (q : ℕ) → Marked (now (marks .entry)) names (ports n) → equation names (tokens (now (tags .entry)) (now (values .entry))) at ≡ got e q → Stands (now (env .entry)) names changed p → Turned n e present (now (since .entry)) (now (since .exit)) (now (env .exit)) names p r) ⌝ }
+    ensures { λ r. ⌜ ((n : Node) (p : Pass) (e : Equation) (q : ℕ) → Marked (now (marks .entry)) names (ports n) → equation names (tokens (now (tags .entry)) (now (values .entry))) at ≡ got e q → PassSoFar (now (env .entry)) names changed p → Turned n e present (now (since .entry)) (now (since .exit)) (now (env .exit)) names p r) ⌝ }
 {
     let left = layout::names_at(tags, values, names, at);
     let right = left.end;
-    let f = natural::natural_clock(tags, values, names, env, right);
-    let n = f.natural;
+    let n = natural::natural_clock(tags, values, names, env, right);
     let p = n.presence;
     match p {
         Presence::Free => Passing::Made(changed),
@@ -313,7 +313,7 @@ fn one_equation(
     changed: bool,
 ) -> Passing
     requires { ⌜ length (now values) ≡ length (now tags) ⌝ }
-    ensures { λ r. ⌜ ((n : Node) (p : Pass) (e : Equation) → Marked (now (marks .entry)) names (ports n) → equation names (tokens (now (tags .entry)) (now (values .entry))) at ≡ got e end → Stands (now (env .entry)) names changed p → Calm n (now (since .entry)) made (p .clocks) e → Turned n e present (now (since .entry)) (now (since .exit)) (now (env .exit)) names p r) ⌝ }
+    ensures { λ r. ⌜ ((n : Node) (p : Pass) (e : Equation) → Marked (now (marks .entry)) names (ports n) → equation names (tokens (now (tags .entry)) (now (values .entry))) at ≡ got e end → PassSoFar (now (env .entry)) names changed p → Calm n (now (since .entry)) made (p .clocks) e → Turned n e present (now (since .entry)) (now (since .exit)) (now (env .exit)) names p r) ⌝ }
 {
     if touched(tags, values, since, made, at, end) {
         return read_equation(tags, values, names, at, env, marks, since, present, changed);
@@ -460,7 +460,7 @@ fn all_passes(
     ensures { λ r. ⌜ ((n : Node) (q : ℕ) (clocks : Clocks) → Marked (now (marks .entry)) names (ports n) → times count (equation names) (tokens (now (tags .entry)) (now (values .entry))) at ≡ got (n .equations) q → Agrees (now (env .entry)) names clocks → Infers (now (env .exit)) names r (passesFrom n (suc count) 0 clocks)) ⌝ }
 {
     let ends = equation_ends(tags, values, names, count, at);
-    let mut since = [0usize; 1024];
+    let mut since = [0usize; MOST_NAMES];
     repeat_passes(
         tags,
         values,
@@ -484,7 +484,7 @@ pub fn infer(
     marks: &mut [u8],
 ) -> Inference
     requires { ⌜ length (now values) ≡ length (now tags) ⌝ }
-    ensures { λ r. ⌜ ((n : Node) (q : ℕ) → Laid names (tokens (now (tags .entry)) (now (values .entry))) n q l → 17 * names ≤ length (now (env .entry)) → names ≤ length (now (marks .entry)) → Marked (now (marks .exit)) names (ports n) × Infers (now (env .exit)) names r (inferred n)) ⌝ }
+    ensures { λ r. ⌜ ((n : Node) (q : ℕ) → LaidNode names (tokens (now (tags .entry)) (now (values .entry))) n q l → 17 * names ≤ length (now (env .entry)) → names ≤ length (now (marks .entry)) → Marked (now (marks .exit)) names (ports n) × Infers (now (env .exit)) names r (inferred n)) ⌝ }
 {
     environment::clear(env, names);
     clear(marks, names);

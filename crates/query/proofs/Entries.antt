@@ -24,7 +24,7 @@ use Rattle.definitions.specs.Answer.{nodeClocks}
 use Rattle.listing.specs.declared.Told.{Told}
 use Rattle.listing.proofs.Laws.{clocked-cons, clocked-many, picked-length, node-clocked}
 use Rattle.query.specs.declared.NodeCounts.{NodeCounts}
-use Rattle.query.specs.Standing.{Clocked as Told′}
+use Rattle.query.specs.Standing.{NodeWithClocks}
 use Rattle.environment.specs.Environment.{Agrees}
 use Rattle.operands.specs.Spread.{tree}
 use Rattle.layout.specs.declared.EquationLayout.{EquationLayout}
@@ -256,7 +256,7 @@ counts-same : (a a′ b b′ c c′ d d′ e e′ : ℕ) → a ≡ a′ → b �
     → _≡_ {A = NodeCounts} (record { name = a; passes = b; equations = c; chains = d; faults = e }) (record { name = a′; passes = b′; equations = c′; chains = d′; faults = e′ })
 counts-same a a′ b b′ c c′ d d′ e e′ p q r s t = rw (p, q, r, s, t)
 
-module _ (letters : ℕ → Letters) (ts : List TagValue) (env t : List ℕ) (told : Told) (n : ClockedNode) (z : Told′ (told .names) ts env t (told .number) told n) where
+module _ (letters : ℕ → Letters) (ts : List TagValue) (env t : List ℕ) (told : Told) (n : ClockedNode) (z : NodeWithClocks (told .names) ts env t (told .number) told n) where
   pub node-written : (es cs fs es′ cs′ fs′ : List ℕ) (node equations m f : ℕ) → told .number < 16 → (told .number < 4294967296 → node ≡ told .number) → equations ≡ told .layout .equations .count
       → ((clocks : Clocks) (l : List Equation) (q : ℕ) (ks : List Clocked) → Agrees env (told .names) clocks → times (told .layout .equations .count) (equation (told .names)) ts (told .layout .equations .at) ≡ got l q → clockedBy clocks l ≡ formed ks → es′ ≡ clocksOver (map (λ (c : Clocked). c .clock) ks) es)
       → m ≡ length (chains letters (findingsIn t (told .findings))) → cs′ ≡ clocksOver (chains letters (findingsIn t (told .findings))) cs

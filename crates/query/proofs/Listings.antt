@@ -16,7 +16,7 @@ use Rattle.definitions.specs.Output.{ClockedNode}
 use Rattle.definitions.specs.Answer.{clockings, nodeListing}
 use Rattle.grammar.proofs.Got.{times-nil, times-cons}
 use Rattle.layout.specs.declared.NodeLayout.{NodeLayout}
-use Rattle.layout.specs.Laid.{Laid}
+use Rattle.layout.specs.Laid.{LaidNode}
 use Rattle.definitions.specs.declared.Refusal.{Refusal}
 use Rattle.query.specs.declared.NodeAnswer.{NodeAnswer}
 use Rattle.query.specs.declared.Measured.{Measured}
@@ -24,7 +24,7 @@ use Rattle.listing.specs.declared.Told.{Told}
 use Rattle.spelling.specs.Writing.{overAt, Put, farthest}
 use Rattle.spelling.proofs.Writing.{put-over, put-measure, over-past, over-then, over-nothing}
 use Rattle.texts.proofs.Pieces.{numbered-last}
-use Rattle.query.specs.Standing.{Roomy, Ample, Clocked as Told′, ClockedAs}
+use Rattle.query.specs.Standing.{Roomy, Ample, NodeWithClocks, ClockedAs}
 use Rattle.query.specs.Sizes.{Measures}
 use Rattle.query.specs.Words.{PutText}
 use Rattle.query.proofs.Nodes.{cons-clocked, none-clocked, all-left, node-formed, node-deep}
@@ -61,7 +61,7 @@ module _ (M : ℕ) (ts : List TagValue) (env t : List ℕ) (k : ℕ) (n : Node) 
   unfolding ClockedAs
   clocked-turned r e = let x : ClockedAs M ts env t k n (NodeAnswer.Refused r) = rw e at h in x
 
-  pub clocked-as : (told : Told) → a ≡ NodeAnswer.Node told → (c : Clocking) × (clocking n ≡ formed c) × Told′ M ts env t k told (record { node = n; clocking = c })
+  pub clocked-as : (told : Told) → a ≡ NodeAnswer.Node told → (c : Clocking) × (clocking n ≡ formed c) × NodeWithClocks M ts env t k told (record { node = n; clocking = c })
   unfolding ClockedAs
   clocked-as told e = let x : ClockedAs M ts env t k n (NodeAnswer.Node told) = rw e at h in x
 
@@ -71,15 +71,15 @@ module _ (M : ℕ) (ts : List TagValue) (env t : List ℕ) (k : ℕ) (n : Node) 
         let y : deep ≡ formed c = sym (clocked-turned r e .0) ∙ f in
         let z : _≡_ {A = ℕ} 0 1 = cc in omega arith
 
-    pub clocked-told : (told : Told) → a ≡ NodeAnswer.Node told → Told′ M ts env t k told (record { node = n; clocking = c })
+    pub clocked-told : (told : Told) → a ≡ NodeAnswer.Node told → NodeWithClocks M ts env t k told (record { node = n; clocking = c })
     clocked-told told e =
         let x = clocked-as told e in
         let s : x .0 ≡ c = let y : formed (x .0) ≡ formed c = sym (x .1) ∙ f in cc in
         rw s at (x .2)
 
 -- by the number that the node was told under
-pub told-own : (M : ℕ) (ts : List TagValue) (env t : List ℕ) (k : ℕ) (told : Told) (n : ClockedNode) → Told′ M ts env t k told n → Told′ (told .names) ts env t (told .number) told n
-told-own M ts env t k told n z = subst (λ (x : ℕ). Told′ x ts env t (told .number) told n) (sym (z .names)) (subst (λ (y : ℕ). Told′ M ts env t y told n) (sym (z .number)) z)
+pub told-own : (M : ℕ) (ts : List TagValue) (env t : List ℕ) (k : ℕ) (told : Told) (n : ClockedNode) → NodeWithClocks M ts env t k told n → NodeWithClocks (told .names) ts env t (told .number) told n
+told-own M ts env t k told n z = subst (λ (x : ℕ). NodeWithClocks x ts env t (told .number) told n) (sym (z .names)) (subst (λ (y : ℕ). NodeWithClocks M ts env t y told n) (sym (z .number)) z)
 
 -- the listing of the same node
 pub same-number : (letters : ℕ → Letters) (n : ClockedNode) (number i at : ℕ) (lent : List ℕ) (size : ℕ) (after : List ℕ) → number ≡ i → PutText (nodeListing letters number n) at lent size after → PutText (nodeListing letters i n) at lent size after
@@ -117,8 +117,8 @@ module _ (M : ℕ) (ts : List TagValue) (letters : ℕ → Letters) (lent : List
       let k : count - 0 ≡ count = omega arith in
       record { end = q; rest = ns; later = l; so-far = []; items = rw k g; clocked = h; put = record { long = refl; bytes = sym (over-nothing 0 lent) }; whole = refl }
 
-  pub listed-more : (n i place at size next : ℕ) (now after : List ℕ) (all : Letters) (l : NodeLayout) → i < n → ((x : Node) (q : ℕ) → node M ts place ≡ got x q → Laid M ts x q l)
-      → ((x : Node) (q : ℕ) (k : Clocking) → Laid M ts x q l → clocking x ≡ formed k → PutText (nodeListing letters i (record { node = x; clocking = k })) at now size after) → next ≡ at + size
+  pub listed-more : (n i place at size next : ℕ) (now after : List ℕ) (all : Letters) (l : NodeLayout) → i < n → ((x : Node) (q : ℕ) → node M ts place ≡ got x q → LaidNode M ts x q l)
+      → ((x : Node) (q : ℕ) (k : Clocking) → LaidNode M ts x q l → clocking x ≡ formed k → PutText (nodeListing letters i (record { node = x; clocking = k })) at now size after) → next ≡ at + size
       → Listed M ts letters (n - i) i place lent at now all → Listed M ts letters (n - (i + 1)) (i + 1) (l .end) lent next after all
   listed-more n i place at size next now after all l z L P e h =
       let c = times-cons (node M) ts (n - i) place (h .rest) (h .end) (λ y. omega (arith, y)) (h .items) in
@@ -166,16 +166,16 @@ module _ (M : ℕ) (ts : List TagValue) (letters : ℕ → Letters) where
       let k : n - 0 ≡ n = omega arith in
       record { rest = ns; so-far = []; items = rw k g; many = refl; whole = all-left (clockings 0 ns); long = refl }
 
-  module _ (n i place q at : ℕ) (v : Answer (List ClockedNode)) (l : NodeLayout) (z : i < n) (L : (x : Node) (q : ℕ) → node M ts place ≡ got x q → Laid M ts x q l) (h : Sizing M ts letters (n - i) i place q at v) where
+  module _ (n i place q at : ℕ) (v : Answer (List ClockedNode)) (l : NodeLayout) (z : i < n) (L : (x : Node) (q : ℕ) → node M ts place ≡ got x q → LaidNode M ts x q l) (h : Sizing M ts letters (n - i) i place q at v) where
     -- the node that stands there
-    pub sizing-here : (x : Node) × (s : ℕ) × (xs : List Node) × Laid M ts x s l × (times (n - (i + 1)) (node M) ts (l .end) ≡ got xs q) × (h .rest ≡ x ∷ xs)
+    pub sizing-here : (x : Node) × (s : ℕ) × (xs : List Node) × LaidNode M ts x s l × (times (n - (i + 1)) (node M) ts (l .end) ≡ got xs q) × (h .rest ≡ x ∷ xs)
     sizing-here =
         let c = times-cons (node M) ts (n - i) place (h .rest) q (λ y. omega (arith, y)) (h .items) in
         let d = L (c .0) (c .1) (c .3) in
         let w : n - (i + 1) ≡ n - i - 1 = omega arith in
         (c .0, c .1, c .2, d, rw (d .ends, w) (c .4), c .5)
 
-    module _ (k : ℕ) (e : k ≡ i) (env t : List ℕ) (a : NodeAnswer) (C : (x : Node) (s : ℕ) → Laid M ts x s l → ClockedAs M ts env t k x a) where
+    module _ (k : ℕ) (e : k ≡ i) (env t : List ℕ) (a : NodeAnswer) (C : (x : Node) (s : ℕ) → LaidNode M ts x s l → ClockedAs M ts env t k x a) where
       here-clocked : ClockedAs M ts env t k (sizing-here .0) a
       here-clocked = C (sizing-here .0) (sizing-here .1) (sizing-here .3)
 
@@ -185,7 +185,7 @@ module _ (M : ℕ) (ts : List TagValue) (letters : ℕ → Letters) where
           let w : clockings i (h .rest) ≡ refused (Refusal.Deep i) = ap (clockings i) (sizing-here .5) ∙ node-deep i (sizing-here .0) (sizing-here .2) (d .0) in
           h .whole ∙ (ap (λ (y : Answer (List ClockedNode)). y >>= λ l. accepted (h .so-far ++ l)) w ∙ ap (λ (j : ℕ). refused (Refusal.Deep j)) (sym e))
 
-      pub sizing-more : (told : Told) (size next : ℕ) → a ≡ NodeAnswer.Node told → ((y : ClockedNode) → Told′ (told .names) ts env t (told .number) told y → size ≡ length (nodeListing letters (told .number) y)) → next ≡ at + size
+      pub sizing-more : (told : Told) (size next : ℕ) → a ≡ NodeAnswer.Node told → ((y : ClockedNode) → NodeWithClocks (told .names) ts env t (told .number) told y → size ≡ length (nodeListing letters (told .number) y)) → next ≡ at + size
           → Sizing M ts letters (n - (i + 1)) (i + 1) (l .end) q next v
       sizing-more told size next u S j =
           let d = clocked-as M ts env t k (sizing-here .0) a here-clocked told u in

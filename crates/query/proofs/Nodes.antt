@@ -16,11 +16,11 @@ use Rattle.definitions.specs.InferClocks.{Formed, deep, formed, Clocking, clock
 use Rattle.definitions.specs.Output.{ClockedNode}
 use Rattle.definitions.specs.Answer.{Input, clockings, itemAt, nodeAt}
 use Rattle.layout.specs.declared.NodeLayout.{NodeLayout}
-use Rattle.layout.specs.Laid.{Laid, Places}
+use Rattle.layout.specs.Laid.{LaidNode, Places}
 use Rattle.layout.proofs.Laws.{at-item}
 use Rattle.infer_clocks.specs.declared.NodeClocked.{NodeClocked}
 use Rattle.infer_clocks.specs.declared.Deepest.{Deepest}
-use Rattle.infer_clocks.specs.Clocked.{Clocked as Clocks′, Deeply}
+use Rattle.infer_clocks.specs.Clocked.{ClockedOrDeep, Deeply}
 use Rattle.query.specs.declared.NodePlace.{NodePlace}
 use Rattle.query.specs.declared.NodeAnswer.{NodeAnswer}
 use Rattle.query.specs.Standing.{Located, ClockedAs, NodeTold}
@@ -142,8 +142,8 @@ module _ (M : ℕ) (ts : List TagValue) (env t : List ℕ) (r : Input) (k : ℕ)
         let x : Deeply (Deepest.At i) (clockings 0 (r .sheet .nodes)) = rw j at h in
         rw (g .2, x, u)
 
-    module _ (j : d ≡ Deepest.Nowhere) (l : NodeLayout) (L : (n : Node) (q : ℕ) → node M ts p ≡ got n q → Laid M ts n q l) where
-      pub told-node : (a : NodeAnswer) → ((n : Node) (q : ℕ) → Laid M ts n q l → ClockedAs M ts env t k n a) → NodeTold M ts env t k a (nodeAt r k)
+    module _ (j : d ≡ Deepest.Nowhere) (l : NodeLayout) (L : (n : Node) (q : ℕ) → node M ts p ≡ got n q → LaidNode M ts n q l) where
+      pub told-node : (a : NodeAnswer) → ((n : Node) (q : ℕ) → LaidNode M ts n q l → ClockedAs M ts env t k n a) → NodeTold M ts env t k a (nodeAt r k)
       unfolding Located NodeTold Deeply ClockedAs
       told-node a C =
           let g : Located M ts (r .sheet .nodes) k (NodePlace.At p) = rw e at f in
@@ -172,13 +172,13 @@ module _ (n w : ℕ) (l : List ℕ) (e : n ≡ min w 1024) (f : length l ≡ 102
   part-enough M g h = omega (arith, part-long)
 
 -- ---- a node clocked
-module _ (M : ℕ) (ts : List TagValue) (env t : List ℕ) (k : ℕ) (n : Node) (r : NodeClocked) (h : Clocks′ env t M r (clocking n)) where
+module _ (M : ℕ) (ts : List TagValue) (env t : List ℕ) (k : ℕ) (n : Node) (r : NodeClocked) (h : ClockedOrDeep env t M r (clocking n)) where
   pub clocked-deep : r ≡ NodeClocked.Deep → ClockedAs M ts env t k n (NodeAnswer.Refused (Refusal.Deep k))
-  unfolding Clocks′ ClockedAs
-  clocked-deep e = let x : Clocks′ env t M NodeClocked.Deep (clocking n) = rw e at h in (x, refl)
+  unfolding ClockedOrDeep ClockedAs
+  clocked-deep e = let x : ClockedOrDeep env t M NodeClocked.Deep (clocking n) = rw e at h in (x, refl)
 
-  pub clocked-node : (q : ℕ) (l : NodeLayout) (passes m : ℕ) → r ≡ NodeClocked.Clocked passes m → Laid M ts n q l → ClockedAs M ts env t k n (NodeAnswer.Node (record { layout = l; number = k; names = M; passes = passes; findings = m }))
-  unfolding Clocks′ ClockedAs
+  pub clocked-node : (q : ℕ) (l : NodeLayout) (passes m : ℕ) → r ≡ NodeClocked.Clocked passes m → LaidNode M ts n q l → ClockedAs M ts env t k n (NodeAnswer.Node (record { layout = l; number = k; names = M; passes = passes; findings = m }))
+  unfolding ClockedOrDeep ClockedAs
   clocked-node q l passes m e d =
-      let x : Clocks′ env t M (NodeClocked.Clocked passes m) (clocking n) = rw e at h in
+      let x : ClockedOrDeep env t M (NodeClocked.Clocked passes m) (clocking n) = rw e at h in
       (x .0, x .1, record { end = q; laid = d; formed = x .1; tells = x .2; number = refl; names = refl })

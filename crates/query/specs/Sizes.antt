@@ -17,7 +17,7 @@ use Rattle.query.specs.declared.NodeSize.{NodeSize}
 use Rattle.query.specs.declared.Measured.{Measured}
 
 -- a clocked node's chains stand in these rows, and its listing is so long
-pub record Sized (letters : ℕ → Letters) (t rows chain : List ℕ) (told : Told) (n : ClockedNode) (r : NodeSize) : Type 0 where
+pub record SizedListing (letters : ℕ → Letters) (t rows chain : List ℕ) (told : Told) (n : ClockedNode) (r : NodeSize) : Type 0 where
   pub ordered : picked (rowOf rows) chain 0 (r .chains) ≡ chains letters (findingsIn t (told .findings))
   pub long : r .listing ≡ length (nodeListing letters (told .number) n)
 

@@ -14,8 +14,8 @@ use Rattle.definitions.specs.InferClocks.{deep, formed, Clocking, clocking}
 use Rattle.definitions.specs.Output.{lettersOf, ClockedNode}
 use Rattle.definitions.specs.Answer.{Input, itemAt}
 use Rattle.fresh.specs.Places.{lettersAt}
-use Rattle.layout.specs.Laid.{Laid}
-use Rattle.infer_clocks.specs.Clocked.{Tells}
+use Rattle.layout.specs.Laid.{LaidNode}
+use Rattle.infer_clocks.specs.Clocked.{ClocksStand}
 use Rattle.listing.specs.declared.Told.{Told}
 use Rattle.query.specs.declared.NodePlace.{NodePlace}
 use Rattle.query.specs.declared.NodeAnswer.{NodeAnswer}
@@ -46,20 +46,20 @@ Located M ts ns k NodePlace.Missing = itemAt ns k ≡ refused Refusal.Missing
 Located M ts ns k (NodePlace.At p) = (n : Node) × (q : ℕ) × (itemAt ns k ≡ accepted n) × (node M ts p ≡ got n q) × (k < 16)
 
 -- node k laid out, with its clocks in the working tables
-pub record Clocked (M : ℕ) (ts : List TagValue) (env t : List ℕ) (k : ℕ) (told : Told) (n : ClockedNode) : Type 0 where
+pub record NodeWithClocks (M : ℕ) (ts : List TagValue) (env t : List ℕ) (k : ℕ) (told : Told) (n : ClockedNode) : Type 0 where
   pub end : ℕ
-  pub laid : Laid M ts (n .node) end (told .layout)
+  pub laid : LaidNode M ts (n .node) end (told .layout)
   pub formed : clocking (n .node) ≡ formed (n .clocking)
-  pub tells : Tells env t M (told .passes) (told .findings) (n .clocking)
+  pub tells : ClocksStand env t M (told .passes) (told .findings) (n .clocking)
   pub number : told .number ≡ k
   pub names : told .names ≡ M
 
 -- node k, which is n, with its clocks, or 9
 unfoldable pub ClockedAs : ℕ → List TagValue → List ℕ → List ℕ → ℕ → Node → NodeAnswer → Type 0
 ClockedAs M ts env t k n (NodeAnswer.Refused r) = (clocking n ≡ deep) × (r ≡ Refusal.Deep k)
-ClockedAs M ts env t k n (NodeAnswer.Node told) = (c : Clocking) × (clocking n ≡ formed c) × Clocked M ts env t k told (record { node = n; clocking = c })
+ClockedAs M ts env t k n (NodeAnswer.Node told) = (c : Clocking) × (clocking n ≡ formed c) × NodeWithClocks M ts env t k told (record { node = n; clocking = c })
 
 -- node k with its clocks, or 8 or 9
 unfoldable pub NodeTold : ℕ → List TagValue → List ℕ → List ℕ → ℕ → NodeAnswer → Answer ClockedNode → Type 0
 NodeTold M ts env t k (NodeAnswer.Refused r) v = v ≡ refused r
-NodeTold M ts env t k (NodeAnswer.Node told) v = (n : ClockedNode) × (v ≡ accepted n) × Clocked M ts env t k told n × (k < 16)
+NodeTold M ts env t k (NodeAnswer.Node told) v = (n : ClockedNode) × (v ≡ accepted n) × NodeWithClocks M ts env t k told n × (k < 16)

@@ -1,6 +1,10 @@
 // What the questions on a sheet's nodes are answered from, over the working tables: a node found and clocked, its clocks and faults
 // as words, the listings of all nodes. `tags` and `values` are as long as each other; `names` is the number of names.
 use clock::Clock;
+use definitions::CLOCK_TABLE;
+use definitions::FINDING_TABLE;
+use definitions::MOST_NAMES;
+use definitions::MOST_NODES;
 use definitions::Refusal;
 use infer_clocks::Deepest;
 use infer_clocks::NodeClocked;
@@ -27,10 +31,10 @@ ghost use Rattle.findings.specs.Findings.{findingsIn};
 ghost use Rattle.fresh.specs.Places.{lettersAt};
 ghost use Rattle.order.specs.Order.{rowOf, picked};
 ghost use Rattle.spelling.specs.Writing.{overAt, farthest};
-ghost use Rattle.layout.specs.Laid.{Laid};
+ghost use Rattle.layout.specs.Laid.{LaidNode};
 ghost use Rattle.infer_clocks.specs.Clocked.{Deeply};
-ghost use Rattle.query.specs.Standing.{Roomy, Ample, Located, Clocked as Told′, ClockedAs, NodeTold};
-ghost use Rattle.query.specs.Sizes.{Sized, sizeOf, Measures};
+ghost use Rattle.query.specs.Standing.{Roomy, Ample, Located, NodeWithClocks, ClockedAs, NodeTold};
+ghost use Rattle.query.specs.Sizes.{SizedListing, sizeOf, Measures};
 ghost use Rattle.query.specs.Words.{clockWords, clocksOver, faultsOver, Written, PutText};
 
 // Where a node stands.
@@ -83,7 +87,7 @@ pub fn node_place(tags: &[u8], values: &[u32], names: u32, k: usize) -> NodePlac
     if n <= k {
         return NodePlace::Missing;
     }
-    if 16 < n {
+    if MOST_NODES < n {
         return NodePlace::Missing;
     }
     let places = layout::node_places(tags, values, names, n, nodes.at);
@@ -91,7 +95,7 @@ pub fn node_place(tags: &[u8], values: &[u32], names: u32, k: usize) -> NodePlac
 }
 
 // The first node in which too deep a clock is formed.
-pub fn first_deep(
+fn first_deep(
     tags: &[u8],
     values: &[u32],
     names: u32,
@@ -103,8 +107,8 @@ pub fn first_deep(
 {
     let whole = layout::sheet_at(tags, values, names);
     let nodes = whole.nodes;
-    let mut marks = [0u8; 1024];
-    let mut ports = [0u32; 1024];
+    let mut marks = [0u8; MOST_NAMES];
+    let mut ports = [0u32; MOST_NAMES];
     infer_clocks::first_deep(
         tags,
         values,
@@ -123,8 +127,8 @@ pub fn deep_node(tags: &[u8], values: &[u32], names: u32) -> Deepest
     requires { ⌜ length (now values) ≡ length (now tags) ⌝ }
     ensures { λ r. ⌜ ((s : Sheet) (q : ℕ) → sheet names (tokens (now (tags .entry)) (now (values .entry))) 0 ≡ got s q → names ≤ 1024 → length (now (tags .entry)) ≤ 4096 → Deeply r (clockings 0 (s .nodes))) ⌝ }
 {
-    let mut env = [0u32; 17408];
-    let mut table = [0u32; 155648];
+    let mut env = [0u32; CLOCK_TABLE];
+    let mut table = [0u32; FINDING_TABLE];
     first_deep(tags, values, names, &mut env, &mut table)
 }
 
@@ -139,11 +143,11 @@ pub fn clock_laid(
     table: &mut [u32],
 ) -> NodeAnswer
     requires { ⌜ length (now values) ≡ length (now tags) ⌝ }
-    ensures { λ r. ⌜ ((n : Node) (q : ℕ) → Laid names (tokens (now (tags .entry)) (now (values .entry))) n q layout → Roomy names (length (now (tags .entry))) (now (env .entry)) (now (table .entry)) → ClockedAs names (tokens (now (tags .entry)) (now (values .entry))) (now (env .exit)) (now (table .exit)) k n r) ⌝ }
+    ensures { λ r. ⌜ ((n : Node) (q : ℕ) → LaidNode names (tokens (now (tags .entry)) (now (values .entry))) n q layout → Roomy names (length (now (tags .entry))) (now (env .entry)) (now (table .entry)) → ClockedAs names (tokens (now (tags .entry)) (now (values .entry))) (now (env .exit)) (now (table .exit)) k n r) ⌝ }
 {
-    let n = least(wide(names), 1024);
-    let mut marks = [0u8; 1024];
-    let mut ports = [0u32; 1024];
+    let n = least(wide(names), MOST_NAMES);
+    let mut marks = [0u8; MOST_NAMES];
+    let mut ports = [0u32; MOST_NAMES];
     let clocked = infer_clocks::clock_laid(
         tags,
         values,
@@ -222,7 +226,7 @@ fn put_clock(list: &mut [u32], b: usize, c: Clock)
     ensures { λ r. ⌜ now (list .exit) ≡ overAt b (clockWords (valueOf c)) (now (list .entry)) ⌝ }
 {
     let mut j: usize = 0;
-    while j < 17 {
+    while j < flat::WORDS {
         let w = clock_word(c, j);
         list[b + j] = w;
         j += 1;
@@ -230,18 +234,11 @@ fn put_clock(list: &mut [u32], b: usize, c: Clock)
 }
 
 // The clocks of the equations that stand there.
-pub fn write_equations(
-    tags: &[u8],
-    values: &[u32],
-    names: u32,
-    env: &[u32],
-    s: Span,
-    list: &mut [u32],
-)
+fn write_equations(tags: &[u8], values: &[u32], names: u32, env: &[u32], s: Span, list: &mut [u32])
     requires { ⌜ length (now values) ≡ length (now tags) ⌝ }
     ensures { λ r. ⌜ ((clocks : Clocks) (es : List Equation) (q : ℕ) (cs : List Clocked) → Agrees (now (env .entry)) names clocks → times (s .count) (equation names) (tokens (now (tags .entry)) (now (values .entry))) (s .at) ≡ got es q → clockedBy clocks es ≡ formed cs → now (list .exit) ≡ clocksOver (map (λ c. c .clock) cs) (now (list .entry))) ⌝ }
 {
-    let room = list.len() / 17;
+    let room = list.len() / flat::WORDS;
     let n = wide(s.count);
     let most = least(n, room);
     let mut place = s.at;
@@ -251,7 +248,7 @@ pub fn write_equations(
         let right = l.right;
         let end = l.end;
         let c = infer_clocks::equation_clock(tags, values, names, env, right);
-        put_clock(list, 17 * i, c);
+        put_clock(list, flat::WORDS * i, c);
         place = end;
         i += 1;
     }
@@ -261,19 +258,19 @@ pub fn write_equations(
 fn write_rows(rows: &[u32], chain: &[u32], m: usize, list: &mut [u32])
     ensures { λ r. ⌜ now (list .exit) ≡ clocksOver (picked (rowOf (now (rows .entry))) (now (chain .entry)) 0 m) (now (list .entry)) ⌝ }
 {
-    let room = list.len() / 17;
+    let room = list.len() / flat::WORDS;
     let most = least(m, room);
     let mut i: usize = 0;
     while i < most {
         let row = wide(flat::word_at(chain, i));
         let c = rows::get(rows, row);
-        put_clock(list, 17 * i, c);
+        put_clock(list, flat::WORDS * i, c);
         i += 1;
     }
 }
 
 // The chains of a node by its n findings, put in their rows and then written: how many there are.
-pub fn write_chains(
+fn write_chains(
     starts: &[u32],
     letters: &[u8],
     table: &[u32],
@@ -304,7 +301,7 @@ fn put_fault(list: &mut [u32], m: usize, node: u32, number: u32, equation: u32)
 }
 
 // The clock faults of a node by its n findings: how many there are.
-pub fn write_faults(table: &[u32], n: usize, node: u32, list: &mut [u32]) -> usize
+fn write_faults(table: &[u32], n: usize, node: u32, list: &mut [u32]) -> usize
     ensures { λ r. ⌜ r ≡ length (clockFaults (findingsIn (now (table .entry)) n)) ⌝ }
     ensures { λ r. ⌜ now (list .exit) ≡ faultsOver node (clockFaults (findingsIn (now (table .entry)) n)) (now (list .entry)) ⌝ }
 {
@@ -352,7 +349,7 @@ pub fn write_clocks(
     faults: &mut [u32],
 ) -> NodeCounts
     requires { ⌜ length (now values) ≡ length (now tags) ⌝ }
-    ensures { λ r. ⌜ ((n : ClockedNode) → Told′ (told .names) (tokens (now (tags .entry)) (now (values .entry))) (now (env .entry)) (now (table .entry)) (told .number) told n → Ample (now (table .entry)) (now (rows .entry)) (now (chain .entry)) → told .number < 16 → Written (told .number) (nodeClocks (lettersAt (now (starts .entry)) (now (letters .entry))) n) (now (equations .entry)) (now (chains .entry)) (now (faults .entry)) (now (equations .exit)) (now (chains .exit)) (now (faults .exit)) r) ⌝ }
+    ensures { λ r. ⌜ ((n : ClockedNode) → NodeWithClocks (told .names) (tokens (now (tags .entry)) (now (values .entry))) (now (env .entry)) (now (table .entry)) (told .number) told n → Ample (now (table .entry)) (now (rows .entry)) (now (chain .entry)) → told .number < 16 → Written (told .number) (nodeClocks (lettersAt (now (starts .entry)) (now (letters .entry))) n) (now (equations .entry)) (now (chains .entry)) (now (faults .entry)) (now (equations .exit)) (now (chains .exit)) (now (faults .exit)) r) ⌝ }
 {
     let l = told.layout;
     let e = l.equations;
@@ -384,7 +381,7 @@ pub fn measure_told(
 ) -> NodeSize
     requires { ⌜ length (now values) ≡ length (now tags) ⌝ }
     ensures { λ r. ⌜ r .listing ≤ farthest ⌝ }
-    ensures { λ r. ⌜ ((n : ClockedNode) → Told′ (told .names) (tokens (now (tags .entry)) (now (values .entry))) (now (env .entry)) (now (table .entry)) (told .number) told n → Ample (now (table .entry)) (now (rows .entry)) (now (chain .entry)) → length (now (letters .entry)) ≤ 16384 → length (now (tags .entry)) ≤ 4096 → Sized (lettersAt (now (starts .entry)) (now (letters .entry))) (now (table .entry)) (now (rows .exit)) (now (chain .exit)) told n r) ⌝ }
+    ensures { λ r. ⌜ ((n : ClockedNode) → NodeWithClocks (told .names) (tokens (now (tags .entry)) (now (values .entry))) (now (env .entry)) (now (table .entry)) (told .number) told n → Ample (now (table .entry)) (now (rows .entry)) (now (chain .entry)) → length (now (letters .entry)) ≤ 16384 → length (now (tags .entry)) ≤ 4096 → SizedListing (lettersAt (now (starts .entry)) (now (letters .entry))) (now (table .entry)) (now (rows .exit)) (now (chain .exit)) told n r) ⌝ }
 {
     let chains = infer_clocks::chain_rows(starts, letters, table, told.findings, rows, chain);
     let listing = listing::measure_node(
@@ -419,7 +416,7 @@ pub fn put_told(
 ) -> usize
     requires { ⌜ length (now values) ≡ length (now tags) ⌝ }
     ensures { λ r. ⌜ r ≤ farthest ⌝ }
-    ensures { λ r. ⌜ ((n : ClockedNode) → Told′ (told .names) (tokens (now (tags .entry)) (now (values .entry))) (now (env .entry)) (now (table .entry)) (told .number) told n → picked (rowOf (now (rows .entry))) (now (chain .entry)) 0 m ≡ chains (lettersAt (now (starts .entry)) (now (letters .entry))) (findingsIn (now (table .entry)) (told .findings)) → length (now (letters .entry)) ≤ 16384 → length (now (tags .entry)) ≤ 4096 → told .findings ≤ 4096 → PutText (nodeListing (lettersAt (now (starts .entry)) (now (letters .entry))) (told .number) n) at (now (out .entry)) r (now (out .exit))) ⌝ }
+    ensures { λ r. ⌜ ((n : ClockedNode) → NodeWithClocks (told .names) (tokens (now (tags .entry)) (now (values .entry))) (now (env .entry)) (now (table .entry)) (told .number) told n → picked (rowOf (now (rows .entry))) (now (chain .entry)) 0 m ≡ chains (lettersAt (now (starts .entry)) (now (letters .entry))) (findingsIn (now (table .entry)) (told .findings)) → length (now (letters .entry)) ≤ 16384 → length (now (tags .entry)) ≤ 4096 → told .findings ≤ 4096 → PutText (nodeListing (lettersAt (now (starts .entry)) (now (letters .entry))) (told .number) n) at (now (out .entry)) r (now (out .exit))) ⌝ }
 {
     if out.len() <= at {
         return listing::measure_node(
@@ -472,7 +469,7 @@ fn put_laid(
 ) -> usize
     requires { ⌜ length (now values) ≡ length (now tags) ⌝ }
     ensures { λ r. ⌜ r ≤ farthest ⌝ }
-    ensures { λ r. ⌜ ((n : Node) (q : ℕ) (c : Clocking) → Laid names (tokens (now (tags .entry)) (now (values .entry))) n q layout → clocking n ≡ formed c → Roomy names (length (now (tags .entry))) (now (env .entry)) (now (table .entry)) → Ample (now (table .entry)) (now (rows .entry)) (now (chain .entry)) → length (now (letters .entry)) ≤ 16384 → length (now (tags .entry)) ≤ 4096 → PutText (nodeListing (lettersAt (now (starts .entry)) (now (letters .entry))) k (record { node = n; clocking = c })) at (now (out .entry)) r (now (out .exit))) ⌝ }
+    ensures { λ r. ⌜ ((n : Node) (q : ℕ) (c : Clocking) → LaidNode names (tokens (now (tags .entry)) (now (values .entry))) n q layout → clocking n ≡ formed c → Roomy names (length (now (tags .entry))) (now (env .entry)) (now (table .entry)) → Ample (now (table .entry)) (now (rows .entry)) (now (chain .entry)) → length (now (letters .entry)) ≤ 16384 → length (now (tags .entry)) ≤ 4096 → PutText (nodeListing (lettersAt (now (starts .entry)) (now (letters .entry))) k (record { node = n; clocking = c })) at (now (out .entry)) r (now (out .exit))) ⌝ }
 {
     let answer = clock_laid(tags, values, names, layout, k, env, table);
     let NodeAnswer::Node(told) = answer else {

@@ -19,7 +19,7 @@ pub enum Step {
 }
 
 // What stands at a place of two arrays.
-pub fn step_at(tags: &[u8], values: &[u32], at: usize) -> Step
+fn step_at(tags: &[u8], values: &[u32], at: usize) -> Step
     requires { ⌜ length (now values) ≡ length (now tags) ⌝ }
     ensures { λ r. ⌜ r ≡ stepAt (tokens (now (tags .entry)) (now (values .entry))) at ⌝ }
 {
@@ -31,14 +31,14 @@ pub fn step_at(tags: &[u8], values: &[u32], at: usize) -> Step
 }
 
 // A reader of these arrays at this place.
-pub fn new<'a, 'b>(tags: &'a [u8], values: &'b [u32], at: usize) -> Reader<'a, 'b>
+fn new<'a, 'b>(tags: &'a [u8], values: &'b [u32], at: usize) -> Reader<'a, 'b>
     ensures { λ r. ⌜ (r .tags ≡ tags .entry) × (r .values ≡ values .entry) × (r .at ≡ at) ⌝ }
 {
     Reader { tags, values, at }
 }
 
 // What stands at a reader's place.
-pub fn next<'a, 'b>(r: Reader<'a, 'b>) -> Step
+fn next<'a, 'b>(r: Reader<'a, 'b>) -> Step
     requires { ⌜ length (now (r .values)) ≡ length (now (r .tags)) ⌝ }
     ensures { λ s. ⌜ s ≡ stepAt (tokens (now (r .entry .tags)) (now (r .entry .values))) (r .entry .at) ⌝ }
 {

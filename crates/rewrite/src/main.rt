@@ -1,6 +1,7 @@
 // Rewrites the sheet on standard input to run on one base tick; or says what it is refused for.
 use arguments::Word;
 use definitions::FaultRecord;
+use definitions::MOST_NODES;
 use definitions::Refusal;
 use libc::STDERR_FILENO;
 use libc::STDIN_FILENO;
@@ -51,23 +52,17 @@ fn show(fd: i32, out: &[u8], n: usize) {
     io::write_all(fd, arguments::front(out, n));
 }
 
-// A blank and a number.
-fn put_number(out: &mut [u8; 128], at: usize, n: u64) -> usize {
-    let next = spelling::put(out, at, b' ');
-    spelling::put_decimal(out, next, n)
-}
-
 // `refused NUMBER PLACE: REASON`
 fn show_refusal(r: Refusal) {
     let mut line = [0u8; 256];
-    let n = arguments::put_reason(&mut line, r);
+    let n = refusals::put_reason(&mut line, r);
     show(STDERR_FILENO, &line, n);
 }
 
 // `faults COUNT`
 fn put_count(out: &mut [u8; 128], count: usize) -> usize {
     let a = spelling::put_all(out, 0, b"faults");
-    let b = put_number(out, a, count as u64);
+    let b = refusals::put_number(out, a, count);
     spelling::put(out, b, b'\n')
 }
 
@@ -94,9 +89,9 @@ fn show_text(sheet: &[u8], node: usize) {
 // `fault NODE FAULT EQUATION`
 fn put_fault(out: &mut [u8; 128], node: u32, fault: u32, equation: u32) -> usize {
     let a = spelling::put_all(out, 0, b"fault");
-    let b = put_number(out, a, node as u64);
-    let c = put_number(out, b, fault as u64);
-    let d = put_number(out, c, equation as u64);
+    let b = refusals::put_number(out, a, node as usize);
+    let c = refusals::put_number(out, b, fault as usize);
+    let d = refusals::put_number(out, c, equation as usize);
     spelling::put(out, d, b' ')
 }
 
@@ -109,7 +104,7 @@ fn show_fault(sheet: &[u8], node: u32, fault: u32, equation: u32) {
 }
 
 // A line for each of the first faults, of which there are at most as many as nodes.
-fn show_faults(sheet: &[u8], count: usize, faults: [FaultRecord; 16]) {
+fn show_faults(sheet: &[u8], count: usize, faults: [FaultRecord; MOST_NODES]) {
     let mut i: usize = 0;
     while i < 16 {
         if count <= i {
@@ -121,7 +116,7 @@ fn show_faults(sheet: &[u8], count: usize, faults: [FaultRecord; 16]) {
     }
 }
 
-fn refuse(sheet: &[u8], r: Refusal, faults: [FaultRecord; 16]) {
+fn refuse(sheet: &[u8], r: Refusal, faults: [FaultRecord; MOST_NODES]) {
     show_refusal(r);
     if let Refusal::Faulty(count) = r {
         show_count(count);
@@ -141,8 +136,9 @@ fn rewrite(sheet: &[u8], out: &mut [u8]) {
 }
 
 fn rewrite_lent(sheet: &[u8], out: &mut [u8], lent: usize) {
-    if lent <= out.len() {
-        rewrite(sheet, &mut out[..lent]);
+    let from: usize = 0;
+    if lent < out.len() {
+        rewrite(sheet, &mut out[from..lent]);
         return;
     }
     rewrite(sheet, out);

@@ -17,7 +17,7 @@ use Rattle.definitions.specs.Refusals.{Answer, accepted, refused, faulty}
 use Rattle.definitions.specs.Output.{condactId, ClockedNode, sheetTokens, sheetBytes, withinLimits, written}
 use Rattle.definitions.specs.Answer.{Input, input, clockings, rewriteAnswer}
 use Rattle.fresh.specs.declared.Counts.{Counts}
-use Rattle.fresh.specs.Table.{namesOf, Holds}
+use Rattle.fresh.specs.Table.{namesOf, NamesHeld}
 use Rattle.fresh.proofs.Places.{cut-length}
 use Rattle.fresh.proofs.Table.{id-most, holds-limits}
 use Rattle.emit.specs.Out.{out, emits}
@@ -26,14 +26,14 @@ use Rattle.infer_clocks.specs.Clocked.{Sole}
 use Rattle.stateless.specs.Sheets.{firstFaultsFrom}
 use Rattle.stateless.proofs.Nodes.{many-tokens}
 use Rattle.stateless.proofs.Answers.{allNames, outSheet, rewrite-deep, rewrite-faulty, rewrite-large, rewrite-lent, rewrite-accepted}
-use Rattle.first_faults.specs.declared.Walked.{Walked}
+use Rattle.first_faults.specs.declared.NodesWalked.{NodesWalked}
 use Rattle.first_faults.specs.Faults.{Recorded, Walks}
 use Rattle.writing.specs.declared.Written.{Written}
 use Rattle.writing.specs.Bytes.{writtenAnswer, writtenBytes}
 use Rattle.output_names.specs.Faultless.{Faultless}
 use Rattle.query.specs.Words.{recordWords, entriesOver}
 use Rattle.rewriting.specs.declared.RewriteAnswer.{RewriteAnswer}
-use Rattle.rewriting.specs.Given.{faultWordsAfter, RewriteGiven, Read}
+use Rattle.rewriting.specs.Given.{faultWordsAfter, RewriteInWords, Read}
 
 -- the output's bytes
 abbrev outBytes : Input → List ClockedNode → List ℕ
@@ -41,14 +41,14 @@ outBytes r ns = written (allNames r ns) (outSheet r ns)
 
 -- ---- what is given, by the definition's answer
 module _ (v : Answer (List ℕ)) (lent list : List ℕ) where
-  pub given-refused : (x : Refusal) → v ≡ refused x → RewriteGiven v lent list lent list (RewriteAnswer.Refused x)
+  pub given-refused : (x : Refusal) → v ≡ refused x → RewriteInWords v lent list lent list (RewriteAnswer.Refused x)
   given-refused x e = rw e (record { answer = refl; bytes = refl; faults = refl })
 
   given-faulty : (l : List FaultRecord) (m : ℕ) (list′ : List ℕ) → v ≡ faulty l → m ≡ length l → list′ ≡ entriesOver 3 (map recordWords l) list
-      → RewriteGiven v lent list lent list′ (RewriteAnswer.Refused (Refusal.Faulty m))
+      → RewriteInWords v lent list lent list′ (RewriteAnswer.Refused (Refusal.Faulty m))
   given-faulty l m list′ e f g = rw e (record { answer = ap (λ (k : ℕ). RewriteAnswer.Refused (Refusal.Faulty k)) f; bytes = refl; faults = g })
 
-  given-written : (bytes : List ℕ) (n : ℕ) (lent′ : List ℕ) → v ≡ accepted bytes → n ≡ length bytes → lent′ ≡ over bytes lent → RewriteGiven v lent list lent′ list (RewriteAnswer.Written n)
+  given-written : (bytes : List ℕ) (n : ℕ) (lent′ : List ℕ) → v ≡ accepted bytes → n ≡ length bytes → lent′ ≡ over bytes lent → RewriteInWords v lent list lent′ list (RewriteAnswer.Written n)
   given-written bytes n lent′ e f g = rw e (record { answer = ap RewriteAnswer.Written f; bytes = g; faults = refl })
 
 -- no entries leave a lent list as it is
@@ -66,16 +66,16 @@ no-items [] m e h = refl
 no-items (f ∷ fs) m e h = absurd (omega arith)
 
 -- a fault list that is as it was
-pub same-list : (v : Answer (List ℕ)) (lent lent′ list list′ : List ℕ) (a : RewriteAnswer) → list′ ≡ list → RewriteGiven v lent list′ lent′ list′ a → RewriteGiven v lent list lent′ list′ a
+pub same-list : (v : Answer (List ℕ)) (lent lent′ list list′ : List ℕ) (a : RewriteAnswer) → list′ ≡ list → RewriteInWords v lent list′ lent′ list′ a → RewriteInWords v lent list lent′ list′ a
 same-list v lent lent′ list list′ a e g = record { answer = g .answer; bytes = g .bytes; faults = g .faults ∙ ap (faultWordsAfter v) e }
 
 -- no clock is too deep: each node has its clocks, and each faulty one's first fault is recorded
-pub none-deep : (r : Input) (w : Walked) (list list′ : List ℕ) (m : ℕ) → Walks r list list′ w → w ≡ Walked.Faulty m → (ns : List ClockedNode) × (clockings 0 (r .sheet .nodes) ≡ accepted ns) × Recorded list (firstFaultsFrom r 0 ns) m list′
+pub none-deep : (r : Input) (w : NodesWalked) (list list′ : List ℕ) (m : ℕ) → Walks r list list′ w → w ≡ NodesWalked.Faulty m → (ns : List ClockedNode) × (clockings 0 (r .sheet .nodes) ≡ accepted ns) × Recorded list (firstFaultsFrom r 0 ns) m list′
 unfolding Walks
 none-deep r w list list′ m h e = rw e at h
 
 -- where none is counted there is none, and the list is as it was
-pub none-recorded : (r : Input) (w : Walked) (list list′ : List ℕ) (m : ℕ) → Walks r list list′ w → w ≡ Walked.Faulty m → m ≤ 0 → (ns : List ClockedNode) × (clockings 0 (r .sheet .nodes) ≡ accepted ns) × (firstFaultsFrom r 0 ns ≡ []) × (list′ ≡ list)
+pub none-recorded : (r : Input) (w : NodesWalked) (list list′ : List ℕ) (m : ℕ) → Walks r list list′ w → w ≡ NodesWalked.Faulty m → m ≤ 0 → (ns : List ClockedNode) × (clockings 0 (r .sheet .nodes) ≡ accepted ns) × (firstFaultsFrom r 0 ns ≡ []) × (list′ ≡ list)
 none-recorded r w list list′ m h e z =
     let n = none-deep r w list list′ m h e in
     let x = no-items (firstFaultsFrom r 0 (n .0)) m (n .2 .counted) z in
@@ -101,8 +101,8 @@ faultless-read h ns clocks none = record {
 
 module _ (bytes : List ℕ) (r : Input) (reading : input bytes ≡ accepted r) (lent list : List ℕ) where
   -- 9
-  pub deep-given : (w : Walked) (i : ℕ) (list′ : List ℕ) → Walks r list list′ w → w ≡ Walked.Deep i → ((k : ℕ) → w ≡ Walked.Deep k → list′ ≡ list)
-      → RewriteGiven (rewriteAnswer bytes (length lent)) lent list lent list′ (RewriteAnswer.Refused (Refusal.Deep i))
+  pub deep-given : (w : NodesWalked) (i : ℕ) (list′ : List ℕ) → Walks r list list′ w → w ≡ NodesWalked.Deep i → ((k : ℕ) → w ≡ NodesWalked.Deep k → list′ ≡ list)
+      → RewriteInWords (rewriteAnswer bytes (length lent)) lent list lent list′ (RewriteAnswer.Refused (Refusal.Deep i))
   unfolding Walks
   deep-given w i list′ h e kept =
       let x : clockings 0 (r .sheet .nodes) ≡ refused (Refusal.Deep i) = rw e at h in
@@ -112,19 +112,19 @@ module _ (bytes : List ℕ) (r : Input) (reading : input bytes ≡ accepted r) (
   module _ (ns : List ClockedNode) (clocks : clockings 0 (r .sheet .nodes) ≡ accepted ns) where
     -- 10
     pub faulty-given : (m : ℕ) (list′ : List ℕ) → m ≡ length (firstFaultsFrom r 0 ns) → list′ ≡ entriesOver 3 (map recordWords (firstFaultsFrom r 0 ns)) list → 0 < m
-        → RewriteGiven (rewriteAnswer bytes (length lent)) lent list lent list′ (RewriteAnswer.Refused (Refusal.Faulty m))
+        → RewriteInWords (rewriteAnswer bytes (length lent)) lent list lent list′ (RewriteAnswer.Refused (Refusal.Faulty m))
     faulty-given m list′ e f h = given-faulty (rewriteAnswer bytes (length lent)) lent list (firstFaultsFrom r 0 ns) m list′ (rewrite-faulty bytes (length lent) r reading ns clocks (omega arith)) e f
 
-    module _ (none-faulty : firstFaultsFrom r 0 ns ≡ []) (lens text : List ℕ) (names : length lens ≡ 1024) (letters : length text ≡ 16384) (c : Counts) (holds : Holds lens text c (allNames r ns)) where
+    module _ (none-faulty : firstFaultsFrom r 0 ns ≡ []) (lens text : List ℕ) (names : length lens ≡ 1024) (letters : length text ≡ 16384) (c : Counts) (holds : NamesHeld lens text c (allNames r ns)) where
       -- 11, for the names
-      pub full-given : c .full ≡ true → RewriteGiven (rewriteAnswer bytes (length lent)) lent list lent list (RewriteAnswer.Refused Refusal.Large)
+      pub full-given : c .full ≡ true → RewriteInWords (rewriteAnswer bytes (length lent)) lent list lent list (RewriteAnswer.Refused Refusal.Large)
       full-given h =
           let w : withinLimits (allNames r ns) (outSheet r ns) ≡ false = holds-limits (outSheet r ns) names letters holds ∙ ap (λ (b : Bool). not b && leb (length (sheetTokens (outSheet r ns))) 8192) h in
           given-refused (rewriteAnswer bytes (length lent)) lent list Refusal.Large (rewrite-large bytes (length lent) r reading ns clocks none-faulty w)
 
       module _ (free : c .full ≡ false) (ts vs ts′ vs′ : List ℕ) (n : ℕ) (emitted : out ts′ vs′ n ≡ emits (out ts vs 0) (sheetTokens (outSheet r ns))) where
         -- 11, for the tokens
-        pub long-given : 8192 < n → RewriteGiven (rewriteAnswer bytes (length lent)) lent list lent list (RewriteAnswer.Refused Refusal.Large)
+        pub long-given : 8192 < n → RewriteInWords (rewriteAnswer bytes (length lent)) lent list lent list (RewriteAnswer.Refused Refusal.Large)
         long-given h =
             let m = emits-long ts vs (sheetTokens (outSheet r ns)) (out ts′ vs′ n) emitted h in
             given-refused (rewriteAnswer bytes (length lent)) lent list Refusal.Large (rewrite-large bytes (length lent) r reading ns clocks none-faulty (many-tokens (allNames r ns) (outSheet r ns) m))
@@ -152,24 +152,24 @@ module _ (bytes : List ℕ) (r : Input) (reading : input bytes ≡ accepted r) (
             filled-is = filled ∙ ap (λ (b : List ℕ). writtenBytes b lent) said
 
             -- 12
-            pub lent-given : (m : ℕ) → w ≡ Written.Lent m → RewriteGiven (rewriteAnswer bytes (length lent)) lent list lent′ list (RewriteAnswer.Refused (Refusal.Lent m))
+            pub lent-given : (m : ℕ) → w ≡ Written.Lent m → RewriteInWords (rewriteAnswer bytes (length lent)) lent list lent′ list (RewriteAnswer.Refused (Refusal.Lent m))
             unfolding writtenAnswer writtenBytes
             lent-given m e = go (leb (length (outBytes r ns)) (length lent)) refl (sym e ∙ answer-is) filled-is
               where
                 go : (b : Bool) → leb (length (outBytes r ns)) (length lent) ≡ b → Written.Lent m ≡ choose b (Written.Done (length (outBytes r ns))) (Written.Lent (length (outBytes r ns))) → lent′ ≡ choose b (over (outBytes r ns) lent) lent
-                    → RewriteGiven (rewriteAnswer bytes (length lent)) lent list lent′ list (RewriteAnswer.Refused (Refusal.Lent m))
+                    → RewriteInWords (rewriteAnswer bytes (length lent)) lent list lent′ list (RewriteAnswer.Refused (Refusal.Lent m))
                 go true b f g = let z : _≡_ {A = ℕ} 0 1 = cc in absurd (omega arith)
                 go false b f g =
                     let k : m ≡ length (outBytes r ns) = cc in
                     rw (g, k) (given-refused (rewriteAnswer bytes (length lent)) lent list (Refusal.Lent (length (outBytes r ns))) (rewrite-lent bytes (length lent) r reading ns clocks none-faulty within (leb-false (length (outBytes r ns)) (length lent) b)))
 
             -- none
-            pub written-given : (m : ℕ) → w ≡ Written.Done m → RewriteGiven (rewriteAnswer bytes (length lent)) lent list lent′ list (RewriteAnswer.Written m)
+            pub written-given : (m : ℕ) → w ≡ Written.Done m → RewriteInWords (rewriteAnswer bytes (length lent)) lent list lent′ list (RewriteAnswer.Written m)
             unfolding writtenAnswer writtenBytes
             written-given m e = go (leb (length (outBytes r ns)) (length lent)) refl (sym e ∙ answer-is) filled-is
               where
                 go : (b : Bool) → leb (length (outBytes r ns)) (length lent) ≡ b → Written.Done m ≡ choose b (Written.Done (length (outBytes r ns))) (Written.Lent (length (outBytes r ns))) → lent′ ≡ choose b (over (outBytes r ns) lent) lent
-                    → RewriteGiven (rewriteAnswer bytes (length lent)) lent list lent′ list (RewriteAnswer.Written m)
+                    → RewriteInWords (rewriteAnswer bytes (length lent)) lent list lent′ list (RewriteAnswer.Written m)
                 go true b f g =
                     let k : m ≡ length (outBytes r ns) = cc in
                     given-written (rewriteAnswer bytes (length lent)) lent list (outBytes r ns) m lent′ (rewrite-accepted bytes (length lent) r reading ns clocks none-faulty within (leb-true (length (outBytes r ns)) (length lent) b)) k g

@@ -27,7 +27,7 @@ faultWordsAfter (refused r) lent = lent
 faultWordsAfter (faulty l) lent = entriesOver 3 (map recordWords l) lent
 
 -- a sheet's rewriting was asked for: the answer, and the lent bytes and the lent fault list afterwards
-pub record RewriteGiven (v : Answer (List ℕ)) (lent list lent′ list′ : List ℕ) (r : RewriteAnswer) : Type 0 where
+pub record RewriteInWords (v : Answer (List ℕ)) (lent list lent′ list′ : List ℕ) (r : RewriteAnswer) : Type 0 where
   pub answer : r ≡ rewriteAnswered v
   pub bytes : lent′ ≡ bytesAfter v lent
   pub faults : list′ ≡ faultWordsAfter v list

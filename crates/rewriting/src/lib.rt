@@ -1,8 +1,13 @@
 // Rewriting an accepted sheet that stands in the working tables: refusals 9 to 12 in checking order, then the output's bytes.
 // `given` has the lengths of the sheet's names and `letters` their letters, `starts` where each name's letters start, `names` is how
 // many there are; `tags` and `values` are the sheet's tokens, as long as each other.
+use definitions::CLOCK_TABLE;
+use definitions::FINDING_TABLE;
+use definitions::MOST_NAMES;
 use definitions::Refusal;
-use first_faults::Walked;
+use definitions::SMALL_FINDING_TABLE;
+use definitions::WORKING_TOKENS;
+use first_faults::NodesWalked;
 use fresh::Counts;
 use writing::Written;
 ghost use mathlib.Core.Path.{_≡_};
@@ -18,12 +23,12 @@ ghost use Rattle.definitions.specs.Output.{ClockedNode, sheetTokens, namesOut, 
 ghost use Rattle.definitions.specs.Answer.{Input, rewriteAnswer};
 ghost use Rattle.emit.specs.Out as emit;
 ghost use Rattle.emit.specs.Out.{emits};
-ghost use Rattle.fresh.specs.Table.{Sound, Holds};
+ghost use Rattle.fresh.specs.Table.{Sound, NamesHeld};
 ghost use Rattle.infer_clocks.specs.Clocked.{Sole};
 ghost use Rattle.query.specs.Standing.{Roomy};
 ghost use Rattle.first_faults.specs.Faults.{Walks};
 ghost use Rattle.output_names.specs.Faultless.{Faultless};
-ghost use Rattle.rewriting.specs.Given.{RewriteGiven, Read, Clean};
+ghost use Rattle.rewriting.specs.Given.{RewriteInWords, Read, Clean};
 
 // How many bytes were written, or turned down.
 pub enum RewriteAnswer {
@@ -49,10 +54,10 @@ fn list_faults(
     env: &mut [u32],
     table: &mut [u32],
     faults: &mut [u32],
-) -> Walked
+) -> NodesWalked
     requires { ⌜ length (now values) ≡ length (now tags) ⌝ }
     requires { ⌜ (sum (now given) ≡ length (now letters)) × (length (now given) ≤ 1024) ⌝ }
-    ensures { λ w. ⌜ ((k : ℕ) → w ≡ Walked.Deep k → now (faults .exit) ≡ now (faults .entry)) ⌝ }
+    ensures { λ w. ⌜ ((k : ℕ) → w ≡ NodesWalked.Deep k → now (faults .exit) ≡ now (faults .entry)) ⌝ }
     ensures { λ w. ⌜ ((r : Input) (q : ℕ) → sheet names (tokens (now (tags .entry)) (now (values .entry))) 0 ≡ got (r .sheet) q → r .names ≡ cut (now (given .entry)) (now (letters .entry)) → Roomy names (length (now (tags .entry))) (now (env .entry)) (now (table .entry)) → Walks r (now (faults .entry)) (now (faults .exit)) w × Sole (now (env .exit)) names (r .sheet .nodes)) ⌝ }
 {
     let condact = narrow(fresh::find_condact(given, letters));
@@ -74,7 +79,7 @@ fn write_output(
     requires { ⌜ Sound (now lengths) (now text) c ⌝ }
     requires { ⌜ (length (now lengths) ≡ 1024) × (length (now text) ≡ 16384) ⌝ }
     requires { ⌜ (length (now tags) ≡ 8192) × (length (now values) ≡ 8192) ⌝ }
-    ensures { λ a. ⌜ ((bytes : List ℕ) (r : Input) (ns : List ClockedNode) (list ts vs : List ℕ) → Clean bytes r ns → Holds (now (lengths .entry)) (now (text .entry)) c (namesOut (r .names) (r .sheet) ns) → (c .full ≡ false → emit.out (now (tags .entry)) (now (values .entry)) n ≡ emits (emit.out ts vs 0) (sheetTokens (sheetOut (r .names) (r .sheet) ns))) → 8192 ≤ length ts → 8192 ≤ length vs → RewriteGiven (rewriteAnswer bytes (length (now (out .entry)))) (now (out .entry)) list (now (out .exit)) list a) ⌝ }
+    ensures { λ a. ⌜ ((bytes : List ℕ) (r : Input) (ns : List ClockedNode) (list ts vs : List ℕ) → Clean bytes r ns → NamesHeld (now (lengths .entry)) (now (text .entry)) c (namesOut (r .names) (r .sheet) ns) → (c .full ≡ false → emit.out (now (tags .entry)) (now (values .entry)) n ≡ emits (emit.out ts vs 0) (sheetTokens (sheetOut (r .names) (r .sheet) ns))) → 8192 ≤ length ts → 8192 ≤ length vs → RewriteInWords (rewriteAnswer bytes (length (now (out .entry)))) (now (out .entry)) list (now (out .exit)) list a) ⌝ }
 {
     if c.full {
         return RewriteAnswer::Refused(Refusal::Large);
@@ -93,16 +98,16 @@ fn write_output(
 
 // The same of whole arrays.
 fn write_arrays(
-    lengths: &[u8; 1024],
+    lengths: &[u8; MOST_NAMES],
     text: &[u8; 16384],
     c: Counts,
-    tags: &[u8; 8192],
-    values: &[u32; 8192],
+    tags: &[u8; WORKING_TOKENS],
+    values: &[u32; WORKING_TOKENS],
     n: usize,
     out: &mut [u8],
 ) -> RewriteAnswer
     requires { ⌜ Sound (now lengths) (now text) c ⌝ }
-    ensures { λ a. ⌜ ((bytes : List ℕ) (r : Input) (ns : List ClockedNode) (list ts vs : List ℕ) → Clean bytes r ns → Holds (now (lengths .entry)) (now (text .entry)) c (namesOut (r .names) (r .sheet) ns) → (c .full ≡ false → emit.out (now (tags .entry)) (now (values .entry)) n ≡ emits (emit.out ts vs 0) (sheetTokens (sheetOut (r .names) (r .sheet) ns))) → 8192 ≤ length ts → 8192 ≤ length vs → RewriteGiven (rewriteAnswer bytes (length (now (out .entry)))) (now (out .entry)) list (now (out .exit)) list a) ⌝ }
+    ensures { λ a. ⌜ ((bytes : List ℕ) (r : Input) (ns : List ClockedNode) (list ts vs : List ℕ) → Clean bytes r ns → NamesHeld (now (lengths .entry)) (now (text .entry)) c (namesOut (r .names) (r .sheet) ns) → (c .full ≡ false → emit.out (now (tags .entry)) (now (values .entry)) n ≡ emits (emit.out ts vs 0) (sheetTokens (sheetOut (r .names) (r .sheet) ns))) → 8192 ≤ length ts → 8192 ≤ length vs → RewriteInWords (rewriteAnswer bytes (length (now (out .entry)))) (now (out .entry)) list (now (out .exit)) list a) ⌝ }
 {
     write_output(lengths, text, c, tags, values, n, out)
 }
@@ -115,17 +120,17 @@ fn rewrite_faultless(
     tags: &[u8],
     values: &[u32],
     names: u32,
-    env: &mut [u32; 17408],
+    env: &mut [u32; CLOCK_TABLE],
     out: &mut [u8],
 ) -> RewriteAnswer
     requires { ⌜ length (now values) ≡ length (now tags) ⌝ }
     requires { ⌜ (sum (now given) ≡ length (now letters)) × (length (now given) ≤ 1024) × (length (now letters) ≤ 16384) ⌝ }
-    ensures { λ a. ⌜ ((bytes : List ℕ) (r : Input) (ns : List ClockedNode) (list : List ℕ) → Faultless (now (starts .entry)) (now (letters .entry)) (now (tags .entry)) (now (values .entry)) names bytes r ns → r .names ≡ cut (now (given .entry)) (now (letters .entry)) → Sole (now (env .entry)) names (r .sheet .nodes) → RewriteGiven (rewriteAnswer bytes (length (now (out .entry)))) (now (out .entry)) list (now (out .exit)) list a) ⌝ }
+    ensures { λ a. ⌜ ((bytes : List ℕ) (r : Input) (ns : List ClockedNode) (list : List ℕ) → Faultless (now (starts .entry)) (now (letters .entry)) (now (tags .entry)) (now (values .entry)) names bytes r ns → r .names ≡ cut (now (given .entry)) (now (letters .entry)) → Sole (now (env .entry)) names (r .sheet .nodes) → RewriteInWords (rewriteAnswer bytes (length (now (out .entry)))) (now (out .entry)) list (now (out .exit)) list a) ⌝ }
 {
-    let mut lengths = [0u8; 1024];
+    let mut lengths = [0u8; MOST_NAMES];
     let mut text = [0u8; 16384];
-    let mut flags = [0u32; 17408];
-    let mut firsts = [0u32; 17408];
+    let mut flags = [0u32; CLOCK_TABLE];
+    let mut firsts = [0u32; CLOCK_TABLE];
     let c = output_names::sheet_names(
         given,
         starts,
@@ -139,8 +144,8 @@ fn rewrite_faultless(
         &mut flags,
         &mut firsts,
     );
-    let mut otags = [0u8; 8192];
-    let mut ovalues = [0u32; 8192];
+    let mut otags = [0u8; WORKING_TOKENS];
+    let mut ovalues = [0u32; WORKING_TOKENS];
     let n = declock_sheet::declock_sheet(
         starts,
         letters,
@@ -167,19 +172,19 @@ fn rewrite_in(
     tags: &[u8],
     values: &[u32],
     names: u32,
-    env: &mut [u32; 17408],
+    env: &mut [u32; CLOCK_TABLE],
     table: &mut [u32],
     out: &mut [u8],
     faults: &mut [u32],
 ) -> RewriteAnswer
     requires { ⌜ length (now values) ≡ length (now tags) ⌝ }
     requires { ⌜ (sum (now given) ≡ length (now letters)) × (length (now given) ≤ 1024) × (length (now letters) ≤ 16384) ⌝ }
-    ensures { λ a. ⌜ ((bytes : List ℕ) (r : Input) → Read (now (given .entry)) (now (starts .entry)) (now (letters .entry)) (now (tags .entry)) (now (values .entry)) names bytes r → 38 * length (now (tags .entry)) ≤ length (now (table .entry)) → RewriteGiven (rewriteAnswer bytes (length (now (out .entry)))) (now (out .entry)) (now (faults .entry)) (now (out .exit)) (now (faults .exit)) a) ⌝ }
+    ensures { λ a. ⌜ ((bytes : List ℕ) (r : Input) → Read (now (given .entry)) (now (starts .entry)) (now (letters .entry)) (now (tags .entry)) (now (values .entry)) names bytes r → 38 * length (now (tags .entry)) ≤ length (now (table .entry)) → RewriteInWords (rewriteAnswer bytes (length (now (out .entry)))) (now (out .entry)) (now (faults .entry)) (now (out .exit)) (now (faults .exit)) a) ⌝ }
 {
     let walked = list_faults(given, letters, tags, values, names, env, table, faults);
     match walked {
-        Walked::Deep(i) => RewriteAnswer::Refused(Refusal::Deep(i)),
-        Walked::Faulty(faulty) => {
+        NodesWalked::Deep(i) => RewriteAnswer::Refused(Refusal::Deep(i)),
+        NodesWalked::Faulty(faulty) => {
             if 0 < faulty {
                 return RewriteAnswer::Refused(Refusal::Faulty(faulty));
             }
@@ -201,10 +206,10 @@ fn rewrite_small(
 ) -> RewriteAnswer
     requires { ⌜ length (now values) ≡ length (now tags) ⌝ }
     requires { ⌜ (sum (now given) ≡ length (now letters)) × (length (now given) ≤ 1024) × (length (now letters) ≤ 16384) ⌝ }
-    ensures { λ a. ⌜ ((bytes : List ℕ) (r : Input) → Read (now (given .entry)) (now (starts .entry)) (now (letters .entry)) (now (tags .entry)) (now (values .entry)) names bytes r → length (now (tags .entry)) ≤ 256 → RewriteGiven (rewriteAnswer bytes (length (now (out .entry)))) (now (out .entry)) (now (faults .entry)) (now (out .exit)) (now (faults .exit)) a) ⌝ }
+    ensures { λ a. ⌜ ((bytes : List ℕ) (r : Input) → Read (now (given .entry)) (now (starts .entry)) (now (letters .entry)) (now (tags .entry)) (now (values .entry)) names bytes r → length (now (tags .entry)) ≤ 256 → RewriteInWords (rewriteAnswer bytes (length (now (out .entry)))) (now (out .entry)) (now (faults .entry)) (now (out .exit)) (now (faults .exit)) a) ⌝ }
 {
-    let mut env = [0u32; 17408];
-    let mut table = [0u32; 9728];
+    let mut env = [0u32; CLOCK_TABLE];
+    let mut table = [0u32; SMALL_FINDING_TABLE];
     rewrite_in(
         given,
         starts,
@@ -232,10 +237,10 @@ fn rewrite_large(
 ) -> RewriteAnswer
     requires { ⌜ length (now values) ≡ length (now tags) ⌝ }
     requires { ⌜ (sum (now given) ≡ length (now letters)) × (length (now given) ≤ 1024) × (length (now letters) ≤ 16384) ⌝ }
-    ensures { λ a. ⌜ ((bytes : List ℕ) (r : Input) → Read (now (given .entry)) (now (starts .entry)) (now (letters .entry)) (now (tags .entry)) (now (values .entry)) names bytes r → RewriteGiven (rewriteAnswer bytes (length (now (out .entry)))) (now (out .entry)) (now (faults .entry)) (now (out .exit)) (now (faults .exit)) a) ⌝ }
+    ensures { λ a. ⌜ ((bytes : List ℕ) (r : Input) → Read (now (given .entry)) (now (starts .entry)) (now (letters .entry)) (now (tags .entry)) (now (values .entry)) names bytes r → RewriteInWords (rewriteAnswer bytes (length (now (out .entry)))) (now (out .entry)) (now (faults .entry)) (now (out .exit)) (now (faults .exit)) a) ⌝ }
 {
-    let mut env = [0u32; 17408];
-    let mut table = [0u32; 155648];
+    let mut env = [0u32; CLOCK_TABLE];
+    let mut table = [0u32; FINDING_TABLE];
     rewrite_in(
         given,
         starts,
@@ -264,7 +269,7 @@ pub fn rewrite_standing(
 ) -> RewriteAnswer
     requires { ⌜ length (now values) ≡ length (now tags) ⌝ }
     requires { ⌜ (sum (now given) ≡ length (now letters)) × (length (now given) ≤ 1024) × (length (now letters) ≤ 16384) ⌝ }
-    ensures { λ a. ⌜ ((bytes : List ℕ) (r : Input) → Read (now (given .entry)) (now (starts .entry)) (now (letters .entry)) (now (tags .entry)) (now (values .entry)) names bytes r → RewriteGiven (rewriteAnswer bytes (length (now (out .entry)))) (now (out .entry)) (now (faults .entry)) (now (out .exit)) (now (faults .exit)) a) ⌝ }
+    ensures { λ a. ⌜ ((bytes : List ℕ) (r : Input) → Read (now (given .entry)) (now (starts .entry)) (now (letters .entry)) (now (tags .entry)) (now (values .entry)) names bytes r → RewriteInWords (rewriteAnswer bytes (length (now (out .entry)))) (now (out .entry)) (now (faults .entry)) (now (out .exit)) (now (faults .exit)) a) ⌝ }
 {
     if tags.len() <= 256 {
         return rewrite_small(given, starts, letters, tags, values, names, out, faults);

@@ -26,7 +26,7 @@ use Rattle.stateless.specs.Sheets.{withinAll}
 use Rattle.stateless.proofs.Nodes.{within-head, within-tail}
 use Rattle.rewriting_faults.specs.declared.Met.{Met}
 use Rattle.rewriting_faults.specs.declared.FirstFault.{FirstFault}
-use Rattle.rewriting_faults.specs.Met.{metOf, metAt, toldOf}
+use Rattle.rewriting_faults.specs.Met.{metOf, metAt, firstFaultOf}
 
 -- a fault told is the one that is met
 pub told-as : (t : Option NodeFault) (i : ℕ) (f g : Fault) (m : Met) → t ≡ some (record { equation = i; fault = f }) → f ≡ g → metOf m ≡ some g → t ≡ metAt i (metOf m)
@@ -84,7 +84,7 @@ module _ (M : ℕ) (ts : List TagValue) (types : List TypeDef) (l : List Node) (
       (L : (e : Equation) (q : ℕ) → equation M ts place ≡ got e q → LaidEquation M ts e q lay)
       (E : (e : Expr) (q : ℕ) (clocks : Clocks) (o : Option Clock) → tree M ts (lay .right) ≡ got e q → Agrees env M clocks → natural clocks e ≡ formed o → w ≡ orBase o)
       (F : (xs : List ℕ) (e : Expr) (q : ℕ) → Spans (name M) ts xs (lay .left) → tree M ts (lay .right) ≡ got e q → within w e ≡ true → m ≡ rightFault types l node condact w xs e)
-      (T : toldOf t ≡ metAt i m) (h : Ahead (n - i) i place q v) where
+      (T : firstFaultOf t ≡ metAt i m) (h : Ahead (n - i) i place q v) where
     -- the first of the equations left, with its clock, and those after it
     pub record Next : Type 0 where
       pub after : List Equation
@@ -118,7 +118,7 @@ module _ (M : ℕ) (ts : List TagValue) (types : List TypeDef) (l : List Node) (
         go none = refl
         go (some f) = refl
 
-    pub ahead-found : t .found ≡ true → toldOf t ≡ v
+    pub ahead-found : t .found ≡ true → firstFaultOf t ≡ v
     ahead-found j = told-first (t .found) _ _ _ j (T ∙ met-at) ∙ next .final
 
     pub ahead-step : t .found ≡ false → Ahead (n - (i + 1)) (i + 1) (lay .end) q v

@@ -18,7 +18,7 @@ use Rattle.definitions.specs.Tokens.{TagValue}
 use Rattle.definitions.specs.Tree.{Ty, Declared, TypeDef, Head, Expr, Exprs, Node}
 use Rattle.definitions.specs.Reading.{got, times}
 use Rattle.definitions.specs.Grammar.{name, ty, declaration}
-use Rattle.definitions.specs.Clock.{Clock, _/_, depth, deepest, parent, isOn, isNot, isBase}
+use Rattle.definitions.specs.Clock.{Clock, _↓_, depth, deepest, parent, isOn, isNot, isBase}
 use Rattle.definitions.specs.Types.{default}
 use Rattle.definitions.specs.InferClocks.{Fault, undeclared, noDefault, noOutputDefault, notSingleCall, preUntyped}
 use Rattle.definitions.specs.Declock.{Shape, bare, other, calls, declared, lastType, operandType, operatorOutputs}
@@ -28,17 +28,17 @@ use Rattle.operands.specs.Role.{roleOfHead, roleOfExpr, operandsOf}
 use Rattle.operands.specs.Spread.{tree, spread, later, operandAt, restAt}
 use Rattle.operands.proofs.Laws.{spread-nil}
 use Rattle.operands.proofs.Roles.{Among}
-use Rattle.natural.proofs.Laws.{Apart, apart}
+use Rattle.operands.proofs.Apart.{Apart, apart}
 use Rattle.layout.specs.declared.NodeLayout.{NodeLayout}
 use Rattle.layout.specs.Spans.{pastIn}
-use Rattle.layout.specs.Laid.{Laid}
+use Rattle.layout.specs.Laid.{LaidNode}
 use Rattle.grammar.proofs.Got.{times-cons}
 use Rattle.checking.proofs.Left.{name-there}
 use Rattle.operand_type.specs.declared.TypeFound.{TypeFound}
 use Rattle.operand_type.specs.Found.{IsFound}
 use Rattle.defaults.specs.Has.{isSome}
 use Rattle.callees.specs.declared.Callee.{Callee}
-use Rattle.callees.specs.Callees.{Called}
+use Rattle.callees.specs.Callees.{OutputsStand}
 use Rattle.needs.specs.declared.Turn.{Turn}
 use Rattle.needs.specs.Need.{isBare, isLeaf, hereOn, restOn, roomFor, within, withins}
 use Rattle.stateless.specs.Yield.{shapeAfter}
@@ -48,7 +48,7 @@ use Rattle.rewritten_shape.specs.After.{afterOf}
 use Rattle.rewriting_faults.specs.declared.Met.{Met}
 use Rattle.rewriting_faults.specs.Met.{metOf, heldFault, ownFault}
 use Rattle.rewriting_faults.proofs.Met.{the-type}
-use Rattle.rewriting_faults.proofs.Typed.{declared-at}
+use Rattle.operand_type.proofs.Typed.{declared-at}
 
 -- ---- the first of two
 abbrev some-met : List ℕ
@@ -100,13 +100,13 @@ module _ (types : List TypeDef) (l : List Node) (node : Node) where
 
   -- ---- a gated call
   module _ (M : ℕ) (ts : List TagValue) (f : ℕ) (c : Callee) where
-    pub gate-operator : (o : Option (List Declared)) → Called M ts o c → (p k : ℕ) → c ≡ Callee.Operator p k → (m : Option Fault) → ((ds : List Declared) (q : ℕ) → times k (declaration M) ts p ≡ got ds q → m ≡ outputsFault types l node f ds) → m ≡ gateFault types l node f o
-    unfolding Called
+    pub gate-operator : (o : Option (List Declared)) → OutputsStand M ts o c → (p k : ℕ) → c ≡ Callee.Operator p k → (m : Option Fault) → ((ds : List Declared) (q : ℕ) → times k (declaration M) ts p ≡ got ds q → m ≡ outputsFault types l node f ds) → m ≡ gateFault types l node f o
+    unfolding OutputsStand
     gate-operator none h p k i m g = let z : ⊥ = rw i at h in absurd z
     gate-operator (some ds) h p k i m g = let a : (q : ℕ) × (times k (declaration M) ts p ≡ got ds q) = rw i at h in g ds (a .0) (a .1)
 
-    pub gate-other : (o : Option (List Declared)) → Called M ts o c → c ≡ Callee.Other → none ≡ gateFault types l node f o
-    unfolding Called
+    pub gate-other : (o : Option (List Declared)) → OutputsStand M ts o c → c ≡ Callee.Other → none ≡ gateFault types l node f o
+    unfolding OutputsStand
     gate-other none h i = refl
     gate-other (some ds) h i = let z : ⊥ = rw i at h in absurd z
 
@@ -128,7 +128,7 @@ module _ (types : List TypeDef) (l : List Node) (node : Node) where
         go none k = let z : ⊥ = rw i at k in absurd z
         go (some t) k = let e : t ≡ Ty.primitive b = rw i at k in rw e
 
-    module _ (u : ℕ) (lay : NodeLayout) (d : Laid M ts node u lay) (p : ℕ) (i : r ≡ TypeFound.At p) (b : Bool) (has : (t : Ty) (q : ℕ) → ty M 8 ts p ≡ got t q → b ≡ isSome (default types t)) where
+    module _ (u : ℕ) (lay : NodeLayout) (d : LaidNode M ts node u lay) (p : ℕ) (i : r ≡ TypeFound.At p) (b : Bool) (has : (t : Ty) (q : ℕ) → ty M 8 ts p ≡ got t q → b ≡ isSome (default types t)) where
       -- the type that was found, and what is told of its default
       found-default : (o : Option Ty) → lastType (declared node) x ≡ o → IsFound M ts o r → (t : Ty) × (o ≡ some t) × (b ≡ isSome (default types t))
       unfolding IsFound
@@ -312,8 +312,8 @@ module _ (types : List TypeDef) (l : List Node) (node : Node) where
     fault-parts (Expr.call f es) g h k = rw (h refl, k refl) (ap (orElse (faultAmong types l node c c es)) (call-choice (isBase c) f (operatorOutputs l f)))
     fault-parts (Expr.when x a) g h k = rw (h refl) (or-none (faultIn types l node (parent c) a) ∙ or-none _)
     fault-parts (Expr.merge x a b) g h k =
-        let r = left-of (ltb (depth c) deepest) (within (c / isOn x) a && within (c / isNot x) b) g in
-        rw (h r, k r) (two-operands (faultIn types l node (c / isOn x) a) (faultIn types l node (c / isNot x) b))
+        let r = left-of (ltb (depth c) deepest) (within (c ↓ isOn x) a && within (c ↓ isNot x) b) g in
+        rw (h r, k r) (two-operands (faultIn types l node (c ↓ isOn x) a) (faultIn types l node (c ↓ isNot x) b))
 
     pub parts-fault : (v : Role) (e : Expr) → v ≡ roleOfExpr e → within c e ≡ true → Here v → Rest v → (a b r : Option Fault) → a ≡ faultAmong types l node here rest (operandsOf e) → b ≡ ownFault types l node c e → r ≡ orElse a b → r ≡ faultIn types l node c e
     parts-fault v e i w h k a b r j m n = rw (j, m) at n ∙ sym (fault-parts e w (rw i at h) (rw i at k))

@@ -10,9 +10,9 @@ use Rattle.definitions.specs.InferClocks.{Fault, undeclared, noDefault, noOutpu
 use Rattle.definitions.specs.Declock.{declared, operandType, operatorOutputs}
 use Rattle.fault.specs.Value.{faultOf}
 use Rattle.typedefs.specs.Table.{Table}
-use Rattle.layout.specs.Laid.{Laid}
-use Rattle.callees.specs.Callees.{Standing}
-use Rattle.defaults.specs.Has.{Has}
+use Rattle.layout.specs.Laid.{LaidNode}
+use Rattle.callees.specs.Callees.{NodesStand}
+use Rattle.defaults.specs.Has.{DefaultsKnown}
 use Rattle.needs.specs.Need.{isBare}
 use Rattle.stateless.specs.Faults.{unless, gateFault}
 use Rattle.rewriting_faults.specs.declared.Met.{Met}
@@ -34,8 +34,8 @@ metAt i none = none
 metAt i (some f) = some (record { equation = i; fault = f })
 
 -- the fault that is told, with its equation
-abbrev pub toldOf : FirstFault → Option NodeFault
-toldOf r = choose (r .found) (some (record { equation = r .equation; fault = faultOf (r .fault) })) none
+abbrev pub firstFaultOf : FirstFault → Option NodeFault
+firstFaultOf r = choose (r .found) (some (record { equation = r .equation; fault = faultOf (r .fault) })) none
 
 -- a `pre` of this operand on a clock: a bare name stays, anything else is held and needs a type
 abbrev pub heldFault : List Declared → Expr → Option Fault
@@ -56,8 +56,8 @@ module _ (types : List TypeDef) (nodes : List Node) (node : Node) where
 
 -- the sheet that is walked: its nodes, the node's parts, its types' definitions, and which of these have a default
 pub record InScope (gs vs places defs has : List ℕ) (s : Scope) (types : List TypeDef) (l : List Node) (node : Node) : Type 0 where
-  pub standing : Standing (s .names) gs vs places (s .nodes) l
+  pub standing : NodesStand (s .names) gs vs places (s .nodes) l
   pub end : ℕ
-  pub laid : Laid (s .names) (tokens gs vs) node end (s .layout)
+  pub laid : LaidNode (s .names) (tokens gs vs) node end (s .layout)
   pub table : Table (s .names) (tokens gs vs) defs (s .types) types
-  pub defaulted : Has types (s .types) (s .types) has
+  pub defaulted : DefaultsKnown types (s .types) (s .types) has

@@ -3,6 +3,7 @@
 // definition i has a default; `env` has the names' clocks; `condact` is the id of `condact`.
 use callees::Callee;
 use clock::Clock;
+use definitions::MOST_NODES;
 use fault::Fault;
 use grammar::Read;
 use layout::NodeLayout;
@@ -34,7 +35,7 @@ ghost use Rattle.needs.specs.Need.{within, withins};
 ghost use Rattle.stateless.specs.Faults.{outputsFault, gateFault, faultIn, faultAmong, leftFault, leftsFault, flaggedFault, rightFault, oldFault};
 ghost use Rattle.stateless.specs.Sheets.{withinAll};
 ghost use Rattle.rewritten_shape.specs.After.{afterOf};
-ghost use Rattle.rewriting_faults.specs.Met.{metOf, metAt, toldOf, heldFault, ownFault, InScope};
+ghost use Rattle.rewriting_faults.specs.Met.{metOf, metAt, firstFaultOf, heldFault, ownFault, InScope};
 
 // What is met: nothing, or one of the faults 5 to 9.
 pub enum Met {
@@ -55,7 +56,7 @@ pub struct Scope {
 }
 
 // What is met first, and where what was walked ends.
-pub struct Walked {
+pub struct MetTo {
     pub met: Met,
     pub end: usize,
 }
@@ -78,7 +79,7 @@ fn or_met(a: Met, b: Met) -> Met
 }
 
 // What the defaults of so many outputs of node f meet.
-pub fn outputs_fault(
+fn outputs_fault(
     tags: &[u8],
     values: &[u32],
     defs: &[usize; 32],
@@ -112,10 +113,10 @@ pub fn outputs_fault(
 }
 
 // What the outputs of node f meet where a call of it is gated: an operator's need defaults.
-pub fn gate_fault(
+fn gate_fault(
     tags: &[u8],
     values: &[u32],
-    places: &[usize; 16],
+    places: &[usize; MOST_NODES],
     defs: &[usize; 32],
     has: &[u8; 32],
     s: Scope,
@@ -133,7 +134,7 @@ pub fn gate_fault(
 }
 
 // What a `pre` on a clock meets, its operand standing there: one that is held needs a type.
-pub fn pre_fault(tags: &[u8], values: &[u32], s: Scope, at: usize) -> Met
+fn pre_fault(tags: &[u8], values: &[u32], s: Scope, at: usize) -> Met
     requires { ⌜ length (now values) ≡ length (now tags) ⌝ }
     ensures { λ r. ⌜ ((a : Expr) (q : ℕ) (places defs has : List ℕ) (types : List TypeDef) (l : List Node) (node : Node) → tree (s .names) (tokens (now (tags .entry)) (now (values .entry))) at ≡ got a q → InScope (now (tags .entry)) (now (values .entry)) places defs has s types l node → metOf r ≡ heldFault (declared node) a) ⌝ }
 {
@@ -150,10 +151,10 @@ pub fn pre_fault(tags: &[u8], values: &[u32], s: Scope, at: usize) -> Met
 }
 
 // What an expression of this role on this clock meets for itself, its first operand standing at `place`.
-pub fn own_fault(
+fn own_fault(
     tags: &[u8],
     values: &[u32],
-    places: &[usize; 16],
+    places: &[usize; MOST_NODES],
     defs: &[usize; 32],
     has: &[u8; 32],
     s: Scope,
@@ -177,16 +178,16 @@ pub fn own_fault(
 }
 
 // What the expression that stands there meets on this clock: its operands before itself.
-pub fn expr_fault(
+fn expr_fault(
     tags: &[u8],
     values: &[u32],
-    places: &[usize; 16],
+    places: &[usize; MOST_NODES],
     defs: &[usize; 32],
     has: &[u8; 32],
     s: Scope,
     c: Clock,
     at: usize,
-) -> Walked
+) -> MetTo
     requires { ⌜ length (now values) ≡ length (now tags) ⌝ }
     requires { ⌜ (s .nodes ≤ 16) × (s .types ≤ 32) ⌝ }
     ensures { λ r. ⌜ ((e : Expr) (q : ℕ) (types : List TypeDef) (l : List Node) (node : Node) → tree (s .names) (tokens (now (tags .entry)) (now (values .entry))) at ≡ got e q → within (valueOf c) e ≡ true → InScope (now (tags .entry)) (now (values .entry)) (now (places .entry)) (now (defs .entry)) (now (has .entry)) s types l node → (metOf (r .met) ≡ faultIn types l node (valueOf c) e) × (r .end ≡ q)) ⌝ }
@@ -197,7 +198,7 @@ pub fn expr_fault(
     let gap = v.gap;
     let role = v.role;
     if first <= at {
-        return Walked {
+        return MetTo {
             met: Met::Nothing,
             end: at,
         };
@@ -222,27 +223,27 @@ pub fn expr_fault(
     let end = w.end;
     let own = own_fault(tags, values, places, defs, has, s, role, c, place);
     let met = or_met(inner, own);
-    Walked { met: met, end: end }
+    MetTo { met: met, end: end }
 }
 
 // What the operand that stands there meets; a leaf meets nothing.
 fn operand_fault(
     tags: &[u8],
     values: &[u32],
-    places: &[usize; 16],
+    places: &[usize; MOST_NODES],
     defs: &[usize; 32],
     has: &[u8; 32],
     s: Scope,
     c: Clock,
     at: usize,
-) -> Walked
+) -> MetTo
     requires { ⌜ length (now values) ≡ length (now tags) ⌝ }
     requires { ⌜ (s .nodes ≤ 16) × (s .types ≤ 32) ⌝ }
     ensures { λ r. ⌜ ((e : Expr) (q : ℕ) (types : List TypeDef) (l : List Node) (node : Node) → tree (s .names) (tokens (now (tags .entry)) (now (values .entry))) at ≡ got e q → within (valueOf c) e ≡ true → InScope (now (tags .entry)) (now (values .entry)) (now (places .entry)) (now (defs .entry)) (now (has .entry)) s types l node → (metOf (r .met) ≡ faultIn types l node (valueOf c) e) × (r .end ≡ q)) ⌝ }
 {
     let end = needs::leaf_end(tags, values, at);
     if 0 < end {
-        return Walked {
+        return MetTo {
             met: Met::Nothing,
             end: end,
         };
@@ -251,10 +252,10 @@ fn operand_fault(
 }
 
 // What so many operands meet, the first on the clock `here`, the others on `rest`.
-pub fn exprs_fault(
+fn exprs_fault(
     tags: &[u8],
     values: &[u32],
-    places: &[usize; 16],
+    places: &[usize; MOST_NODES],
     defs: &[usize; 32],
     has: &[u8; 32],
     s: Scope,
@@ -263,7 +264,7 @@ pub fn exprs_fault(
     gap: Gap,
     count: u32,
     at: usize,
-) -> Walked
+) -> MetTo
     requires { ⌜ length (now values) ≡ length (now tags) ⌝ }
     requires { ⌜ (s .nodes ≤ 16) × (s .types ≤ 32) ⌝ }
     ensures { λ r. ⌜ ((es : Exprs) (q : ℕ) (types : List TypeDef) (l : List Node) (node : Node) → spread (s .names) gap count (tree (s .names)) (tokens (now (tags .entry)) (now (values .entry))) at ≡ got es q → withins (valueOf here) (valueOf rest) es ≡ true → InScope (now (tags .entry)) (now (values .entry)) (now (places .entry)) (now (defs .entry)) (now (has .entry)) s types l node → (metOf (r .met) ≡ faultAmong types l node (valueOf here) (valueOf rest) es) × (r .end ≡ q)) ⌝ }
@@ -288,14 +289,14 @@ pub fn exprs_fault(
         on = rest;
         left -= 1;
     }
-    Walked {
+    MetTo {
         met: met,
         end: from,
     }
 }
 
 // What the default of a left name meets.
-pub fn left_fault(
+fn left_fault(
     tags: &[u8],
     values: &[u32],
     defs: &[usize; 32],
@@ -322,7 +323,7 @@ pub fn left_fault(
 }
 
 // What the defaults of so many left names meet.
-pub fn lefts_fault(
+fn lefts_fault(
     tags: &[u8],
     values: &[u32],
     defs: &[usize; 32],
@@ -346,7 +347,7 @@ pub fn lefts_fault(
 }
 
 // What an equation meets under the flag of its clock, by its left names and what its right side is after rewriting.
-pub fn flagged_fault(
+fn flagged_fault(
     tags: &[u8],
     values: &[u32],
     defs: &[usize; 32],
@@ -373,10 +374,10 @@ pub fn flagged_fault(
 }
 
 // What an equation on this clock meets: its right side, then what the flag of its clock needs.
-pub fn right_fault(
+fn right_fault(
     tags: &[u8],
     values: &[u32],
-    places: &[usize; 16],
+    places: &[usize; MOST_NODES],
     defs: &[usize; 32],
     has: &[u8; 32],
     s: Scope,
@@ -403,7 +404,7 @@ pub fn right_fault(
 
 // This fault, in this equation.
 fn found_in(equation: usize, fault: Fault) -> FirstFault
-    ensures { λ r. ⌜ toldOf r ≡ some (record { equation = equation; fault = faultOf fault }) ⌝ }
+    ensures { λ r. ⌜ firstFaultOf r ≡ some (record { equation = equation; fault = faultOf fault }) ⌝ }
 {
     FirstFault {
         found: true,
@@ -414,7 +415,7 @@ fn found_in(equation: usize, fault: Fault) -> FirstFault
 
 // No fault, or the one that is met in this equation.
 fn told(equation: usize, m: Met) -> FirstFault
-    ensures { λ r. ⌜ toldOf r ≡ metAt equation (metOf m) ⌝ }
+    ensures { λ r. ⌜ firstFaultOf r ≡ metAt equation (metOf m) ⌝ }
 {
     match m {
         Met::Nothing => {
@@ -437,7 +438,7 @@ fn told(equation: usize, m: Met) -> FirstFault
 pub fn first_fault(
     tags: &[u8],
     values: &[u32],
-    places: &[usize; 16],
+    places: &[usize; MOST_NODES],
     defs: &[usize; 32],
     has: &[u8; 32],
     env: &[u32],
@@ -446,7 +447,7 @@ pub fn first_fault(
 ) -> FirstFault
     requires { ⌜ length (now values) ≡ length (now tags) ⌝ }
     requires { ⌜ (s .nodes ≤ 16) × (s .types ≤ 32) ⌝ }
-    ensures { λ r. ⌜ ((types : List TypeDef) (l : List Node) (node : Node) (clocks : Clocks) (cs : List Clocked) → InScope (now (tags .entry)) (now (values .entry)) (now (places .entry)) (now (defs .entry)) (now (has .entry)) s types l node → Agrees (now (env .entry)) (s .names) clocks → clockedBy clocks (node .equations) ≡ formed cs → withinAll cs ≡ true → toldOf r ≡ oldFault types l node condact 0 cs) ⌝ }
+    ensures { λ r. ⌜ ((types : List TypeDef) (l : List Node) (node : Node) (clocks : Clocks) (cs : List Clocked) → InScope (now (tags .entry)) (now (values .entry)) (now (places .entry)) (now (defs .entry)) (now (has .entry)) s types l node → Agrees (now (env .entry)) (s .names) clocks → clockedBy clocks (node .equations) ≡ formed cs → withinAll cs ≡ true → firstFaultOf r ≡ oldFault types l node condact 0 cs) ⌝ }
 {
     let layout = s.layout;
     let names = s.names;

@@ -18,9 +18,6 @@ use Rattle.operands.proofs.Roles.{Among}
 use Rattle.callees.specs.Callees.{isThere}
 use Rattle.stateless.specs.Yield.{shapeAfter}
 
-pub not-before : (at first place : ℕ) → at < first → first ≤ place → place ≤ at → ⊥
-not-before at first place h i j = omega arith
-
 -- the roles other than `Name`, `Sample` and `Call`
 abbrev still : List ℕ
 still = 0 ∷ 3 ∷ 4 ∷ 5 ∷ 7 ∷ 8 ∷ []

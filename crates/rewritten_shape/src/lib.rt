@@ -2,6 +2,7 @@
 // `places` has the places of the sheet's nodes, `nodes` is how many there are; `names` is the number of names; `condact` is
 // the id of `condact`.
 use clock::Clock;
+use definitions::MOST_NODES;
 use operands::Role;
 ghost use mathlib.Core.Path.{_≡_};
 ghost use mathlib.Core.List.{List};
@@ -12,7 +13,7 @@ ghost use Rattle.definitions.specs.Tree.{TypeDef, Expr, Exprs, Node};
 ghost use Rattle.definitions.specs.Reading.{got};
 ghost use Rattle.clock.specs.Value.{valueOf};
 ghost use Rattle.operands.specs.Spread.{tree};
-ghost use Rattle.callees.specs.Callees.{Standing};
+ghost use Rattle.callees.specs.Callees.{NodesStand};
 ghost use Rattle.stateless.specs.Yield.{shapeAfter};
 ghost use Rattle.rewritten_shape.specs.After.{afterOf};
 
@@ -24,11 +25,11 @@ pub enum After {
 }
 
 // What a call of f on this clock is: on a clock an operator's call is gated.
-pub fn call_after(
+fn call_after(
     tags: &[u8],
     values: &[u32],
     names: u32,
-    places: &[usize; 16],
+    places: &[usize; MOST_NODES],
     nodes: usize,
     condact: u32,
     c: Clock,
@@ -36,7 +37,7 @@ pub fn call_after(
 ) -> After
     requires { ⌜ length (now values) ≡ length (now tags) ⌝ }
     requires { ⌜ nodes ≤ 16 ⌝ }
-    ensures { λ r. ⌜ ((es : Exprs) (types : List TypeDef) (l : List Node) (node : Node) → Standing names (now (tags .entry)) (now (values .entry)) (now (places .entry)) nodes l → afterOf r ≡ shapeAfter types l node condact (valueOf c) (Expr.call f es)) ⌝ }
+    ensures { λ r. ⌜ ((es : Exprs) (types : List TypeDef) (l : List Node) (node : Node) → NodesStand names (now (tags .entry)) (now (values .entry)) (now (places .entry)) nodes l → afterOf r ≡ shapeAfter types l node condact (valueOf c) (Expr.call f es)) ⌝ }
 {
     let plain = clock::is_base(c);
     if plain {
@@ -54,7 +55,7 @@ pub fn shape_after(
     tags: &[u8],
     values: &[u32],
     names: u32,
-    places: &[usize; 16],
+    places: &[usize; MOST_NODES],
     nodes: usize,
     condact: u32,
     c: Clock,
@@ -62,16 +63,16 @@ pub fn shape_after(
 ) -> After
     requires { ⌜ length (now values) ≡ length (now tags) ⌝ }
     requires { ⌜ nodes ≤ 16 ⌝ }
-    ensures { λ r. ⌜ ((e : Expr) (q : ℕ) (types : List TypeDef) (l : List Node) (node : Node) → tree names (tokens (now (tags .entry)) (now (values .entry))) at ≡ got e q → Standing names (now (tags .entry)) (now (values .entry)) (now (places .entry)) nodes l → afterOf r ≡ shapeAfter types l node condact (valueOf c) e) ⌝ }
+    ensures { λ r. ⌜ ((e : Expr) (q : ℕ) (types : List TypeDef) (l : List Node) (node : Node) → tree names (tokens (now (tags .entry)) (now (values .entry))) at ≡ got e q → NodesStand names (now (tags .entry)) (now (values .entry)) (now (places .entry)) nodes l → afterOf r ≡ shapeAfter types l node condact (valueOf c) e) ⌝ }
 {
     let v = operands::view_at(tags, values, names, at);
     let first = v.first;
     let gap = v.gap;
     let role = v.role;
-    let place = operands::operand_at(tags, gap, first);
-    if place <= at {
+    if first <= at {
         return After::Other;
     }
+    let place = operands::operand_at(tags, gap, first);
     match role {
         Role::Name(_) => After::Bare,
         Role::Sample(_) => {

@@ -10,11 +10,11 @@ use lib.Seq.{getD-append-seam}
 use lib.Dec.{ltb}
 use borrow.Author.Tests.{ltb-true, ltb-false}
 use Rattle.definitions.specs.Lists.{choose, any, placeBy}
-use Rattle.definitions.specs.Clock.{Clock, base, _/_, sameClock}
+use Rattle.definitions.specs.Clock.{Clock, base, _↓_, sameClock}
 use Rattle.definitions.specs.Declock.{clockPlace, add, addWithParents}
 use Rattle.clock.proofs.Laws.{clock-same}
 use Rattle.flat.specs.Flat.{clockIn}
-use Rattle.rows.specs.Rows.{clocksIn, Has}
+use Rattle.rows.specs.Rows.{clocksIn, RowsHold}
 use Rattle.rows.proofs.Laws.{from-at, length-from, has-all}
 
 -- each clock's place is its own
@@ -65,10 +65,10 @@ distinct-add c cs d = go (any (sameClock c) cs) refl
 pub distinct-parents : (c : Clock) (cs : List Clock) → Distinct cs → Distinct (addWithParents c cs)
 unfolding addWithParents
 distinct-parents base cs d = d
-distinct-parents (c / k) cs d = distinct-add (c / k) (addWithParents c cs) (distinct-parents c cs d)
+distinct-parents (c ↓ k) cs d = distinct-add (c ↓ k) (addWithParents c cs) (distinct-parents c cs d)
 
 -- the clock in row i of a table that holds them all has the place i
-pub row-place : (t : List ℕ) (n : ℕ) (cs : List Clock) → 17 * n ≤ length t → Has t n cs → Distinct cs → (i : ℕ) → i < n → clockPlace (clockIn t (17 * i)) cs ≡ i
+pub row-place : (t : List ℕ) (n : ℕ) (cs : List Clock) → 17 * n ≤ length t → RowsHold t n cs → Distinct cs → (i : ℕ) → i < n → clockPlace (clockIn t (17 * i)) cs ≡ i
 row-place t n cs l h d i u =
     let e : clocksIn t n ≡ cs = has-all t n cs l h in
     let m : length cs ≡ n = ap length (sym e) ∙ length-from t 0 n in

@@ -2,23 +2,21 @@
 -- Assumes nothing.
 use mathlib.Core.Path.{_≡_, refl, sym, _∙_, ap}
 use mathlib.Core.List.{List, [], _∷_, _++_}
-use mathlib.Core.Bool.{Bool, true, false, _||_}
-use mathlib.Core.Logic.{_⊎_, inl, inr}
+use mathlib.Core.Bool.{Bool, true, false, true≢false, _||_}
+use mathlib.Core.Logic.{inl, inr}
 use Prim.Native.Nat.{ℕ, zero, suc, _+_, _-_, _*_, _≤_, _<_}
 use native.Mathlib.Omega.{arith}
 use native.Mathlib.Numerals.{add-one, sub-one}
 use lib.ListN.{length, getD, length-append}
-use lib.Dec.{eqb, ltb}
-use borrow.Author.Tests.{lt-ltb, le-ltb}
 use Rattle.definitions.specs.declared.Condition.{Condition}
 use Rattle.definitions.specs.Lists.{choose, any, placeBy}
-use Rattle.definitions.specs.Clock.{Clock, base, _/_, sameClock}
+use Rattle.definitions.specs.Clock.{Clock, base, _↓_, sameCondition, sameClock, endsIn}
 use Rattle.definitions.specs.Declock.{clockPlace, add, addWithParents}
-use Rattle.clock.specs.Value.{clockAt, capped}
-use Rattle.clock.proofs.Laws.{base-at}
-use Rattle.flat.specs.Flat.{clockIn}
-use Rattle.flat.proofs.Laws.{Within, clock-same, clock-more}
-use Rattle.rows.specs.Rows.{clocksFrom, clocksIn, Has}
+use Rattle.clock.specs.Value.{clockAt}
+use Rattle.clock.proofs.Laws.{base-at, last-at, condition-same, same-clock}
+use Rattle.flat.specs.Flat.{conditionAt, conditionsFrom, depthIn, clockIn}
+use Rattle.flat.proofs.Laws.{at-from, Within, clock-same, clock-more}
+use Rattle.rows.specs.Rows.{clocksFrom, clocksIn, RowsHold}
 
 -- ---- the clocks of rows
 module _ (t : List ℕ) where
@@ -59,6 +57,21 @@ unfolding clocksFrom
 from-same t t′ i zero h = refl
 from-same t t′ i (suc n) h =
     rw (clock-same t t′ (17 * i) (λ k u v. h k (omega arith)), from-same t t′ (i + 1) n (λ k u. h k (omega arith)))
+
+-- ---- another clock
+module _ (t : List ℕ) (b d : ℕ) where
+  last-in : depthIn t b ≡ d → (d ≡ 0 → ⊥) → clockIn t b ≡ clockAt (conditionsFrom t (b + 1) 8) (d - 1) ↓ conditionAt t (b + 2 * d - 1)
+  last-in e z =
+      let p : b + 1 + 2 * (d - 1) ≡ b + 2 * d - 1 = omega arith in
+      rw e (last-at (conditionsFrom t (b + 1) 8) d z ∙ rw (at-from t (b + 1) 8 (d - 1) (omega arith), p))
+
+  -- a clock that ends otherwise
+  pub ends-other : (c : Clock) (k : Condition) → k ≡ conditionAt t (b + 2 * d - 1) → depthIn t b ≡ d → (d ≡ 0 → ⊥) → endsIn k c ≡ false → sameClock c (clockIn t b) ≡ false
+  ends-other c k i e z h = go (sameClock c (clockIn t b)) refl
+    where
+      go : (s : Bool) → sameClock c (clockIn t b) ≡ s → s ≡ false
+      go false s = refl
+      go true s = absurd (true≢false (sym (condition-same k) ∙ (ap (λ (l : Condition). sameCondition k l) i ∙ (ap (endsIn k) (sym (same-clock c (clockIn t b) s ∙ last-in e z)) ∙ h))))
 
 -- ---- the place of a clock
 module _ (t : List ℕ) (c : Clock) (n i : ℕ) where
@@ -117,22 +130,22 @@ module _ (t : List ℕ) (n : ℕ) (c : Clock) (p : ℕ) (e : p ≡ clockPlace c 
   absent l = any-absent (sameClock c) (clocksIn t n) (omega (arith, length-from t 0 n))
 
 -- ---- a table and the clocks that it has
-pub has-none : (t : List ℕ) → Has t 0 []
-unfolding Has clocksFrom
+pub has-none : (t : List ℕ) → RowsHold t 0 []
+unfolding RowsHold clocksFrom
 has-none t = inl (omega arith, refl)
 
 -- what a table that holds them all has
-pub has-all : (t : List ℕ) (n : ℕ) (cs : List Clock) → 17 * n ≤ length t → Has t n cs → clocksIn t n ≡ cs
-unfolding Has
+pub has-all : (t : List ℕ) (n : ℕ) (cs : List Clock) → 17 * n ≤ length t → RowsHold t n cs → clocksIn t n ≡ cs
+unfolding RowsHold
 has-all t n cs l (inl (a, e)) = e
 has-all t n cs l (inr (a, b)) = absurd (omega arith)
 
-pub has-count : (t : List ℕ) (n : ℕ) (cs : List Clock) → 17 * n ≤ length t → Has t n cs → length cs ≡ n
+pub has-count : (t : List ℕ) (n : ℕ) (cs : List Clock) → 17 * n ≤ length t → RowsHold t n cs → length cs ≡ n
 has-count t n cs l h = ap length (sym (has-all t n cs l h)) ∙ length-from t 0 n
 
 -- a count past the room: there are more clocks than rows
-pub has-more : (t : List ℕ) (n : ℕ) (cs : List Clock) → length t < 17 * n → Has t n cs → length t < 17 * length cs
-unfolding Has
+pub has-more : (t : List ℕ) (n : ℕ) (cs : List Clock) → length t < 17 * n → RowsHold t n cs → length t < 17 * length cs
+unfolding RowsHold
 has-more t n cs l (inl (a, e)) = absurd (omega arith)
 has-more t n cs l (inr (a, b)) = b
 
@@ -144,18 +157,18 @@ length-add c cs = go (any (sameClock c) cs)
     go false = omega (arith, length-append cs (c ∷ []))
 
 module _ (t : List ℕ) (n : ℕ) (c : Clock) (cs : List Clock) where
-  pub has-over : length t < 17 * n → Has t n cs → Has t n (add c cs)
-  unfolding Has
+  pub has-over : length t < 17 * n → RowsHold t n cs → RowsHold t n (add c cs)
+  unfolding RowsHold
   has-over h (inl (a, e)) = absurd (omega arith)
   has-over h (inr (a, b)) = inr (a, omega (arith, length-add c cs))
 
-  pub has-found : 17 * n ≤ length t → any (sameClock c) (clocksIn t n) ≡ true → Has t n cs → Has t n (add c cs)
-  unfolding Has
+  pub has-found : 17 * n ≤ length t → any (sameClock c) (clocksIn t n) ≡ true → RowsHold t n cs → RowsHold t n (add c cs)
+  unfolding RowsHold
   has-found room h (inl (a, e)) = let f : any (sameClock c) cs ≡ true = ap (any (sameClock c)) (sym e) ∙ h in inl (a, rw f e)
   has-found room h (inr (a, b)) = absurd (omega arith)
 
-  pub has-full : 17 * n ≤ length t → length t < 17 * (n + 1) → any (sameClock c) (clocksIn t n) ≡ false → Has t n cs → Has t (n + 1) (add c cs)
-  unfolding Has
+  pub has-full : 17 * n ≤ length t → length t < 17 * (n + 1) → any (sameClock c) (clocksIn t n) ≡ false → RowsHold t n cs → RowsHold t (n + 1) (add c cs)
+  unfolding RowsHold
   has-full room full h (inl (a, e)) =
       let f : any (sameClock c) cs ≡ false = ap (any (sameClock c)) (sym e) ∙ h in
       let k : length cs ≡ n = ap length (sym e) ∙ length-from t 0 n in
@@ -163,8 +176,8 @@ module _ (t : List ℕ) (n : ℕ) (c : Clock) (cs : List Clock) where
   has-full room full h (inr (a, b)) = absurd (omega arith)
 
   -- a clock that was not there is stored in the next row
-  pub has-stored : (t′ : List ℕ) → 17 * n + 17 ≤ length t → length t′ ≡ length t → clockIn t′ (17 * n) ≡ c → Within t t′ (17 * n) 17 → any (sameClock c) (clocksIn t n) ≡ false → Has t n cs → Has t′ (n + 1) (add c cs)
-  unfolding Has
+  pub has-stored : (t′ : List ℕ) → 17 * n + 17 ≤ length t → length t′ ≡ length t → clockIn t′ (17 * n) ≡ c → Within t t′ (17 * n) 17 → any (sameClock c) (clocksIn t n) ≡ false → RowsHold t n cs → RowsHold t′ (n + 1) (add c cs)
+  unfolding RowsHold
   has-stored t′ room len row same gone (inl (a, e)) =
       let f : any (sameClock c) cs ≡ false = ap (any (sameClock c)) (sym e) ∙ gone in
       let o : 0 + n ≡ n = omega arith in

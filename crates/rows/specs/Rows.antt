@@ -17,5 +17,5 @@ abbrev pub clocksIn : List ℕ → ℕ → List Clock
 clocksIn t n = clocksFrom t 0 n
 
 -- the first n rows are these clocks; or there are more clocks than rows, and n says so
-unfoldable pub Has : List ℕ → ℕ → List Clock → Type 0
-Has t n cs = ((17 * n ≤ length t) × (clocksIn t n ≡ cs)) ⊎ ((length t < 17 * n) × (length t < 17 * length cs))
+unfoldable pub RowsHold : List ℕ → ℕ → List Clock → Type 0
+RowsHold t n cs = ((17 * n ≤ length t) × (clocksIn t n ≡ cs)) ⊎ ((length t < 17 * n) × (length t < 17 * length cs))

@@ -7,7 +7,7 @@ use Prim.Native.Nat.{ℕ, suc}
 use lib.Dec.{eqb}
 use Rattle.definitions.specs.Lists.{choose}
 use Rattle.definitions.specs.Tree.{Ty, Declared, TypeDef, Expr, Exprs, Node}
-use Rattle.definitions.specs.Clock.{Clock, base, _/_, parent, isOn, isNot, isBase}
+use Rattle.definitions.specs.Clock.{Clock, base, _↓_, parent, isOn, isNot, isBase}
 use Rattle.definitions.specs.Types.{default}
 use Rattle.definitions.specs.InferClocks.{Fault, noDefault, notSingleCall, preUntyped, NodeFault, Clocked}
 use Rattle.definitions.specs.Declock.{State, Rewritten, stopped, done, Rewriter, after, need, Stem, flag, gated, outputDefaults, leftDefault, leftDefaults, callOn, preOn, arrowOn, rewrite, rewrites, Shape, bare, other, calls, shapeOf, stop, operatorOutputs, heldPre, gateSeveral, operandType, lastType, declared, underFlag, rightSide, oldEquations}
@@ -81,13 +81,13 @@ module _ (types : List TypeDef) (nodes : List Node) (node : Node) (new new′ : 
     callOn-alike : (c : Clock) (f : ℕ) (es es′ : Exprs) (s t : State) → eqb f condact ≡ false → eqb f condact′ ≡ false → Alike CallAlike (callOn types nodes new condact node i c f es s) (callOn types nodes new′ condact′ node i c f es′ t)
     unfolding callOn
     callOn-alike base f es es′ s t n n′ = both-done (same n n′)
-    callOn-alike (c / k) f es es′ s t n n′ = ends (operatorOutputs nodes f)
+    callOn-alike (c ↓ k) f es es′ s t n n′ = ends (operatorOutputs nodes f)
       where
         end : Option (List Declared) → Rewritten Expr
-        end u = (elim u as (λ x. Rewriter Expr) [ none ↦ (λ s. done (Expr.call f es) s) | some outputs ↦ (λ s. after (flag new (c / k) s) (λ a s₁. after (outputDefaults types nodes new condact node i f outputs s₁) (λ ds s₂. gated condact a (Expr.call f es) ds s₂))) ]) s
+        end u = (elim u as (λ x. Rewriter Expr) [ none ↦ (λ s. done (Expr.call f es) s) | some outputs ↦ (λ s. after (flag new (c ↓ k) s) (λ a s₁. after (outputDefaults types nodes new condact node i f outputs s₁) (λ ds s₂. gated condact a (Expr.call f es) ds s₂))) ]) s
 
         end′ : Option (List Declared) → Rewritten Expr
-        end′ u = (elim u as (λ x. Rewriter Expr) [ none ↦ (λ s. done (Expr.call f es′) s) | some outputs ↦ (λ s. after (flag new′ (c / k) s) (λ a s₁. after (outputDefaults types nodes new′ condact′ node i f outputs s₁) (λ ds s₂. gated condact′ a (Expr.call f es′) ds s₂))) ]) t
+        end′ u = (elim u as (λ x. Rewriter Expr) [ none ↦ (λ s. done (Expr.call f es′) s) | some outputs ↦ (λ s. after (flag new′ (c ↓ k) s) (λ a s₁. after (outputDefaults types nodes new′ condact′ node i f outputs s₁) (λ ds s₂. gated condact′ a (Expr.call f es′) ds s₂))) ]) t
 
         ends : (u : Option (List Declared)) → Alike CallAlike (end u) (end′ u)
         ends none = both-done (same n n′)
@@ -120,7 +120,7 @@ module _ (types : List TypeDef) (nodes : List Node) (node : Node) (new new′ : 
     arrowOn-alike : (c : Clock) (a b a′ b′ : Expr) (s t : State) → Alike CallAlike (arrowOn types nodes new condact node i c a b s) (arrowOn types nodes new′ condact′ node i c a′ b′ t)
     unfolding arrowOn
     arrowOn-alike base a b a′ b′ s t = both-done both-other
-    arrowOn-alike (c / k) a b a′ b′ s t = both-done both-other
+    arrowOn-alike (c ↓ k) a b a′ b′ s t = both-done both-other
 
     mutual
       unfolding rewrite Each
@@ -133,7 +133,7 @@ module _ (types : List TypeDef) (nodes : List Node) (node : Node) (new new′ : 
       rewrite-alike (Expr.arrow x y) c s t o = alike-after _ _ (rewrite-alike x c s t (o .0)) (λ a b s₁ t₁ q. alike-after _ _ (rewrite-alike y c s₁ t₁ (o .1)) (λ d e s₂ t₂ p. arrowOn-alike c a d b e s₂ t₂))
       rewrite-alike (Expr.call f es) c s t o = alike-after _ _ (rewrites-alike es c s t (o .1)) (λ a b s₁ t₁ q. callOn-alike c f a b s₁ t₁ (o .0 .0) (o .0 .1))
       rewrite-alike (Expr.when k e) c s t o = rewrite-alike e (parent c) s t (o .1)
-      rewrite-alike (Expr.merge x y z) c s t o = alike-after _ _ (rewrite-alike y (c / isOn x) s t (o .1)) (λ a b s₁ t₁ q. alike-after _ _ (rewrite-alike z (c / isNot x) s₁ t₁ (o .2)) (λ d e s₂ t₂ p. both-done both-other))
+      rewrite-alike (Expr.merge x y z) c s t o = alike-after _ _ (rewrite-alike y (c ↓ isOn x) s t (o .1)) (λ a b s₁ t₁ q. alike-after _ _ (rewrite-alike z (c ↓ isNot x) s₁ t₁ (o .2)) (λ d e s₂ t₂ p. both-done both-other))
 
       rewrites-alike : (es : Exprs) (c : Clock) (s t : State) → Eachs NotCalled es → Alike Any (rewrites types nodes new condact node i c es s) (rewrites types nodes new′ condact′ node i c es t)
       rewrites-alike Exprs.end c s t o = both-done tt
@@ -164,7 +164,7 @@ module _ (types : List TypeDef) (nodes : List Node) (node : Node) (new new′ : 
     rightSide-alike : (c : Clock) (xs : List ℕ) (e : Expr) (s t : State) → Each NotCalled e → Alike Any (rightSide types nodes new condact node i c xs e s) (rightSide types nodes new′ condact′ node i c xs e t)
     unfolding rightSide
     rightSide-alike base xs e s t o = alike-after _ _ (rewrite-alike e base s t o) (λ a b s₁ t₁ q. both-done tt)
-    rightSide-alike (c / k) xs e s t o = alike-after _ _ (rewrite-alike e (c / k) s t o) (λ a b s₁ t₁ q. underFlag-alike xs _ _ a b _ _ q)
+    rightSide-alike (c ↓ k) xs e s t o = alike-after _ _ (rewrite-alike e (c ↓ k) s t o) (λ a b s₁ t₁ q. underFlag-alike xs _ _ a b _ _ q)
 
   -- the equations
   pub oldEquations-alike : (i : ℕ) (es : List Clocked) (s t : State) → ((e : Clocked) → List·Memᴰ e es → Each NotCalled (e .equation .right))

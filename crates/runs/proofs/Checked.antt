@@ -8,7 +8,7 @@ use lib.Dec.{ltb}
 use Rattle.definitions.specs.declared.Condition.{Condition}
 use Rattle.definitions.specs.Lists.{choose, any, join, numbered}
 use Rattle.definitions.specs.Tree.{Expr, Exprs, Node}
-use Rattle.definitions.specs.Clock.{Clock, base, _/_, parent, depth, deepest, isOn, isNot, sameClock, endsIn}
+use Rattle.definitions.specs.Clock.{Clock, base, _↓_, parent, depth, deepest, isOn, isNot, sameClock, endsIn}
 use Rattle.definitions.specs.InferClocks.{Clocks, clockOf, Fault, Finding, found, site, tooDeep, oneDown, mustBeOn, check, checks, checkLeft, isPort, Clocked, checkEquation, isTooDeep, clockFaults}
 use Rattle.runs.specs.Plain.{Part, reads, callee, computes}
 use Rattle.runs.proofs.Facts.{clock-eq, condition-eq}
@@ -60,14 +60,14 @@ module _ (clocks : Clocks) where
       go none h d e = absurd (Option·none-ne-some d e)
       go (some m) h d e = sym (Option·some-injective m d e) ∙ same m (sameClock m c) refl h
 
-ends-eq : (k : Condition) (c : Clock) → endsIn k c ≡ true → c ≡ parent c / k
+ends-eq : (k : Condition) (c : Clock) → endsIn k c ≡ true → c ≡ parent c ↓ k
 ends-eq k base e = absurd (false≢true e)
-ends-eq k (c / l) e = ap (λ (z : Condition). c / z) (sym (condition-eq k l e))
+ends-eq k (c ↓ l) e = ap (λ (z : Condition). c ↓ z) (sym (condition-eq k l e))
 
-clean-down : (c : Clock) (k : Condition) (f : Clock → List Finding) → Clean (oneDown c k f) → Clean (f (c / k))
+clean-down : (c : Clock) (k : Condition) (f : Clock → List Finding) → Clean (oneDown c k f) → Clean (f (c ↓ k))
 clean-down c k f = go (ltb (depth c) deepest)
   where
-    go : (u : Bool) → Clean (elim u as (λ x. List Finding) [ true ↦ f (c / k) | false ↦ tooDeep ∷ [] ]) → Clean (f (c / k))
+    go : (u : Bool) → Clean (elim u as (λ x. List Finding) [ true ↦ f (c ↓ k) | false ↦ tooDeep ∷ [] ]) → Clean (f (c ↓ k))
     go true h = h
     go false h = absurd h
 
@@ -84,8 +84,8 @@ module _ (clocks : Clocks) (Callable Old : ℕ → Type 0) where
     Ok (Expr.pre e) c = Ok e c
     Ok (Expr.arrow a b) c = Ok a c × Ok b c
     Ok (Expr.call f es) c = Callable f × Oks es c
-    Ok (Expr.when k e) c = (c ≡ parent c / k) × OkName (k .name) (parent c) × Ok e (parent c)
-    Ok (Expr.merge x a b) c = OkName x c × Ok a (c / isOn x) × Ok b (c / isNot x)
+    Ok (Expr.when k e) c = (c ≡ parent c ↓ k) × OkName (k .name) (parent c) × Ok e (parent c)
+    Ok (Expr.merge x a b) c = OkName x c × Ok a (c ↓ isOn x) × Ok b (c ↓ isNot x)
 
     pub Oks : Exprs → Clock → Type 0
     Oks Exprs.end c = Unit {0}
@@ -102,14 +102,14 @@ module _ (clocks : Clocks) (Callable Old : ℕ → Type 0) where
         | true ↦ mustBeOn clocks i (parent c) (k .name) (λ d. Fault.clockNameElsewhere (k .name) d (parent c)) ++ check clocks i (parent c) e
         | false ↦ found (record { equation = i; fault = Fault.whenElsewhere k c }) ∷ r
       ])
-      → (c ≡ parent c / k) × Fits clocks (k .name) (parent c) × Clean (check clocks i (parent c) e)
+      → (c ≡ parent c ↓ k) × Fits clocks (k .name) (parent c) × Clean (check clocks i (parent c) e)
   when-ok i c k e r = go (endsIn k c) refl
     where
       m : List Finding
       m = mustBeOn clocks i (parent c) (k .name) (λ d. Fault.clockNameElsewhere (k .name) d (parent c))
 
       go : (u : Bool) → endsIn k c ≡ u → Clean (elim u as (λ x. List Finding) [ true ↦ m ++ check clocks i (parent c) e | false ↦ found (record { equation = i; fault = Fault.whenElsewhere k c }) ∷ r ])
-          → (c ≡ parent c / k) × Fits clocks (k .name) (parent c) × Clean (check clocks i (parent c) e)
+          → (c ≡ parent c ↓ k) × Fits clocks (k .name) (parent c) × Clean (check clocks i (parent c) e)
       go true q h = (ends-eq k c q, fits clocks i (parent c) (k .name) _ (clean-left m (check clocks i (parent c) e) h), clean-right m (check clocks i (parent c) e) h)
       go false q h = absurd h
 
@@ -133,8 +133,8 @@ module _ (clocks : Clocks) (Callable Old : ℕ → Type 0) where
           let cb : List Finding = oneDown c (isNot x) (λ d. check clocks i d b) in
           let h₁ : Clean (ca ++ cb) = clean-right m (ca ++ cb) h in (
             (o .0, fits clocks i c x _ (clean-left m (ca ++ cb) h)),
-            check-ok a (c / isOn x) (clean-down c _ (λ d. check clocks i d a) (clean-left ca cb h₁)) (o .1),
-            check-ok b (c / isNot x) (clean-down c _ (λ d. check clocks i d b) (clean-right ca cb h₁)) (o .2),
+            check-ok a (c ↓ isOn x) (clean-down c _ (λ d. check clocks i d a) (clean-left ca cb h₁)) (o .1),
+            check-ok b (c ↓ isNot x) (clean-down c _ (λ d. check clocks i d b) (clean-right ca cb h₁)) (o .2),
           )
 
       pub checks-ok : (es : Exprs) (c : Clock) → Clean (checks clocks i c es) → Eachs OldParts es → Oks es c

@@ -8,7 +8,7 @@ use Prim.Native.Nat.{ℕ}
 use lib.Dec.{eqb}
 use Rattle.definitions.specs.Lists.{choose}
 use Rattle.definitions.specs.Tree.{Expr, Exprs, Equation, Node}
-use Rattle.definitions.specs.Clock.{Clock, base, _/_, parent, isOn, isNot}
+use Rattle.definitions.specs.Clock.{Clock, base, _↓_, parent, isOn, isNot}
 use Rattle.definitions.specs.InferClocks.{Clocks, clockOf, formed, natural, naturals, _or_, parentOf, ports, isPort, Clocked, Clocking}
 use Rattle.runs.proofs.Facts.{eqb-eq}
 use Rattle.runs.proofs.Checked.{Fits, OkName, Ok, Oks}
@@ -19,17 +19,17 @@ module _ (φ : Clocks) where
   -- each condition's name, if it has a clock, is on the condition's parent
   abbrev pub Good : Clock → Type 0
   Good base = Unit {0}
-  Good (c / k) = Fits φ (k .name) c × Good c
+  Good (c ↓ k) = Fits φ (k .name) c × Good c
 
   -- where an earlier clock and a final one coincide, the final one is good
   abbrev Common : Clock → Clock → Type 0
   Common base d = Unit {0}
-  Common (c / k) base = Unit {0}
-  Common (c / k) (d / l) = (c / k ≡ d / l → Fits φ (l .name) d) × Common c d
+  Common (c ↓ k) base = Unit {0}
+  Common (c ↓ k) (d ↓ l) = (c ↓ k ≡ d ↓ l → Fits φ (l .name) d) × Common c d
 
   common-good : (c : Clock) → Common c c → Good c
   common-good base h = tt
-  common-good (c / k) h = (h .0 refl, common-good c (h .1))
+  common-good (c ↓ k) h = (h .0 refl, common-good c (h .1))
 
   abbrev Sound : Clocks → Type 0
   Sound cl = (x : ℕ) (m d : Clock) → clockOf cl x ≡ some m → clockOf φ x ≡ some d → Common m d
@@ -65,13 +65,13 @@ module _ (φ : Clocks) where
           over-n P (λ m. Common m c) _ (λ p q. whole p (λ z. o .1 .1) q (o .0)) _
           (or-n P (natural cl e or formed (clockOf cl (k .name))) (formed (some base)) (or-n P (natural cl e) (formed (clockOf cl (k .name))) (natural-common e (parent c) (o .2)) (name-common (k .name) (parent c) (o .1))) (base-n P tt))
         where
-          whole : (p : Clock) → (p / k ≡ parent c / k → Fits φ (k .name) (parent c)) → Common p (parent c) → c ≡ parent c / k → Common (p / k) c
-          whole p f q e = subst⁻¹ (λ (z : Clock). Common (p / k) z) e (f, q)
+          whole : (p : Clock) → (p ↓ k ≡ parent c ↓ k → Fits φ (k .name) (parent c)) → Common p (parent c) → c ≡ parent c ↓ k → Common (p ↓ k) c
+          whole p f q e = subst⁻¹ (λ (z : Clock). Common (p ↓ k) z) e (f, q)
       natural-common (Expr.merge x a b) c o =
           let P : Clock → Type 0 = λ m. Common m c in
           or-n P (formed (clockOf cl x) or parentOf (natural cl a)) (parentOf (natural cl b))
-          (or-n P (formed (clockOf cl x)) (parentOf (natural cl a)) (name-common x c (o .0)) (parent-n (λ m. Common m (c / isOn x)) P (λ m k q. q .1) (natural cl a) (natural-common a (c / isOn x) (o .1))))
-          (parent-n (λ m. Common m (c / isNot x)) P (λ m k q. q .1) (natural cl b) (natural-common b (c / isNot x) (o .2)))
+          (or-n P (formed (clockOf cl x)) (parentOf (natural cl a)) (name-common x c (o .0)) (parent-n (λ m. Common m (c ↓ isOn x)) P (λ m k q. q .1) (natural cl a) (natural-common a (c ↓ isOn x) (o .1))))
+          (parent-n (λ m. Common m (c ↓ isNot x)) P (λ m k q. q .1) (natural cl b) (natural-common b (c ↓ isNot x) (o .2)))
 
       naturals-common : (es : Exprs) (c : Clock) → Oks φ Callable (λ x. Unit {0}) es c → AllN (λ m. Common m c) (naturals cl es)
       naturals-common Exprs.end c o = none-n (λ m. Common m c)

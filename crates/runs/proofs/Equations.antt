@@ -8,7 +8,7 @@ use native.Mathlib.Omega.{arith}
 use lib.ListN.{length}
 use Rattle.definitions.specs.declared.Condition.{Condition}
 use Rattle.definitions.specs.Tree.{TypeDef, Expr, Exprs, Equation, Node}
-use Rattle.definitions.specs.Clock.{Clock, base, _/_, isBase}
+use Rattle.definitions.specs.Clock.{Clock, base, _↓_, isBase}
 use Rattle.definitions.specs.InferClocks.{Clocks, clockOf, formed, natural, Clocked, orBase}
 use Rattle.definitions.specs.Declock.{State, Hold, done, clockPlace, Stem, ck, first, hold, rewrite, rewrites, rightSide, oldEquations, ifOf}
 use Rattle.runs.specs.Callees.{isDeclared, isOperator, Callees}
@@ -78,7 +78,7 @@ module _ {Val : Type 0} (types : List TypeDef) (nodes : List Node) (new : Stem �
     (lefts-old : (e : Clocked) → List·Memᴰ e es → (x : ℕ) → List·Memᴰ x (e .equation .left) → Old x)
     (lefts-fit : (e : Clocked) → List·Memᴰ e es → (x : ℕ) → List·Memᴰ x (e .equation .left) → Fits clocks x (e .clock))
     (several : (e : Clocked) → List·Memᴰ e es → isBase (e .clock) ≡ false → CallIfSeveral (e .equation .left) (e .equation .right))
-    (defining : (x : ℕ) (c : Clock) (k : Condition) → clockOf clocks x ≡ some (c / k) → (e : Clocked) × List·Memᴰ e es × List·Memᴰ x (e .equation .left))
+    (defining : (x : ℕ) (c : Clock) (k : Condition) → clockOf clocks x ≡ some (c ↓ k) → (e : Clocked) × List·Memᴰ e es × List·Memᴰ x (e .equation .left))
     (settled : (x : ℕ) → Old x → clockOf clocks x ≡ none → Settled C node clocks x)
     (find : (e : Clocked) → List·Memᴰ e es → Found types nodes new node M C′ P S τ n e)
   where
@@ -170,31 +170,31 @@ module _ {Val : Type 0} (types : List TypeDef) (nodes : List Node) (new : Stem �
     singleKeeps a c fl y f d β h t l o = rw o at (under-flag M σ τ n C′ a c fl y f (Expr.arrow d (Expr.pre (Expr.var y))) β h (suc t) l)
 
     leftKeeps : (i : ℕ) (c : Clock) (k : Condition) (xs : List ℕ) (e : Expr) (s : State) → CallIfSeveral xs e → ((f : ℕ) (es : Exprs) → e ≡ Expr.call f es → Callable C C′ f)
-        → Yields (LeftKeeps (c / k) xs) (rightSide types nodes new here node i (c / k) xs e s)
+        → Yields (LeftKeeps (c ↓ k) xs) (rightSide types nodes new here node i (c ↓ k) xs e s)
     unfolding rightSide
     leftKeeps i c k [] e s call nc = yields-all _ (λ r s′ g β h x m. absurd (List·Memᴰ·not-nil m))
-    leftKeeps i c k (y ∷ []) e s call nc = yields-after {Q = λ f s₁. Unit {0}} _ (yields-all (rewrite types nodes new here node i (c / k) e s) (λ f s₁. tt)) (λ f s₁ z.
-        single-yields types nodes new here node i y (Expr.var (flagName new (c / k) s₁)) f (withFlag (c / k) s₁) (λ d g β h x m t u l o q.
-        rw (List·Memᴰ·eq-of-singleton m) (singleKeeps (flagName new (c / k) s₁) (c / k) (flag-true M σ τ n new S flagged (c / k) s₁ refl g) y f d β h t l o)))
+    leftKeeps i c k (y ∷ []) e s call nc = yields-after {Q = λ f s₁. Unit {0}} _ (yields-all (rewrite types nodes new here node i (c ↓ k) e s) (λ f s₁. tt)) (λ f s₁ z.
+        single-yields types nodes new here node i y (Expr.var (flagName new (c ↓ k) s₁)) f (withFlag (c ↓ k) s₁) (λ d g β h x m t u l o q.
+        rw (List·Memᴰ·eq-of-singleton m) (singleKeeps (flagName new (c ↓ k) s₁) (c ↓ k) (flag-true M σ τ n new S flagged (c ↓ k) s₁ refl g) y f d β h t l o)))
     leftKeeps i c k (y ∷ z ∷ zs) e s call nc =
-        subst⁻¹ (λ (e : Expr). Yields (LeftKeeps (c / k) (y ∷ z ∷ zs)) (rightSide types nodes new here node i (c / k) (y ∷ z ∷ zs) e s)) (call .2)
-        (yields-map (λ r s′ d. gatedKeeps (c / k) (y ∷ z ∷ zs) (call .0) i r s′ refl d)
+        subst⁻¹ (λ (e : Expr). Yields (LeftKeeps (c ↓ k) (y ∷ z ∷ zs)) (rightSide types nodes new here node i (c ↓ k) (y ∷ z ∷ zs) e s)) (call .2)
+        (yields-map (λ r s′ d. gatedKeeps (c ↓ k) (y ∷ z ∷ zs) (call .0) i r s′ refl d)
         (several-gated types nodes new here node i c k y z zs (call .0) (call .1) s (nc (call .0) (call .1) (call .2) .1) (yields-all _ (λ es s₁. tt))))
 
     -- a name on a clock keeps its value between the clock's ticks
-    clockedKeeps : (x : ℕ) (c : Clock) (k : Condition) → clockOf clocks x ≡ some (c / k) → (t s : ℕ) → t < n → last (on M σ (c / k)) (suc t) ≡ some s → τ x t ≡ τ x s
+    clockedKeeps : (x : ℕ) (c : Clock) (k : Condition) → clockOf clocks x ≡ some (c ↓ k) → (t s : ℕ) → t < n → last (on M σ (c ↓ k)) (suc t) ≡ some s → τ x t ≡ τ x s
     unfolding Ok
     clockedKeeps x c k q t s l u =
         let d = defining x c k q in
         let e : Clocked = d .0 in
-        let w : c / k ≡ e .clock = lefts-fit e (d .1) x (d .2) (c / k) q in
+        let w : c ↓ k ≡ e .clock = lefts-fit e (d .1) x (d .2) (c ↓ k) q in
         let b : isBase (e .clock) ≡ false = ap isBase (sym w) in
         let f = find e (d .1) in
-        let is : rightSide types nodes new here node (f .number) (c / k) (e .equation .left) (e .equation .right) (f .before) ≡ done (f .right) (f .next)
+        let is : rightSide types nodes new here node (f .number) (c ↓ k) (e .equation .left) (e .equation .right) (f .before) ≡ done (f .right) (f .next)
         = subst⁻¹ (λ (j : Clock). rightSide types nodes new here node (f .number) j (e .equation .left) (e .equation .right) (f .before) ≡ done (f .right) (f .next)) w (f .is) in
         let callable : (g : ℕ) (ds : Exprs) → e .equation .right ≡ Expr.call g ds → Callable C C′ g = λ g ds h. subst (λ (u : Expr). Ok clocks (Callable C C′) Old u (e .clock)) h (okay e (d .1)) .0 in
         let keep = yielded (f .right) (f .next) is (leftKeeps (f .number) c k (e .equation .left) (e .equation .right) (f .before) (several e (d .1) b) callable) in
-        kept (on M σ (c / k)) (τ x) n (keep (f .leads) (f .unset) (f .holds) x (d .2)) t s l u
+        kept (on M σ (c ↓ k)) (τ x) n (keep (f .leads) (f .unset) (f .holds) x (d .2)) t s l u
 
     -- what a name read on clock c keeps between the ticks of c
     keeps : (x : ℕ) (c : Clock) → OkName clocks (Callable C C′) Old x c → (t s : ℕ) → t < n → last (on M σ c) (suc t) ≡ some s → τ x t ≡ τ x s
@@ -203,7 +203,7 @@ module _ {Val : Type 0} (types : List TypeDef) (nodes : List Node) (new : Stem �
       where
         clocked : (d : Clock) → clockOf clocks x ≡ some d → c ≡ d → τ x t ≡ τ x s
         clocked base e u = ap (τ x) (Option·some-injective t s (rw u at q))
-        clocked (d / k) e u = clockedKeeps x d k e t s l (rw u at q)
+        clocked (d ↓ k) e u = clockedKeeps x d k e t s l (rw u at q)
 
         go : (v : Option Clock) → clockOf clocks x ≡ v → τ x t ≡ τ x s
         go none e = nameConst x (settled x (o .0) e) (o .0) t s l (omega (arith, last-true (on M σ c) (suc t) s q .0))
@@ -222,31 +222,31 @@ module _ {Val : Type 0} (types : List TypeDef) (nodes : List Node) (new : Stem �
         base-on : (t : ℕ) → on M τ base t ≡ true
         base-on t = refl
 
-    sourceSeveral : (i : ℕ) (c : Clock) (k : Condition) (x y : ℕ) (xs : List ℕ) (f : ℕ) (es : Exprs) (s : State) → Ok clocks (Callable C C′) Old (Expr.call f es) (c / k) → ((z : ℕ) → List·Memᴰ z (x ∷ y ∷ xs) → Old z)
-        → Yields (Source (c / k) (x ∷ y ∷ xs) (Expr.call f es)) (rightSide types nodes new here node i (c / k) (x ∷ y ∷ xs) (Expr.call f es) s)
+    sourceSeveral : (i : ℕ) (c : Clock) (k : Condition) (x y : ℕ) (xs : List ℕ) (f : ℕ) (es : Exprs) (s : State) → Ok clocks (Callable C C′) Old (Expr.call f es) (c ↓ k) → ((z : ℕ) → List·Memᴰ z (x ∷ y ∷ xs) → Old z)
+        → Yields (Source (c ↓ k) (x ∷ y ∷ xs) (Expr.call f es)) (rightSide types nodes new here node i (c ↓ k) (x ∷ y ∷ xs) (Expr.call f es) s)
     unfolding Ok
     sourceSeveral i c k x y xs f es s ok old = yields-map (λ r s′ d g β h.
-        let a : ℕ = flagName new (c / k) (d .before) in
-        let g₁ : Leads (withFlag (c / k) (d .before)) S = leads-trans (withFlag (c / k) (d .before)) s′ S (d .leads) g in
-        let fl : Flags M σ τ n a (c / k) = flag-true M σ τ n new S flagged (c / k) (d .before) refl g₁ in
-        let p = d .known (leads-trans (d .before) (withFlag (c / k) (d .before)) S (leads-flag (c / k) (d .before)) g₁) in
-        let w : Same M C C′ operators σ τ n (Expr.call f es) (c / k) r β
-        = rw (d .is) (callGated M C C′ operators σ τ n f es (d .arguments) (d .defaults) (c / k) a β (ok .0) fl (p .1 (in₀ (in₁ β)))) in
-        taken (x ∷ y ∷ xs) (Expr.call f es) r (c / k) β old h w)
-        (several-gated types nodes new here node i c k x y xs f es s (ok .0 .1) (mains M C C′ operators σ τ n types nodes new node kinds clocks Old S agree flagged firsted held keeps i es (c / k) s (ok .1)))
+        let a : ℕ = flagName new (c ↓ k) (d .before) in
+        let g₁ : Leads (withFlag (c ↓ k) (d .before)) S = leads-trans (withFlag (c ↓ k) (d .before)) s′ S (d .leads) g in
+        let fl : Flags M σ τ n a (c ↓ k) = flag-true M σ τ n new S flagged (c ↓ k) (d .before) refl g₁ in
+        let p = d .known (leads-trans (d .before) (withFlag (c ↓ k) (d .before)) S (leads-flag (c ↓ k) (d .before)) g₁) in
+        let w : Same M C C′ operators σ τ n (Expr.call f es) (c ↓ k) r β
+        = rw (d .is) (callGated M C C′ operators σ τ n f es (d .arguments) (d .defaults) (c ↓ k) a β (ok .0) fl (p .1 (in₀ (in₁ β)))) in
+        taken (x ∷ y ∷ xs) (Expr.call f es) r (c ↓ k) β old h w)
+        (several-gated types nodes new here node i c k x y xs f es s (ok .0 .1) (mains M C C′ operators σ τ n types nodes new node kinds clocks Old S agree flagged firsted held keeps i es (c ↓ k) s (ok .1)))
 
     sourceAt : (i : ℕ) (c : Clock) (xs : List ℕ) (e : Expr) (s : State) → Ok clocks (Callable C C′) Old e c → ((x : ℕ) → List·Memᴰ x xs → Old x) → (isBase c ≡ false → CallIfSeveral xs e)
         → Yields (Source c xs e) (rightSide types nodes new here node i c xs e s)
     unfolding rightSide Holds takes
     sourceAt i base xs e s ok old call = yields-after _ (main M C C′ operators σ τ n types nodes new node kinds clocks Old S agree flagged firsted held keeps i e base s ok) (λ f s₁ p. yields (λ g β h. taken xs e f base β old h (p g .1 β)))
-    sourceAt i (c / k) [] e s ok old call = yields-all _ (λ r s′ g β h. (β, λ t l o. tt))
-    sourceAt i (c / k) (x ∷ []) e s ok old call = yields-after _ (main M C C′ operators σ τ n types nodes new node kinds clocks Old S agree flagged firsted held keeps i e (c / k) s ok) (λ f s₁ p.
-        single-yields types nodes new here node i x (Expr.var (flagName new (c / k) s₁)) f (withFlag (c / k) s₁) (λ d g β h.
-        let w = p (leads-trans s₁ (withFlag (c / k) s₁) S (leads-flag (c / k) s₁) g) .1 (in₀ (in₁ β)) in
-        (w .0, λ t l o. agree x (old x (List·Memᴰ·head refl)) t ∙ (rw o at (under-flag M σ τ n C′ (flagName new (c / k) s₁) (c / k) (flag-true M σ τ n new S flagged (c / k) s₁ refl g) x f (Expr.arrow d (Expr.pre (Expr.var x))) β h t l) ∙ sym (w .1 t l o)))))
-    sourceAt i (c / k) (x ∷ y ∷ xs) e s ok old call =
+    sourceAt i (c ↓ k) [] e s ok old call = yields-all _ (λ r s′ g β h. (β, λ t l o. tt))
+    sourceAt i (c ↓ k) (x ∷ []) e s ok old call = yields-after _ (main M C C′ operators σ τ n types nodes new node kinds clocks Old S agree flagged firsted held keeps i e (c ↓ k) s ok) (λ f s₁ p.
+        single-yields types nodes new here node i x (Expr.var (flagName new (c ↓ k) s₁)) f (withFlag (c ↓ k) s₁) (λ d g β h.
+        let w = p (leads-trans s₁ (withFlag (c ↓ k) s₁) S (leads-flag (c ↓ k) s₁) g) .1 (in₀ (in₁ β)) in
+        (w .0, λ t l o. agree x (old x (List·Memᴰ·head refl)) t ∙ (rw o at (under-flag M σ τ n C′ (flagName new (c ↓ k) s₁) (c ↓ k) (flag-true M σ τ n new S flagged (c ↓ k) s₁ refl g) x f (Expr.arrow d (Expr.pre (Expr.var x))) β h t l) ∙ sym (w .1 t l o)))))
+    sourceAt i (c ↓ k) (x ∷ y ∷ xs) e s ok old call =
         let d = call refl in
-        subst⁻¹ (λ (e : Expr). Ok clocks (Callable C C′) Old e (c / k) → Yields (Source (c / k) (x ∷ y ∷ xs) e) (rightSide types nodes new here node i (c / k) (x ∷ y ∷ xs) e s)) (d .2)
+        subst⁻¹ (λ (e : Expr). Ok clocks (Callable C C′) Old e (c ↓ k) → Yields (Source (c ↓ k) (x ∷ y ∷ xs) e) (rightSide types nodes new here node i (c ↓ k) (x ∷ y ∷ xs) e s)) (d .2)
         (λ ok. sourceSeveral i c k x y xs (d .0) (d .1) s ok old) ok
 
     source : (e : Clocked) → List·Memᴰ e es → OneHolds M C σ n e

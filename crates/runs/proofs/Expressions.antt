@@ -10,7 +10,7 @@ use lib.ListN.{length}
 use Rattle.definitions.specs.declared.Condition.{Condition}
 use Rattle.definitions.specs.Lists.{choose}
 use Rattle.definitions.specs.Tree.{Ty, TypeDef, Expr, Exprs, Equation, Node}
-use Rattle.definitions.specs.Clock.{Clock, base, _/_, parent, isOn, isNot, isBase}
+use Rattle.definitions.specs.Clock.{Clock, base, _↓_, parent, isOn, isNot, isBase}
 use Rattle.definitions.specs.InferClocks.{Clocks}
 use Rattle.definitions.specs.Declock.{State, Hold, clockPlace, Rewritten, Stem, ck, first, hold, rewrite, rewrites, preOn, Shape, bare, other, calls, shapeOf, ifOf}
 use Rattle.runs.specs.Callees.{isOperator, Callees}
@@ -207,16 +207,16 @@ module _ {Val : Type 0} (M : Meaning Val) (C C′ : Callees) (operators : (f : �
 
   -- a merge becomes an if on its clock name
   mergeIf : (x : ℕ) (a b a′ b′ : Expr) (c : Clock) (α′ : Unset Val) → ((t : ℕ) → σ x t ≡ τ x t)
-      → Same a (c / isOn x) a′ (in₀ (in₁ α′)) → Same b (c / isNot x) b′ (in₀ (in₁ (in₁ α′)))
+      → Same a (c ↓ isOn x) a′ (in₀ (in₁ α′)) → Same b (c ↓ isNot x) b′ (in₀ (in₁ (in₁ α′)))
       → Same (Expr.merge x a b) c (ifOf (Expr.var x) a′ b′) α′
   unfolding value values on
   mergeIf x a b a′ b′ c α′ agree r q = (joined (α′ []) (r .0) (q .0), λ t l o. go t l o (isTrue (σ x t)) refl ∙ sym (if-law _ _ _ ∙ ap (λ (v : Val). choose (isTrue v) (now a′ (in₀ (in₁ α′)) t) (now b′ (in₀ (in₁ (in₁ α′))) t)) (sym (agree t))))
     where
       va : ℕ → Val
-      va t = was a (r .0) (c / isOn x) t
+      va t = was a (r .0) (c ↓ isOn x) t
 
       vb : ℕ → Val
-      vb t = was b (q .0) (c / isNot x) t
+      vb t = was b (q .0) (c ↓ isNot x) t
 
       go : (t : ℕ) → t < n → on M σ c t ≡ true → (u : Bool) → isTrue (σ x t) ≡ u
           → choose (isTrue (σ x t)) (va t) (vb t) ≡ choose (isTrue (σ x t)) (now a′ (in₀ (in₁ α′)) t) (now b′ (in₀ (in₁ (in₁ α′))) t)
@@ -224,7 +224,7 @@ module _ {Val : Type 0} (M : Meaning Val) (C C′ : Callees) (operators : (f : �
       go t l o false e = rw e (q .1 t l (ap₂ _&&_ o (ap not e)))
 
   -- a tick of a clock is a tick of its parent
-  on-parent : (c : Clock) (k : Condition) (t : ℕ) → on M σ (c / k) t ≡ true → on M σ c t ≡ true
+  on-parent : (c : Clock) (k : Condition) (t : ℕ) → on M σ (c ↓ k) t ≡ true → on M σ c t ≡ true
   unfolding on
   on-parent c k t h = go (on M σ c t) refl h
     where
@@ -233,7 +233,7 @@ module _ {Val : Type 0} (M : Meaning Val) (C C′ : Callees) (operators : (f : �
       go false e q = absurd (false≢true q)
 
   -- a when: each tick of its clock is one of the parent's
-  whenParent : (k : Condition) (e e′ : Expr) (c : Clock) (α′ : Unset Val) → c ≡ parent c / k → Same e (parent c) e′ α′ → Same (Expr.when k e) c e′ α′
+  whenParent : (k : Condition) (e e′ : Expr) (c : Clock) (α′ : Unset Val) → c ≡ parent c ↓ k → Same e (parent c) e′ α′ → Same (Expr.when k e) c e′ α′
   unfolding value
   whenParent k e e′ c α′ q r = (r .0, λ t l u. r .1 t l (on-parent (parent c) k t (rw q at u)))
 
@@ -275,7 +275,7 @@ module _ {Val : Type 0} (M : Meaning Val) (C C′ : Callees) (operators : (f : �
           where
             plain : (d : Clock) → isBase d ≡ true → (f : Expr) (s₁ : State) → Post e d s f s₁ → Post (Expr.pre e) d s (Expr.pre f) s₁
             plain base b f s₁ q g = let r = q g in (r .0, λ β. preBase e f β (r .1 (in₀ β)))
-            plain (d / k) b f s₁ q g = absurd (false≢true b)
+            plain (d ↓ k) b f s₁ q g = absurd (false≢true b)
 
         -- any `pre`
         preStep : (e : Expr) (c : Clock) (s : State) → Ok clocks (Callable C C′) Old e c → Yields (Post e c s) (rewriting c e s) → Yields (Post (Expr.pre e) c s) (rewriting c (Expr.pre e) s)
@@ -292,7 +292,7 @@ module _ {Val : Type 0} (M : Meaning Val) (C C′ : Callees) (operators : (f : �
         -- a `->` on base, and on a clock
         arrowBasePost : (a b : Expr) (c : Clock) (s s₁ s₂ : State) (d e : Expr) → isBase c ≡ true → Post a c s d s₁ → Post b c s₁ e s₂ → Post (Expr.arrow a b) c s (Expr.arrow d e) s₂
         arrowBasePost a b base s s₁ s₂ d e z p q g = let r = q g in let u = p (r .0) in (u .0, λ β. arrowBase a b d e β (u .1 (in₀ β)) (r .1 (in₁ β)))
-        arrowBasePost a b (c / k) s s₁ s₂ d e z p q g = absurd (false≢true z)
+        arrowBasePost a b (c ↓ k) s s₁ s₂ d e z p q g = absurd (false≢true z)
 
         arrowFirstPost : (a b : Expr) (c : Clock) (s s₁ s₂ : State) (d e : Expr) → Post a c s d s₁ → Post b c s₁ e s₂ → Post (Expr.arrow a b) c s (ifOf (Expr.var (firstName new c s₂)) d e) (withFirst c s₂)
         arrowFirstPost a b c s s₁ s₂ d e p q g =
@@ -303,7 +303,7 @@ module _ {Val : Type 0} (M : Meaning Val) (C C′ : Callees) (operators : (f : �
         -- a call on base, and one that was gated
         callBasePost : (f : ℕ) (es fs : Exprs) (c : Clock) (s s₁ : State) → Callable C C′ f → isBase c ≡ true → Posts es c s fs s₁ → Post (Expr.call f es) c s (Expr.call f fs) s₁
         callBasePost f es fs base s s₁ nc b p g = let r = p g in (r .0, λ β. callBase f es fs β nc (r .1 β))
-        callBasePost f es fs (c / k) s s₁ nc b p g = absurd (false≢true b)
+        callBasePost f es fs (c ↓ k) s s₁ nc b p g = absurd (false≢true b)
 
         callGatedPost : (f : ℕ) (es fs ds : Exprs) (c : Clock) (s s₁ : State) → Callable C C′ f → isBase c ≡ false → Posts es c s fs s₁
             → Post (Expr.call f es) c s (gate condact (flagName new c s₁) f fs ds) (withCondact (withFlag c s₁))
@@ -328,8 +328,8 @@ module _ {Val : Type 0} (M : Meaning Val) (C C′ : Callees) (operators : (f : �
               (λ nf g. let r = p g in (r .0, λ β. callPlain f es fs c β (o .0) (kinds f ∙ nf) (r .1 β)))
               (λ b u ds. callGatedPost f es fs ds c s s₁ (o .0) b p))
           main (Expr.when k e) c s o = yields-map (λ e′ s₁ p g. let r = p g in (r .0, λ β. whenParent k e e′ c β (o .0) (r .1 β))) (main e (parent c) s (o .2))
-          main (Expr.merge x a b) c s o = yields-after _ (main a (c / isOn x) s (o .1)) (λ d s₁ p.
-              yields-after _ (main b (c / isNot x) s₁ (o .2)) (λ e s₂ q. yields (λ g.
+          main (Expr.merge x a b) c s o = yields-after _ (main a (c ↓ isOn x) s (o .1)) (λ d s₁ p.
+              yields-after _ (main b (c ↓ isNot x) s₁ (o .2)) (λ e s₂ q. yields (λ g.
               let r = q g in
               let u = p (r .0) in
               (u .0, λ β. mergeIf x a b d e c β (agree x (o .0 .0)) (u .1 (in₀ (in₁ β))) (r .1 (in₀ (in₁ (in₁ β))))))))

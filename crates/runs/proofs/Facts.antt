@@ -5,7 +5,7 @@ use mathlib.Core.List.{List, [], _∷_, _++_, List·Memᴰ, List·Memᴰ·head, 
 use Prim.Native.Nat.{ℕ}
 use lib.Dec.{eqb, eqb-refl}
 use Rattle.definitions.specs.Lists.{any, all}
-use Rattle.definitions.specs.Clock.{Clock, base, _/_, sameTest, sameCondition, sameClock}
+use Rattle.definitions.specs.Clock.{Clock, base, _↓_, sameTest, sameCondition, sameClock}
 use Rattle.definitions.specs.declared.Test.{Test}
 use Rattle.definitions.specs.declared.Condition.{Condition}
 pub use Rattle.shapes.proofs.Facts.{All, T-of, of-T, and-left, and-right, or-left, or-right, eqb-eq, Goes, goes-self, goes-trans, all-app}
@@ -50,16 +50,16 @@ condition-self k = rw (eqb-self (k .name)) (test-self (k .test))
 
 pub clock-eq : (c d : Clock) → sameClock c d ≡ true → c ≡ d
 clock-eq base base e = refl
-clock-eq base (d / l) e = absurd (false≢true e)
-clock-eq (c / k) base e = absurd (false≢true e)
-clock-eq (c / k) (d / l) e =
+clock-eq base (d ↓ l) e = absurd (false≢true e)
+clock-eq (c ↓ k) base e = absurd (false≢true e)
+clock-eq (c ↓ k) (d ↓ l) e =
     let p : k ≡ l = condition-eq k l (and-left (sameCondition k l) (sameClock c d) e) in
     let q : c ≡ d = clock-eq c d (and-right (sameCondition k l) (sameClock c d) e) in
-    λ i. q i / p i
+    λ i. q i ↓ p i
 
 pub clock-self : (c : Clock) → sameClock c c ≡ true
 clock-self base = refl
-clock-self (c / k) = ap₂ _&&_ (condition-self k) (clock-self c)
+clock-self (c ↓ k) = ap₂ _&&_ (condition-self k) (clock-self c)
 
 -- a test that each member passes
 pub all-in : {A : Type 0} (p : A → Bool) (l : List A) → all p l ≡ true → All (λ a. p a ≡ true) l

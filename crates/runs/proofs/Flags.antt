@@ -11,7 +11,7 @@ use Rattle.definitions.specs.declared.Test.{Test}
 use Rattle.definitions.specs.declared.Condition.{Condition}
 use Rattle.definitions.specs.Lists.{choose, numbered, Letters}
 use Rattle.definitions.specs.Tree.{Expr, Equation}
-use Rattle.definitions.specs.Clock.{Clock, base, _/_, inChainOrder}
+use Rattle.definitions.specs.Clock.{Clock, base, _↓_, inChainOrder}
 use Rattle.definitions.specs.Declock.{State, Hold, New, Stem, ck, first, hold, clockPlace, notOf, conditionExpr, activation, firstTick, newLocals}
 use Rattle.runs.specs.Callees.{Callees}
 use Rattle.runs.specs.Run.{Meaning, last, Env, Unset, meets, on, value, values, Holds}
@@ -73,10 +73,10 @@ module _ {Val : Type 0} (M : Meaning Val) (C : Callees) (τ : Env Val) (n : ℕ)
     pub flagged : (c : Clock) → has c (S .flags) ≡ true → Flags M σ τ n (new ck (clockPlace c (S .flags))) c
     unfolding on Holds value values
     flagged base h t l = let r = flag-equation base h in ap isTrue (r .1 t l refl) ∙ one-true
-    flagged (base / k) h t l = let r = flag-equation (base / k) h in ap isTrue (r .1 t l refl) ∙ test k (r .0) t (sound .flags .named (base / k) h .0)
-    flagged (c / j / k) h t l =
-        let r = flag-equation (c / j / k) h in
-        ap isTrue (r .1 t l refl) ∙ (and-law _ _ ∙ ap₂ _&&_ (flagged (c / j) (sound .flags .closed (c / j) k h refl) t l) (test k _ t (sound .flags .named (c / j / k) h .0)))
+    flagged (base ↓ k) h t l = let r = flag-equation (base ↓ k) h in ap isTrue (r .1 t l refl) ∙ test k (r .0) t (sound .flags .named (base ↓ k) h .0)
+    flagged (c ↓ j ↓ k) h t l =
+        let r = flag-equation (c ↓ j ↓ k) h in
+        ap isTrue (r .1 t l refl) ∙ (and-law _ _ ∙ ap₂ _&&_ (flagged (c ↓ j) (sound .flags .closed (c ↓ j) k h refl) t l) (test k _ t (sound .flags .named (c ↓ j ↓ k) h .0)))
 
     pub firsted : (c : Clock) → has c (S .firsts) ≡ true → Firsts M σ τ n (new first (clockPlace c (S .firsts))) c
     unfolding on Holds value values

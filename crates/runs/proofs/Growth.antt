@@ -11,7 +11,7 @@ use lib.ListN.{length}
 use Rattle.definitions.specs.declared.Condition.{Condition}
 use Rattle.definitions.specs.Lists.{choose, any, find}
 use Rattle.definitions.specs.Tree.{Ty, Declared, TypeDef, Expr, Exprs, Node}
-use Rattle.definitions.specs.Clock.{Clock, base, _/_, parent, isOn, isNot, sameClock, isBase}
+use Rattle.definitions.specs.Clock.{Clock, base, _↓_, parent, isOn, isNot, sameClock, isBase}
 use Rattle.definitions.specs.Types.{default}
 use Rattle.definitions.specs.InferClocks.{Fault, preUntyped, Clocked}
 use Rattle.definitions.specs.Declock.{State, nothingNeeded, Hold, Rewritten, done, Rewriter, after, need, clockPlace, add, addWithParents, Stem, ck, first, hold, flag, newHold, gated, outputDefaults, leftDefault, leftDefaults, callOn, preOn, arrowOn, rewrite, rewrites, gateSeveral, underFlag, rightSide, oldEquations, operandType, lastType, declared, operatorOutputs, isOperatorKind, heldPre, Shape, bare, other, calls, shapeOf, stop, ifOf}
@@ -36,7 +36,7 @@ goes-add c cs = go (has c cs)
 pub goes-parents : (c : Clock) (cs : List Clock) → Goes cs (addWithParents c cs)
 unfolding addWithParents
 goes-parents base cs = goes-self cs
-goes-parents (c / k) cs = goes-trans cs (addWithParents c cs) (add (c / k) (addWithParents c cs)) (goes-parents c cs) (goes-add (c / k) (addWithParents c cs))
+goes-parents (c ↓ k) cs = goes-trans cs (addWithParents c cs) (add (c ↓ k) (addWithParents c cs)) (goes-parents c cs) (goes-add (c ↓ k) (addWithParents c cs))
 
 pub has-goes : (c : Clock) (l m : List Clock) → Goes l m → has c l ≡ true → has c m ≡ true
 has-goes c l m g h = ap (has c) (sym (g .1)) ∙ (any-app (sameClock c) l (g .0) ∙ ap (λ (u : Bool). u || has c (g .0)) h)
@@ -51,7 +51,7 @@ has-add c cs = go (has c cs) refl
 pub has-parents : (c : Clock) (cs : List Clock) → isBase c ≡ false → has c (addWithParents c cs) ≡ true
 unfolding addWithParents
 has-parents base cs e = absurd (true≢false e)
-has-parents (c / k) cs e = has-add (c / k) (addWithParents c cs)
+has-parents (c ↓ k) cs e = has-add (c ↓ k) (addWithParents c cs)
 
 -- what is there after adding was there or was added
 add-cases : (c d : Clock) (cs : List Clock) → has d (add c cs) ≡ true → (has d cs ≡ true) ⊎ (d ≡ c)
@@ -82,31 +82,31 @@ place-goes c l m h g = go l h ∙ ap (clockPlace c) (g .1)
 module _ (P : ℕ → Type 0) where
   abbrev pub OfClock : Clock → Type 0
   OfClock base = Unit {0}
-  OfClock (c / k) = P (k .name) × OfClock c
+  OfClock (c ↓ k) = P (k .name) × OfClock c
 
   -- clocks whose parents are there too, made of such names
   pub record SoundClocks (cs : List Clock) : Type 0 where
-    pub closed : (c : Clock) (k : Condition) → has (c / k) cs ≡ true → isBase c ≡ false → has c cs ≡ true
+    pub closed : (c : Clock) (k : Condition) → has (c ↓ k) cs ≡ true → isBase c ≡ false → has c cs ≡ true
     pub named : (c : Clock) → has c cs ≡ true → OfClock c
 
-  sound-add : (c : Clock) (k : Condition) (cs : List Clock) → SoundClocks cs → (isBase c ≡ false → has c cs ≡ true) → OfClock (c / k) → SoundClocks (add (c / k) cs)
-  sound-add c k cs s h o = record { closed = λ d l i e. close d l e (add-cases (c / k) (d / l) cs i); named = λ d i. name d (add-cases (c / k) d cs i) }
+  sound-add : (c : Clock) (k : Condition) (cs : List Clock) → SoundClocks cs → (isBase c ≡ false → has c cs ≡ true) → OfClock (c ↓ k) → SoundClocks (add (c ↓ k) cs)
+  sound-add c k cs s h o = record { closed = λ d l i e. close d l e (add-cases (c ↓ k) (d ↓ l) cs i); named = λ d i. name d (add-cases (c ↓ k) d cs i) }
     where
-      up : (d : Clock) → has d cs ≡ true → has d (add (c / k) cs) ≡ true
-      up d i = has-goes d cs (add (c / k) cs) (goes-add (c / k) cs) i
+      up : (d : Clock) → has d cs ≡ true → has d (add (c ↓ k) cs) ≡ true
+      up d i = has-goes d cs (add (c ↓ k) cs) (goes-add (c ↓ k) cs) i
 
-      close : (d : Clock) (l : Condition) → isBase d ≡ false → (has (d / l) cs ≡ true) ⊎ (d / l ≡ c / k) → has d (add (c / k) cs) ≡ true
+      close : (d : Clock) (l : Condition) → isBase d ≡ false → (has (d ↓ l) cs ≡ true) ⊎ (d ↓ l ≡ c ↓ k) → has d (add (c ↓ k) cs) ≡ true
       close d l e (inl i) = up d (s .closed d l i e)
       close d l e (inr q) = let p : d ≡ c = ap parent q in up d (rw p (h (ap isBase (sym p) ∙ e)))
 
-      name : (d : Clock) → (has d cs ≡ true) ⊎ (d ≡ c / k) → OfClock d
+      name : (d : Clock) → (has d cs ≡ true) ⊎ (d ≡ c ↓ k) → OfClock d
       name d (inl i) = s .named d i
       name d (inr q) = subst⁻¹ OfClock q o
 
   pub sound-parents : (c : Clock) (cs : List Clock) → SoundClocks cs → OfClock c → SoundClocks (addWithParents c cs)
   unfolding addWithParents
   sound-parents base cs s o = s
-  sound-parents (c / k) cs s o = sound-add c k (addWithParents c cs) (sound-parents c cs s (o .1)) (has-parents c cs) o
+  sound-parents (c ↓ k) cs s o = sound-add c k (addWithParents c cs) (sound-parents c cs s (o .1)) (has-parents c cs) o
 
   -- a state is sound: its flags are, and each clock with a first-tick flag has an activation flag
   pub record Sound (s : State) : Type 0 where
@@ -232,10 +232,10 @@ module _ (types : List TypeDef) (nodes : List Node) (new : Stem → ℕ → ℕ)
       → Yields Q (callOn types nodes new condact node i c f es s)
   unfolding callOn operatorOutputs isOperator
   callOn-yields base f es s h₀ h₁ h₂ = yields (h₀ refl)
-  callOn-yields {Q} (c / k) f es s h₀ h₁ h₂ = found (find (λ n. eqb (n .name) f) nodes) h₁ (h₂ refl)
+  callOn-yields {Q} (c ↓ k) f es s h₀ h₁ h₂ = found (find (λ n. eqb (n .name) f) nodes) h₁ (h₂ refl)
     where
       Gated : Type 0
-      Gated = (ds : Exprs) → Q (gate condact (flagName new (c / k) s) f es ds) (withCondact (withFlag (c / k) s))
+      Gated = (ds : Exprs) → Q (gate condact (flagName new (c ↓ k) s) f es ds) (withCondact (withFlag (c ↓ k) s))
 
       isOp : Option Node → Bool
       isOp u = elim u as (λ x. Bool) [ none ↦ false | some n ↦ isOperatorKind (n .kind) ]
@@ -244,10 +244,10 @@ module _ (types : List TypeDef) (nodes : List Node) (new : Stem → ℕ → ℕ)
       outputs u = elim u as (λ x. Option (List Declared)) [ none ↦ none | some n ↦ choose (isOperatorKind (n .kind)) (some (n .outputs)) none ]
 
       end : Option (List Declared) → Rewritten Expr
-      end u = (elim u as (λ x. Rewriter Expr) [ none ↦ (λ s. done (Expr.call f es) s) | some outputs ↦ (λ s. after (flag new (c / k) s) (λ a s₁. after (outputDefaults types nodes new condact node i f outputs s₁) (λ ds s₂. gated condact a (Expr.call f es) ds s₂))) ]) s
+      end u = (elim u as (λ x. Rewriter Expr) [ none ↦ (λ s. done (Expr.call f es) s) | some outputs ↦ (λ s. after (flag new (c ↓ k) s) (λ a s₁. after (outputDefaults types nodes new condact node i f outputs s₁) (λ ds s₂. gated condact a (Expr.call f es) ds s₂))) ]) s
 
       kind : (o : List Declared) (u : Bool) → (u ≡ false → Q (Expr.call f es) s) → (u ≡ true → Gated) → Yields Q (end (choose u (some o) none))
-      kind o true p q = yields-after _ (outputs-same f o (withFlag (c / k) s)) (λ ds s₁ e. yields (rw e (q refl ds)))
+      kind o true p q = yields-after _ (outputs-same f o (withFlag (c ↓ k) s)) (λ ds s₁ e. yields (rw e (q refl ds)))
       kind o false p q = yields (p refl)
 
       found : (u : Option Node) → (isOp u ≡ false → Q (Expr.call f es) s) → (isOp u ≡ true → Gated) → Yields Q (end (outputs u))
@@ -286,7 +286,7 @@ module _ (types : List TypeDef) (nodes : List Node) (new : Stem → ℕ → ℕ)
       → Yields Q (arrowOn types nodes new condact node i c a b s)
   unfolding arrowOn
   arrowOn-yields base a b s h₀ h₁ = yields (h₀ refl)
-  arrowOn-yields (c / k) a b s h₀ h₁ = yields (h₁ refl)
+  arrowOn-yields (c ↓ k) a b s h₀ h₁ = yields (h₁ refl)
 
   -- several left names, or none: the call is gated with their defaults, unless it is `condact` by now
   pub gateSeveral-yields : {Q : Expr → State → Type 0} (xs : List ℕ) (a e : Expr) (s : State)
@@ -327,7 +327,7 @@ module _ (types : List TypeDef) (nodes : List Node) (new : Stem → ℕ → ℕ)
   module _ (i : ℕ) where
     of-parent : (c : Clock) → OfClock P c → OfClock P (parent c)
     of-parent base o = tt
-    of-parent (c / k) o = o .1
+    of-parent (c ↓ k) o = o .1
 
     mutual
       unfolding rewrite Each
@@ -346,8 +346,8 @@ module _ (types : List TypeDef) (nodes : List Node) (new : Stem → ℕ → ℕ)
           callOn-yields types nodes new condact node i c f fs s₁ (λ b. p) (λ b. p)
           (λ b u ds. step-trans P s s₁ _ p (step-trans P s₁ (withFlag c s₁) _ (step-flag P c s₁ o) (step-condact P (withFlag c s₁)))))
       rewrite-steps (Expr.when k e) c s o r = rewrite-steps e (parent c) s (of-parent c o) (r .1)
-      rewrite-steps (Expr.merge x a b) c s o r = yields-after _ (rewrite-steps a (c / isOn x) s (r .0, o) (r .1)) (λ d s₁ p.
-          yields-after _ (rewrite-steps b (c / isNot x) s₁ (r .0, o) (r .2)) (λ e s₂ q. yields (step-trans P s s₁ s₂ p q)))
+      rewrite-steps (Expr.merge x a b) c s o r = yields-after _ (rewrite-steps a (c ↓ isOn x) s (r .0, o) (r .1)) (λ d s₁ p.
+          yields-after _ (rewrite-steps b (c ↓ isNot x) s₁ (r .0, o) (r .2)) (λ e s₂ q. yields (step-trans P s s₁ s₂ p q)))
 
       rewrites-steps : (es : Exprs) (c : Clock) (s : State) → OfClock P c → Eachs (Reads P) es → Steps s (rewrites types nodes new condact node i c es s)
       rewrites-steps Exprs.end c s o r = yields (step-self P s)
@@ -364,9 +364,9 @@ module _ (types : List TypeDef) (nodes : List Node) (new : Stem → ℕ → ℕ)
     pub rightSide-steps : (c : Clock) (xs : List ℕ) (e : Expr) (s : State) → OfClock P c → Each (Reads P) e → Steps s (rightSide types nodes new condact node i c xs e s)
     unfolding rightSide
     rightSide-steps base xs e s o r = yields-after _ (rewrite-steps e base s o r) (λ f s₁ p. yields p)
-    rightSide-steps (c / k) xs e s o r = yields-after _ (rewrite-steps e (c / k) s o r) (λ f s₁ p.
-        yields-map (λ g s₂ q. step-trans P s (withFlag (c / k) s₁) s₂ (step-trans P s s₁ (withFlag (c / k) s₁) p (step-flag P (c / k) s₁ o)) q)
-        (underFlag-steps xs (Expr.var (flagName new (c / k) s₁)) f (withFlag (c / k) s₁)))
+    rightSide-steps (c ↓ k) xs e s o r = yields-after _ (rewrite-steps e (c ↓ k) s o r) (λ f s₁ p.
+        yields-map (λ g s₂ q. step-trans P s (withFlag (c ↓ k) s₁) s₂ (step-trans P s s₁ (withFlag (c ↓ k) s₁) p (step-flag P (c ↓ k) s₁ o)) q)
+        (underFlag-steps xs (Expr.var (flagName new (c ↓ k) s₁)) f (withFlag (c ↓ k) s₁)))
 
   -- the equations
   pub oldEquations-steps : (i : ℕ) (es : List Clocked) (s : State) → ((e : Clocked) → List·Memᴰ e es → OfClock P (e .clock) × Each (Reads P) (e .equation .right))

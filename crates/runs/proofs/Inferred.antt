@@ -10,7 +10,7 @@ use lib.ListN.{length}
 use Rattle.definitions.specs.declared.Condition.{Condition}
 use Rattle.definitions.specs.Lists.{choose, any, among, join, numbered}
 use Rattle.definitions.specs.Tree.{Expr, Exprs, Equation, Node}
-use Rattle.definitions.specs.Clock.{Clock, base, _/_, depth, deepest}
+use Rattle.definitions.specs.Clock.{Clock, base, _↓_, depth, deepest}
 use Rattle.definitions.specs.InferClocks.{Formed, deep, formed, _>>=_, Clocks, clockOf, Natural, natural, naturals, _or_, conditionOver, parentOf, ports, isPort, hasClock, Pass, give, giveNatural, pass, Inferred, passesFrom, inferred, Finding, Clocked, orBase, clockedBy, Clocking, clocking, checkEquation, isTooDeep}
 use Rattle.runs.proofs.Facts.{eqb-eq, eqb-self, eqb-other, or-left}
 use Rattle.runs.proofs.Parts.{Each, Eachs}
@@ -112,20 +112,20 @@ or-n P deep b h g = h
 or-n P (formed none) b h g = g
 or-n P (formed (some c)) b h g = h
 
-pub over-n : (P Q : Clock → Type 0) (k : Condition) → ((c : Clock) → P c → Q (c / k)) → (a : Natural) → AllN P a → AllN Q (conditionOver k a)
+pub over-n : (P Q : Clock → Type 0) (k : Condition) → ((c : Clock) → P c → Q (c ↓ k)) → (a : Natural) → AllN P a → AllN Q (conditionOver k a)
 over-n P Q k w deep h m e = not-deep (some m) e
 over-n P Q k w (formed none) h m e = none-n Q m e
 over-n P Q k w (formed (some c)) h m e = go (ltb (depth c) deepest) m e
   where
-    go : (u : Bool) → AllN Q (choose u (formed (some (c / k))) deep)
-    go true m e = subst Q (Option·some-injective (c / k) m (formed-eq (some (c / k)) (some m) e)) (w c (h c refl))
+    go : (u : Bool) → AllN Q (choose u (formed (some (c ↓ k))) deep)
+    go true m e = subst Q (Option·some-injective (c ↓ k) m (formed-eq (some (c ↓ k)) (some m) e)) (w c (h c refl))
     go false m e = not-deep (some m) e
 
-pub parent-n : (P Q : Clock → Type 0) → ((c : Clock) (k : Condition) → P (c / k) → Q c) → (a : Natural) → AllN P a → AllN Q (parentOf a)
+pub parent-n : (P Q : Clock → Type 0) → ((c : Clock) (k : Condition) → P (c ↓ k) → Q c) → (a : Natural) → AllN P a → AllN Q (parentOf a)
 parent-n P Q w deep h m e = not-deep (some m) e
 parent-n P Q w (formed none) h m e = none-n Q m e
 parent-n P Q w (formed (some base)) h m e = none-n Q m e
-parent-n P Q w (formed (some (c / k))) h m e = subst Q (Option·some-injective c m (formed-eq (some c) (some m) e)) (w c k (h (c / k) refl))
+parent-n P Q w (formed (some (c ↓ k))) h m e = subst Q (Option·some-injective c m (formed-eq (some c) (some m) e)) (w c k (h (c ↓ k) refl))
 
 pub base-n : (P : Clock → Type 0) → P base → AllN P (formed (some base))
 base-n P p m e = subst P (Option·some-injective base m (formed-eq (some base) (some m) e)) p

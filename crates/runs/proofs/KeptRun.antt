@@ -9,7 +9,7 @@ use lib.Dec.{eqb}
 use Rattle.definitions.specs.declared.Condition.{Condition}
 use Rattle.definitions.specs.Lists.{choose}
 use Rattle.definitions.specs.Tree.{Expr, Exprs, Equation}
-use Rattle.definitions.specs.Clock.{Clock, base, _/_, parent, isOn, isNot}
+use Rattle.definitions.specs.Clock.{Clock, base, _↓_, parent, isOn, isNot}
 use Rattle.definitions.specs.InferClocks.{Clocks, clockOf, Clocked}
 use Rattle.runs.specs.Callees.{Callees}
 use Rattle.runs.specs.Run.{Meaning, last, since, Env, Unset, in₀, in₁, meets, on, calledAt, value, values, Holds, AllHold}
@@ -36,7 +36,7 @@ module _ {Val : Type 0} (M : Meaning Val) (C : Callees) (clocks : Clocks) (n : �
     on-same : (c : Clock) → Good clocks c → (t : ℕ) → t < n → on M σ c t ≡ on M τ c t
     unfolding on
     on-same base g t l = refl
-    on-same (c / k) g t l = go (on M σ c t) refl (on-same c (g .1) t l)
+    on-same (c ↓ k) g t l = go (on M σ c t) refl (on-same c (g .1) t l)
       where
         go : (u : Bool) → on M σ c t ≡ u → on M σ c t ≡ on M τ c t → (on M σ c t && meets M (k .test) (σ (k .name) t)) ≡ (on M τ c t && meets M (k .test) (τ (k .name) t))
         go true e h = ap₂ (λ (u : Bool) (v : Val). u && meets M (k .test) v) h (name-same (k .name) c (g .0) t l e)
@@ -71,21 +71,21 @@ module _ {Val : Type 0} (M : Meaning Val) (C : Callees) (clocks : Clocks) (n : �
         (ap (operator f) (soFar-cong (on M σ c) (on M τ c) (λ s. values M C es σ α c s) (λ s. values M C es τ α c s) (suc t) (λ s q. on-same c g s (omega arith)) (λ s q v. h s (omega arith) v)))
         (ap (function f) (h t l o)))
 
-    merge-same : (x : ℕ) (a b : Expr) (c : Clock) (α : Unset Val) → Fits clocks x c → Same a (c / isOn x) (in₀ α) → Same b (c / isNot x) (in₁ α) → Same (Expr.merge x a b) c α
+    merge-same : (x : ℕ) (a b : Expr) (c : Clock) (α : Unset Val) → Fits clocks x c → Same a (c ↓ isOn x) (in₀ α) → Same b (c ↓ isNot x) (in₁ α) → Same (Expr.merge x a b) c α
     unfolding value on
     merge-same x a b c α f h k t l o = go (isTrue (σ x t)) refl ∙ ap (λ (v : Val). choose (isTrue v) (value M C a τ (in₀ α) c₁ t) (value M C b τ (in₁ α) c₂ t)) (name-same x c f t l o)
       where
         c₁ : Clock
-        c₁ = c / isOn x
+        c₁ = c ↓ isOn x
 
         c₂ : Clock
-        c₂ = c / isNot x
+        c₂ = c ↓ isNot x
 
         go : (u : Bool) → isTrue (σ x t) ≡ u → choose (isTrue (σ x t)) (value M C a σ (in₀ α) c₁ t) (value M C b σ (in₁ α) c₂ t) ≡ choose (isTrue (σ x t)) (value M C a τ (in₀ α) c₁ t) (value M C b τ (in₁ α) c₂ t)
         go true e = rw e (h t l (rw (o, e)))
         go false e = rw e (k t l (rw (o, e)))
 
-    when-on : (k : Condition) (c : Clock) (t : ℕ) → c ≡ parent c / k → on M σ c t ≡ true → on M σ (parent c) t ≡ true
+    when-on : (k : Condition) (c : Clock) (t : ℕ) → c ≡ parent c ↓ k → on M σ c t ≡ true → on M σ (parent c) t ≡ true
     unfolding on
     when-on k c t e o = go (on M σ (parent c) t) refl (rw e at o)
       where
@@ -104,7 +104,7 @@ module _ {Val : Type 0} (M : Meaning Val) (C : Callees) (clocks : Clocks) (n : �
       value-same (Expr.arrow a b) c α g o = arrow-same a b c α g (value-same a c (in₀ α) g (o .0)) (value-same b c (in₁ α) g (o .1))
       value-same (Expr.call f es) c α g o = call-same f es c α g (o .0) (values-same es c α g (o .1))
       value-same (Expr.when k e) c α g o = let r = value-same e (parent c) α (subst (λ (z : Clock). Good clocks z) (o .0) g .1) (o .2) in λ t l u. r t l (when-on k c t (o .0) u)
-      value-same (Expr.merge x a b) c α g o = merge-same x a b c α (o .0 .1) (value-same a (c / isOn x) (in₀ α) (o .0 .1, g) (o .1)) (value-same b (c / isNot x) (in₁ α) (o .0 .1, g) (o .2))
+      value-same (Expr.merge x a b) c α g o = merge-same x a b c α (o .0 .1) (value-same a (c ↓ isOn x) (in₀ α) (o .0 .1, g) (o .1)) (value-same b (c ↓ isNot x) (in₁ α) (o .0 .1, g) (o .2))
 
       values-same : (es : Exprs) (c : Clock) (α : Unset Val) → Good clocks c → Oks clocks (NotCondact C) (λ x. Unit {0}) es c → Sames es c α
       values-same Exprs.end c α g o = λ t l u. refl

@@ -9,7 +9,7 @@ use lib.Dec.{eqb}
 use Rattle.definitions.specs.declared.Condition.{Condition}
 use Rattle.definitions.specs.Lists.{choose, among, Letters}
 use Rattle.definitions.specs.Tree.{Declared, TypeDef, Equation, Node}
-use Rattle.definitions.specs.Clock.{Clock, base, _/_, isBase}
+use Rattle.definitions.specs.Clock.{Clock, base, _↓_, isBase}
 use Rattle.definitions.specs.InferClocks.{Clocks, clockOf, isPort, Clocked, Clocking, clockFaults}
 use Rattle.definitions.specs.Declock.{State, nothingNeeded, Stem, done, declared, oldEquations, New, newLocals, withNew}
 use Rattle.definitions.specs.Output.{ClockedNode}
@@ -190,14 +190,14 @@ module _ {Val : Type 0} (types : List TypeDef) (nodes : List Node) (letters : �
         go (some d) e false h = let r = places .others x d e h in absurd (true≢false (sym (left-declared (r .0) (r .1) x (r .2)) ∙ u))
 
     -- a name on a clock other than base is a left name
-    defining : (x : ℕ) (d : Clock) (l : Condition) → clockOf clocks x ≡ some (d / l) → (e : Clocked) × List·Memᴰ e (n .clocking .equations) × List·Memᴰ x (e .equation .left)
+    defining : (x : ℕ) (d : Clock) (l : Condition) → clockOf clocks x ≡ some (d ↓ l) → (e : Clocked) × List·Memᴰ e (n .clocking .equations) × List·Memᴰ x (e .equation .left)
     defining x d l e =
-        let r = places .others x (d / l) e (go (isPort node x) refl) in
+        let r = places .others x (d ↓ l) e (go (isPort node x) refl) in
         let f = c .equations .to (r .0) (r .1) in
         (f .0, f .1, subst⁻¹ (λ (z : Equation). List·Memᴰ x (z .left)) (f .2) (r .2))
       where
         go : (u : Bool) → isPort node x ≡ u → isPort node x ≡ false
-        go true h = absurd (true≢false (ap isBase (Option·some-injective base (d / l) (sym (places .based x h) ∙ e))))
+        go true h = absurd (true≢false (ap isBase (Option·some-injective base (d ↓ l) (sym (places .based x h) ∙ e))))
         go false h = h
 
     settled : (x : ℕ) → Old x → clockOf clocks x ≡ none → Settled C node clocks x

@@ -8,7 +8,7 @@ use lib.Dec.{isEq}
 use Rattle.definitions.specs.declared.Test.{Test}
 use Rattle.definitions.specs.declared.Condition.{Condition}
 use Rattle.definitions.specs.Lists.{Letters}
-use Rattle.definitions.specs.Clock.{Clock, base, _/_, sameClock, conditions, andThen, lexical, testOrder, chainOrder, insert, inChainOrder}
+use Rattle.definitions.specs.Clock.{Clock, base, _↓_, sameClock, conditions, andThen, lexical, testOrder, chainOrder, insert, inChainOrder}
 use Rattle.runs.proofs.Facts.{eqb-eq, clock-eq, clock-self, or-true, All, all-app}
 use Rattle.runs.proofs.Growth.{has, OfClock}
 
@@ -41,17 +41,17 @@ lexical-eq {A} f R h (a ∷ k) (b ∷ l) r s e =
 -- a clock is made of its conditions
 rebuilt : Clock → List Condition → Clock
 rebuilt c [] = c
-rebuilt c (k ∷ ks) = rebuilt (c / k) ks
+rebuilt c (k ∷ ks) = rebuilt (c ↓ k) ks
 
 rebuilt-app : (c : Clock) (a b : List Condition) → rebuilt c (a ++ b) ≡ rebuilt (rebuilt c a) b
 unfolding rebuilt
 rebuilt-app c [] b = refl
-rebuilt-app c (k ∷ a) b = rebuilt-app (c / k) a b
+rebuilt-app c (k ∷ a) b = rebuilt-app (c ↓ k) a b
 
 rebuilt-is : (c : Clock) → rebuilt base (conditions c) ≡ c
 unfolding rebuilt conditions
 rebuilt-is base = refl
-rebuilt-is (c / k) = rebuilt-app base (conditions c) (k ∷ []) ∙ ap (λ (d : Clock). d / k) (rebuilt-is c)
+rebuilt-is (c ↓ k) = rebuilt-app base (conditions c) (k ∷ []) ∙ ap (λ (d : Clock). d ↓ k) (rebuilt-is c)
 
 pub has-member : (c : Clock) (cs : List Clock) → has c cs ≡ true → List·Memᴰ c cs
 has-member c [] h = absurd (false≢true h)
@@ -111,7 +111,7 @@ module _ (letters : ℕ → Letters) (P : ℕ → Type 0) (apart : (x y : ℕ) �
   conditions-named : (c : Clock) → OfClock P c → All (λ k. P (k .name)) (conditions c)
   unfolding conditions
   conditions-named base o k m = absurd (List·Memᴰ·not-nil m)
-  conditions-named (c / l) o k m = all-app (λ k. P (k .name)) (conditions c) (l ∷ []) (conditions-named c (o .1)) (λ j i. subst⁻¹ (λ (z : Condition). P (z .name)) (List·Memᴰ·eq-of-singleton i) (o .0)) k m
+  conditions-named (c ↓ l) o k m = all-app (λ k. P (k .name)) (conditions c) (l ∷ []) (conditions-named c (o .1)) (λ j i. subst⁻¹ (λ (z : Condition). P (z .name)) (List·Memᴰ·eq-of-singleton i) (o .0)) k m
 
   pub order-eq : (c d : Clock) → OfClock P c → OfClock P d → chainOrder letters c d ≡ Ordering·eq → c ≡ d
   unfolding chainOrder

@@ -6,7 +6,7 @@ use native.Mathlib.Omega.{arith}
 use Rattle.definitions.specs.declared.Literal.{Literal}
 use Rattle.definitions.specs.Lists.{Letters}
 use Rattle.definitions.specs.Tree.{Expr, Exprs, Node}
-use Rattle.definitions.specs.Clock.{Clock, base, _/_, isOn}
+use Rattle.definitions.specs.Clock.{Clock, base, _↓_, isOn}
 use Rattle.definitions.specs.InferClocks.{formed, site, clocking}
 use Rattle.definitions.specs.Declock.{trueOf, notOf, andOf, ifOf}
 use Rattle.definitions.specs.Output.{ClockedNode, sheetOut}
@@ -76,7 +76,7 @@ abbrev pub deepX : Expr
 deepX = Expr.when (isOn 5) whenC
 
 abbrev pub onD : Clock
-onD = onC / isOn 5
+onD = onC ↓ isOn 5
 
 abbrev pub nested : Node
 nested = operator (int 1 ∷ boolean 2 ∷ boolean 3 ∷ []) (int 4 ∷ []) (boolean 5 ∷ int 6 ∷ [])

@@ -6,7 +6,7 @@ use mathlib.Core.Option.{Option}
 use Prim.Native.Nat.{ℕ, suc}
 use Rattle.definitions.specs.Lists.{choose}
 use Rattle.definitions.specs.Tree.{Expr, Exprs}
-use Rattle.definitions.specs.Clock.{Clock, _/_, parent, isOn, isNot}
+use Rattle.definitions.specs.Clock.{Clock, _↓_, parent, isOn, isNot}
 use Rattle.definitions.specs.InferClocks.{Clocked}
 use Rattle.runs.specs.Callees.{Callees}
 use Rattle.runs.specs.Run.{Meaning, last, soFar, since, Env, Unset, in₀, in₁, on, calledAt, value, values, Holds, AllHold}
@@ -59,8 +59,8 @@ module _ {Val : Type 0} (M : Meaning Val) (C C′ : Callees) (operators : (f : �
     value-same (Expr.call f es) α c o = call-same f es α c (o .0) (values-same es α c (o .1))
     value-same (Expr.when k e) α c o = let r = value-same e α (parent c) (o .1) in λ t. r t
     value-same (Expr.merge x a b) α c o =
-        let p = value-same a (in₀ α) (c / isOn x) (o .1) in
-        let q = value-same b (in₁ α) (c / isNot x) (o .2) in
+        let p = value-same a (in₀ α) (c ↓ isOn x) (o .1) in
+        let q = value-same b (in₁ α) (c ↓ isNot x) (o .2) in
         λ t. ap₂ (λ (v w : Val). choose (isTrue (σ x t)) v w) (p t) (q t)
 
     values-same : (es : Exprs) (α : Unset Val) (c : Clock) → Eachs CallsOther es → Sames es α c

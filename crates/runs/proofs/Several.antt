@@ -9,7 +9,7 @@ use lib.Dec.{eqb}
 use Rattle.definitions.specs.declared.Condition.{Condition}
 use Rattle.definitions.specs.Lists.{choose}
 use Rattle.definitions.specs.Tree.{TypeDef, Expr, Exprs, Node}
-use Rattle.definitions.specs.Clock.{Clock, base, _/_}
+use Rattle.definitions.specs.Clock.{Clock, base, _↓_}
 use Rattle.definitions.specs.Declock.{State, Stem, rewrites, callOn, underFlag, rightSide, calls}
 use Rattle.runs.specs.Callees.{Callees}
 use Rattle.runs.specs.Run.{Meaning, last, since, Env, Unset, on, gatedAt, value}
@@ -77,20 +77,20 @@ module _ (types : List TypeDef) (nodes : List Node) (new : Stem → ℕ → ℕ)
     pub is : r ≡ gate condact (flagName new c before) f arguments defaults
 
   pub several-gated : {R : Exprs → State → Type 0} (c : Clock) (k : Condition) (x y : ℕ) (xs : List ℕ) (f : ℕ) (es : Exprs) (s : State) → eqb f condact ≡ false
-      → Yields R (rewrites types nodes new condact node i (c / k) es s)
-      → Yields (GatedCall R (c / k) f) (rightSide types nodes new condact node i (c / k) (x ∷ y ∷ xs) (Expr.call f es) s)
+      → Yields R (rewrites types nodes new condact node i (c ↓ k) es s)
+      → Yields (GatedCall R (c ↓ k) f) (rightSide types nodes new condact node i (c ↓ k) (x ∷ y ∷ xs) (Expr.call f es) s)
   unfolding rightSide
-  several-gated {R} c k x y xs f es s nc h = yields-after _ (yields-after {R = Shaped} _ h (λ fs s₁ r. yields-map (λ e s₂ p. (fs, s₁, r, p)) (call-shape (c / k) f fs s₁))) (λ e s₂ p. go (p .0) (p .1) (p .2) e s₂ (p .3))
+  several-gated {R} c k x y xs f es s nc h = yields-after _ (yields-after {R = Shaped} _ h (λ fs s₁ r. yields-map (λ e s₂ p. (fs, s₁, r, p)) (call-shape (c ↓ k) f fs s₁))) (λ e s₂ p. go (p .0) (p .1) (p .2) e s₂ (p .3))
     where
       d : Clock
-      d = c / k
+      d = c ↓ k
 
       Shaped : Expr → State → Type 0
-      Shaped e s₂ = (fs : Exprs) × (s₁ : State) × R fs s₁ × CallShape (c / k) f fs s₁ e s₂
+      Shaped e s₂ = (fs : Exprs) × (s₁ : State) × R fs s₁ × CallShape (c ↓ k) f fs s₁ e s₂
 
-      go : (fs : Exprs) (s₁ : State) → R fs s₁ → (e : Expr) (s₂ : State) → CallShape (c / k) f fs s₁ e s₂
-          → Yields (GatedCall R (c / k) f) (underFlag types nodes new condact node i (x ∷ y ∷ xs) (Expr.var (flagName new (c / k) s₂)) e (withFlag (c / k) s₂))
-      go fs s₁ r e s₂ stays = gateSeveral-yields types nodes new condact node i (x ∷ y ∷ xs) (Expr.var (flagName new (c / k) s₁)) (Expr.call f fs) (withFlag (c / k) s₁)
+      go : (fs : Exprs) (s₁ : State) → R fs s₁ → (e : Expr) (s₂ : State) → CallShape (c ↓ k) f fs s₁ e s₂
+          → Yields (GatedCall R (c ↓ k) f) (underFlag types nodes new condact node i (x ∷ y ∷ xs) (Expr.var (flagName new (c ↓ k) s₂)) e (withFlag (c ↓ k) s₂))
+      go fs s₁ r e s₂ stays = gateSeveral-yields types nodes new condact node i (x ∷ y ∷ xs) (Expr.var (flagName new (c ↓ k) s₁)) (Expr.call f fs) (withFlag (c ↓ k) s₁)
           (λ q. absurd (true≢false (sym (eqb-self condact) ∙ (ap (λ (z : ℕ). eqb z condact) (sym (calls-eq f condact q)) ∙ nc))))
           (λ g q u ds. record { arguments = fs; defaults = ds; before = s₁; leads = leads-condact (withFlag d s₁); known = r; is = refl })
       go fs s₁ r e s₂ (gates ds) = gateSeveral-yields types nodes new condact node i (x ∷ y ∷ xs) _ (gate condact (flagName new d s₁) f fs ds) (withFlag d (withCondact (withFlag d s₁)))

@@ -11,7 +11,7 @@ use Rattle.definitions.specs.Tree.{Node, Sheet}
 use Rattle.definitions.specs.Refusals.{accepted}
 use Rattle.definitions.specs.Output.{ClockedNode, outputNode, namesOut, sheetOut, withinLimits, written}
 use Rattle.definitions.specs.Answer.{Input, input, clockings, firstFaults, rewriteAnswer}
-use Rattle.shapes.specs.Shape.{Bytes, ShapedSheet, Sized}
+use Rattle.shapes.specs.Shape.{Bytes, ShapedSheet, SizedSheet}
 use Rattle.shapes.proofs.Accepts.{Accepts, accepts, accepts-after, accepts-must, is-accepted}
 use Rattle.shapes.proofs.Source.{InputFacts, read-facts}
 use Rattle.shapes.proofs.Names.{goes-out, same-names}
@@ -81,7 +81,7 @@ module _ (Val : Type 0) (bytes : List ℕ) (r : Input) (facts : InputFacts bytes
   }
 
   -- and so every sheet that its bytes say
-  demand : input bytes ≡ accepted r → clockings 0 (r .sheet .nodes) ≡ accepted ns → ShapedSheet out × Sized all out → DemandThree Val bytes (written all out)
+  demand : input bytes ≡ accepted r → clockings 0 (r .sheet .nodes) ≡ accepted ns → ShapedSheet out × SizedSheet all out → DemandThree Val bytes (written all out)
   demand read clocks shaped = record {
     source = r;
     nodes = ns;

@@ -13,7 +13,7 @@ use Rattle.definitions.specs.declared.Literal.{Literal}
 use Rattle.definitions.specs.declared.NodeKind.{NodeKind}
 use Rattle.definitions.specs.Lists.{choose, Letters, bytes}
 use Rattle.definitions.specs.Tree.{Ty, Declared, Head, Expr, Exprs, Equation, Node, Sheet}
-use Rattle.definitions.specs.Clock.{Clock, base, _/_, isOn}
+use Rattle.definitions.specs.Clock.{Clock, base, _↓_, isOn}
 use Rattle.definitions.specs.Declock.{trueOf, notOf, andOf}
 use Rattle.runs.specs.Run.{Meaning, Env}
 
@@ -136,7 +136,7 @@ sheetOf ns = record { types = []; nodes = ns }
 
 -- the clock of c, whose id is 2
 abbrev pub onC : Clock
-onC = base / isOn 2
+onC = base ↓ isOn 2
 
 unfoldable pub lettered : List String → List Letters
 unfolding bytes

@@ -1,5 +1,5 @@
--- Demand 3: "Every run of a rewritten plain node, kept to each name's clock, is a run of the source node: any values, any inputs,
--- any number of ticks, whatever undeclared names and called nodes are." One claim over the whole list of ticks.
+-- Demand 3: every run of a rewritten plain node, kept to each name's clock, is a run of the source node, for any values, any inputs
+-- and any number of ticks, whatever undeclared names and called nodes are. "Demand 3 is one claim about the whole list of ticks"
 use mathlib.Core.Path.{_≡_}
 use mathlib.Core.Bool.{true}
 use mathlib.Core.List.{List, map}
@@ -12,7 +12,7 @@ use Rattle.definitions.specs.InferClocks.{isPort}
 use Rattle.definitions.specs.Refusals.{accepted}
 use Rattle.definitions.specs.Output.{lettersOf, ClockedNode, written}
 use Rattle.definitions.specs.Answer.{Input, input, clockings}
-use Rattle.shapes.specs.Shape.{ShapedSheet, Sized}
+use Rattle.shapes.specs.Shape.{ShapedSheet, SizedSheet}
 use Rattle.runs.specs.Callees.{Callees, calleesOf}
 use Rattle.runs.specs.Run.{Meaning, Env, RewrittenRun, SourceRun, Kept}
 use Rattle.runs.specs.Plain.{Plain}
@@ -30,7 +30,7 @@ KeptAlone Val C source =
     (M : Meaning Val) (ticks : ℕ) (ρ ρ′ : Env Val)
     → SourceRun M C source ticks ρ → Kept M source ticks ρ ρ′ → SourceRun M C source ticks ρ′
 
--- an input or output is kept at every tick, since it is on base: "the same inputs"
+-- an input or output is kept at every tick, since it is on base, so that the inputs are the same
 unfoldable pub PortsKept : (Val : Type 0) → ClockedNode → Type 0
 PortsKept Val source =
     (M : Meaning Val) (ticks : ℕ) (ρ ρ′ : Env Val) → Kept M source ticks ρ ρ′
@@ -64,9 +64,9 @@ pub record DemandThree (Val : Type 0) (bytes out : List ℕ) : Type 0 where
   -- one format for both: the writer writes the source so
   pub source-written : written (source .names) (source .sheet) ≡ bytes
   -- some sheet that the format can say has the bytes written
-  pub some-sheet : (names : List Letters) × (s : Sheet) × ShapedSheet s × Sized names s × (written names s ≡ out)
+  pub some-sheet : (names : List Letters) × (s : Sheet) × ShapedSheet s × SizedSheet names s × (written names s ≡ out)
   -- and every such sheet keeps the source's runs
-  pub every-sheet : (names : List Letters) (s : Sheet) → ShapedSheet s → Sized names s → written names s ≡ out → SheetKept Val source nodes names s
+  pub every-sheet : (names : List Letters) (s : Sheet) → ShapedSheet s → SizedSheet names s → written names s ≡ out → SheetKept Val source nodes names s
 
 -- the same for values that are numbers: the one fixed type that a contract carries
 abbrev pub DemandThreeAt : List ℕ → List ℕ → Type 0

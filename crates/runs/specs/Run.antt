@@ -11,7 +11,7 @@ use Rattle.definitions.specs.declared.Literal.{Literal}
 use Rattle.definitions.specs.declared.Test.{Test}
 use Rattle.definitions.specs.Lists.{choose}
 use Rattle.definitions.specs.Tree.{Head, Expr, Exprs, Equation, Node}
-use Rattle.definitions.specs.Clock.{Clock, base, _/_, parent, isOn, isNot}
+use Rattle.definitions.specs.Clock.{Clock, base, _↓_, parent, isOn, isNot}
 use Rattle.definitions.specs.InferClocks.{clockOf, Clocked}
 use Rattle.definitions.specs.Output.{ClockedNode}
 use Rattle.runs.specs.Callees.{isDeclared, Callees}
@@ -106,7 +106,7 @@ module _ {Val : Type 0} (M : Meaning Val) where
   -- "base is always on. A condition is on when its parent is and the name is true (on) or isn't (not)."
   unfoldable pub on : Env Val → Clock → ℕ → Bool
   on σ base t = true
-  on σ (c / k) t = on σ c t && meets (k .test) (σ (k .name) t)
+  on σ (c ↓ k) t = on σ c t && meets (k .test) (σ (k .name) t)
 
   -- "d before the first (fixed if none)"
   abbrev pub before : List Val → Val
@@ -177,7 +177,7 @@ module _ {Val : Type 0} (M : Meaning Val) where
       stream (Expr.arrow a b) σ α c = streamOf (λ t. since (last (on σ c) t) (stream a σ (in₀ α) c .at t) (λ s. stream b σ (in₁ α) c .at t))
       stream (Expr.call f es) σ α c = record { at = callAt f (streams es σ α c) (on σ c); call = some (callAt f (streams es σ α c)) }
       stream (Expr.when k e) σ α c = streamOf (stream e σ α (parent c) .at)
-      stream (Expr.merge x a b) σ α c = streamOf (λ t. choose (isTrue (σ x t)) (stream a σ (in₀ α) (c / isOn x) .at t) (stream b σ (in₁ α) (c / isNot x) .at t))
+      stream (Expr.merge x a b) σ α c = streamOf (λ t. choose (isTrue (σ x t)) (stream a σ (in₀ α) (c ↓ isOn x) .at t) (stream b σ (in₁ α) (c ↓ isNot x) .at t))
 
       pub streams : Exprs → Env Val → Unset Val → Clock → List (Stream Val)
       streams Exprs.end σ α c = []

@@ -16,7 +16,7 @@ use Rattle.shapes.proofs.Facts.{leb-le}
 use Rattle.shapes.proofs.Accepts.{Accepts, accepts, no-refused, no-faulty, accepts-after, accepts-must, is-accepted}
 use Rattle.shapes.proofs.Once.{written-once}
 use Rattle.shapes.proofs.OutputShape.{out-shaped}
-use Rattle.shapes.specs.Shape.{Bytes, ShapedSheet, Sized}
+use Rattle.shapes.specs.Shape.{Bytes, ShapedSheet, SizedSheet}
 
 -- the steps of a rewriting that was accepted
 pub record Rewriting (bytes : List ℕ) (lent : ℕ) (out : List ℕ) : Type 0 where
@@ -52,7 +52,7 @@ pub rewriting : (bytes : List ℕ) (lent : ℕ) (out : List ℕ) → rewriteAnsw
 rewriting bytes lent out e = is-accepted (rewriteAnswer bytes lent) out e (rewriting-parts bytes lent)
 
 -- the sheet of an accepted rewriting is the only tree that the format can say with its bytes
-pub out-once : (bytes : List ℕ) → Bytes bytes → (lent : ℕ) (out : List ℕ) (t : Rewriting bytes lent out) (names : List Letters) (s : Sheet) → ShapedSheet s → Sized names s → written names s ≡ out
+pub out-once : (bytes : List ℕ) → Bytes bytes → (lent : ℕ) (out : List ℕ) (t : Rewriting bytes lent out) (names : List Letters) (s : Sheet) → ShapedSheet s → SizedSheet names s → written names s ≡ out
     → (names ≡ namesOut (t .source .names) (t .source .sheet) (t .nodes)) × (s ≡ sheetOut (t .source .names) (t .source .sheet) (t .nodes))
 out-once bytes h lent out t names s a b q =
     let o = out-shaped bytes h (t .source) (t .reading) (t .nodes) (t .clocks) (t .within) in

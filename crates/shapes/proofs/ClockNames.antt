@@ -7,7 +7,7 @@ use lib.Dec.{ltb}
 use Rattle.definitions.specs.declared.Condition.{Condition}
 use Rattle.definitions.specs.Lists.{choose, any, join, numbered}
 use Rattle.definitions.specs.Tree.{Expr, Exprs, Equation, Node}
-use Rattle.definitions.specs.Clock.{Clock, base, _/_, depth, deepest}
+use Rattle.definitions.specs.Clock.{Clock, base, _↓_, depth, deepest}
 use Rattle.definitions.specs.InferClocks.{deep, formed, Clocks, clockOf, Natural, natural, naturals, _or_, conditionOver, parentOf, Clocked, Clocking, clocking, inferred, clockedBy, checkEquation, isTooDeep}
 use Rattle.shapes.proofs.Facts.{All}
 use Rattle.shapes.proofs.Inference.{Forms, forms-after, SomeClock, Known, clockOf-known, inferred-known, clockedBy-known, KnownEquation}
@@ -17,7 +17,7 @@ module _ (N : ℕ) where
   -- the names of a clock's conditions are below N
   abbrev pub NamedClock : Clock → Type 0
   NamedClock base = Unit {0}
-  NamedClock (c / k) = (k .name < N) × NamedClock c
+  NamedClock (c ↓ k) = (k .name < N) × NamedClock c
 
   abbrev NamedNatural : Natural → Type 0
   NamedNatural a = Forms (Unit {0}) (SomeClock NamedClock) a
@@ -32,7 +32,7 @@ module _ (N : ℕ) where
   over-named k w (formed none) h = tt
   over-named k w (formed (some c)) h = go (ltb (depth c) deepest)
     where
-      go : (u : Bool) → NamedNatural (choose u (formed (some (c / k))) deep)
+      go : (u : Bool) → NamedNatural (choose u (formed (some (c ↓ k))) deep)
       go true = (w, h)
       go false = tt
 
@@ -40,7 +40,7 @@ module _ (N : ℕ) where
   parent-named deep h = tt
   parent-named (formed none) h = tt
   parent-named (formed (some base)) h = tt
-  parent-named (formed (some (c / k))) h = h .1
+  parent-named (formed (some (c ↓ k))) h = h .1
 
   module _ (cl : Clocks) (known : Known NamedClock cl) where
     mutual

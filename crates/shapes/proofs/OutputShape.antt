@@ -23,7 +23,7 @@ use Rattle.shapes.proofs.Inference.{Forms}
 use Rattle.shapes.proofs.ClockNames.{NamedEquation, clocking-named}
 use Rattle.shapes.proofs.RewriteShape.{yielded, ShapedState, oldEquations-shape, withNew-shape}
 use Rattle.shapes.proofs.Names.{id-below}
-use Rattle.shapes.specs.Shape.{Bytes, ShapedDeclared, ShapedDefinition, ShapedNode, ShapedSheet, Sized}
+use Rattle.shapes.specs.Shape.{Bytes, ShapedDeclared, ShapedDefinition, ShapedNode, ShapedSheet, SizedSheet}
 
 -- a shaped node whose equations' clocks are made of names
 abbrev ShapedClocked : ClockedNode → Type 0
@@ -93,7 +93,7 @@ limits names s e =
 -- what rewriting makes of a sheet that was read is a tree that the format can say, where it is within the output's limits
 pub out-shaped : (bytes : List ℕ) → Bytes bytes → (r : Input) → input bytes ≡ accepted r → (ns : List ClockedNode) → clockings 0 (r .sheet .nodes) ≡ accepted ns
     → withinLimits (namesOut (r .names) (r .sheet) ns) (sheetOut (r .names) (r .sheet) ns) ≡ true
-    → ShapedSheet (sheetOut (r .names) (r .sheet) ns) × Sized (namesOut (r .names) (r .sheet) ns) (sheetOut (r .names) (r .sheet) ns)
+    → ShapedSheet (sheetOut (r .names) (r .sheet) ns) × SizedSheet (namesOut (r .names) (r .sheet) ns) (sheetOut (r .names) (r .sheet) ns)
 unfolding sheetOut
 out-shaped bytes h r e ns f w =
     let l = limits (namesOut (r .names) (r .sheet) ns) (sheetOut (r .names) (r .sheet) ns) w in

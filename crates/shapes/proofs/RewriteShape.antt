@@ -10,7 +10,7 @@ use Rattle.definitions.specs.declared.Test.{Test}
 use Rattle.definitions.specs.declared.Condition.{Condition}
 use Rattle.definitions.specs.Lists.{choose, any, numbered, Letters}
 use Rattle.definitions.specs.Tree.{Ty, Declared, TypeDef, Expr, Exprs, Equation, Node}
-use Rattle.definitions.specs.Clock.{Clock, base, _/_, parent, isOn, isNot, sameClock, isBase, chainOrder, insert, inChainOrder}
+use Rattle.definitions.specs.Clock.{Clock, base, _↓_, parent, isOn, isNot, sameClock, isBase, chainOrder, insert, inChainOrder}
 use Rattle.definitions.specs.Types.{default}
 use Rattle.definitions.specs.InferClocks.{Fault, notSingleCall, preUntyped, NodeFault, Clocked}
 use Rattle.definitions.specs.Declock.{State, Hold, Rewritten, stopped, done, Rewriter, after, need, stop, add, addWithParents, Stem, ck, first, hold, flag, firstFlag, newHold, gated, declared, lastType, operandType, operatorOutputs, outputDefaults, leftDefault, leftDefaults, callOn, heldPre, preOn, arrowOn, rewrite, rewrites, gateSeveral, underFlag, rightSide, oldEquations, Shape, bare, other, calls, shapeOf, trueOf, ifOf, andOf, notOf, New, conditionExpr, flagOf, activation, firstTick, newLocals, withNew}
@@ -73,11 +73,11 @@ module _ (N : ℕ) where
   parents-named : (c : Clock) (cs : List Clock) → NamedClock N c → All (NamedClock N) cs → All (NamedClock N) (addWithParents c cs)
   unfolding addWithParents
   parents-named base cs h k = k
-  parents-named (c / j) cs h k = add-all (NamedClock N) (c / j) (addWithParents c cs) h (parents-named c cs (h .1) k)
+  parents-named (c ↓ j) cs h k = add-all (NamedClock N) (c ↓ j) (addWithParents c cs) h (parents-named c cs (h .1) k)
 
   parent-named : (c : Clock) → NamedClock N c → NamedClock N (parent c)
   parent-named base h = tt
-  parent-named (c / k) h = h .1
+  parent-named (c ↓ k) h = h .1
 
   if-shape : (a b c : Expr) → Shaped N a → Shaped N b → Shaped N c → Shaped N (ifOf a b c)
   unfolding Shaped
@@ -212,7 +212,7 @@ module _ (N : ℕ) where
         rewrite-shape (Expr.arrow a b) c s o h k = yields-after _ (rewrite-shape a c s o (h .0) k) (λ d s₁ q. yields-after _ (rewrite-shape b c s₁ o (h .1) (q .1)) (λ e s₂ p. arrowOn-shape c d e s₂ o (q .0) (p .0) (p .1)))
         rewrite-shape (Expr.call f es) c s o h k = yields-after _ (rewrites-shape es c s o (h .0) k) (λ fs s₁ q. callOn-shape c f fs s₁ o (h .1) (q .0 .0) (q .0 .1))
         rewrite-shape (Expr.when j e) c s o h k = rewrite-shape e (parent c) s (parent-named c o) (h .0) k
-        rewrite-shape (Expr.merge x a b) c s o h k = yields-after _ (rewrite-shape a (c / isOn x) s (h .2, o) (h .0) k) (λ d s₁ q. yields-after _ (rewrite-shape b (c / isNot x) s₁ (h .2, o) (h .1) (q .1)) (λ e s₂ p.
+        rewrite-shape (Expr.merge x a b) c s o h k = yields-after _ (rewrite-shape a (c ↓ isOn x) s (h .2, o) (h .0) k) (λ d s₁ q. yields-after _ (rewrite-shape b (c ↓ isNot x) s₁ (h .2, o) (h .1) (q .1)) (λ e s₂ p.
             yields (if-shape (Expr.var x) d e (h .2) (q .0) (p .0), p .1)))
 
         rewrites-shape : (es : Exprs) (c : Clock) (s : State) → NamedClock N c → Shapeds N es → ShapedState s → Yields (λ fs s′. Posts fs s′ × (many fs ≡ many es)) (rewrites types nodes new condact node i c es s)
@@ -272,7 +272,7 @@ module _ (N : ℕ) where
 
     activation-shape : (c : Clock) → NamedClock N c → Shaped N (activation letters new S c)
     activation-shape base h = true-shape
-    activation-shape (c / k) h = go (isBase c)
+    activation-shape (c ↓ k) h = go (isBase c)
       where
         go : (u : Bool) → Shaped N (choose u (conditionExpr k) (andOf (flagOf letters new S c) (conditionExpr k)))
         go true = condition-shape k (h .0)

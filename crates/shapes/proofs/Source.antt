@@ -22,7 +22,7 @@ use Rattle.shapes.proofs.Once.{written-once}
 use Rattle.shapes.proofs.Gives.{Gives}
 use Rattle.shapes.proofs.ReadShape.{sheet-read}
 use Rattle.shapes.proofs.ReadBytes.{PartsFacts, parts-facts}
-use Rattle.shapes.specs.Shape.{Word, Bytes, ShapedBelow, ShapedSheet, Sized}
+use Rattle.shapes.specs.Shape.{Word, Bytes, ShapedBelow, ShapedSheet, SizedSheet}
 
 -- what is known of a sheet that was read
 pub record InputFacts (bytes : List ℕ) (r : Input) : Type 0 where
@@ -32,7 +32,7 @@ pub record InputFacts (bytes : List ℕ) (r : Input) : Type 0 where
   -- its ids are its names' places
   pub below : ShapedBelow (length (r .names)) (r .sheet)
   pub shaped : ShapedSheet (r .sheet)
-  pub sized : Sized (r .names) (r .sheet)
+  pub sized : SizedSheet (r .names) (r .sheet)
   pub back : written (r .names) (r .sheet) ≡ bytes
 
 -- the tokens are read at the number of names, and at all words
@@ -73,7 +73,7 @@ pub read-facts : (bytes : List ℕ) → Bytes bytes → (r : Input) → input by
 read-facts bytes h r e = is-accepted (input bytes) r e (input-facts bytes h)
 
 -- a sheet that was read is a tree that the format can say
-pub read-shaped : (bytes : List ℕ) → Bytes bytes → (r : Input) → input bytes ≡ accepted r → ShapedSheet (r .sheet) × Sized (r .names) (r .sheet)
+pub read-shaped : (bytes : List ℕ) → Bytes bytes → (r : Input) → input bytes ≡ accepted r → ShapedSheet (r .sheet) × SizedSheet (r .names) (r .sheet)
 read-shaped bytes h r e = let f = read-facts bytes h r e in (f .shaped, f .sized)
 
 -- one format for source and output: what was read is what the writer writes
@@ -85,5 +85,5 @@ pub round-trip : (bytes : List ℕ) → Bytes bytes → (names : List Letters) (
 round-trip bytes h names s e = ap input (read-written bytes h (record { names = names; sheet = s }) e) ∙ e
 
 -- and it is the only tree that the format can say with these bytes
-pub read-once : (bytes : List ℕ) → Bytes bytes → (r : Input) → input bytes ≡ accepted r → (names : List Letters) (s : Sheet) → ShapedSheet s → Sized names s → written names s ≡ bytes → (names ≡ r .names) × (s ≡ r .sheet)
+pub read-once : (bytes : List ℕ) → Bytes bytes → (r : Input) → input bytes ≡ accepted r → (names : List Letters) (s : Sheet) → ShapedSheet s → SizedSheet names s → written names s ≡ bytes → (names ≡ r .names) × (s ≡ r .sheet)
 read-once bytes h r e names s a b q = let f = read-facts bytes h r e in written-once names (r .names) s (r .sheet) a b (f .shaped) (f .sized) (q ∙ sym (f .back))

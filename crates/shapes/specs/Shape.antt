@@ -132,7 +132,7 @@ abbrev pub ShapedSheet : Sheet → Type 0
 ShapedSheet s = ShapedBelow words s
 
 -- the three sizes of a sheet with these names are words
-pub record Sized (names : List Letters) (s : Sheet) : Type 0 where
+pub record SizedSheet (names : List Letters) (s : Sheet) : Type 0 where
   pub names-word : Word (length names)
   pub letters-word : Word (length (join names))
   pub tokens-word : Word (length (sheetTokens s))

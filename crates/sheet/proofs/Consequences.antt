@@ -17,7 +17,7 @@ use Rattle.parts.specs.declared.Sizes.{Sizes}
 use Rattle.parts.specs.Answers.{sizesOf, partsOf, Accepted}
 use Rattle.parts.proofs.Laws.{accepted-parts}
 use Rattle.parts.proofs.Laws as parts-laws
-use Rattle.writing.specs.Bytes.{Below, Within}
+use Rattle.writing.specs.Bytes.{AllBelow, Within}
 use Rattle.writing.proofs.RoundTrip.{read-back, write-back}
 use Rattle.shapes.specs.Shape.{Bytes}
 use Rattle.shapes.proofs.Source.{read-written}
@@ -63,7 +63,7 @@ module _ {b ts vs ts′ vs′ : List ℕ} {r : SheetAnswer} (z : SheetRead b ts 
   refused-only t e = sym answer-told ∙ ap sheetTold e
 
   -- the tokens at the front of the working arrays are written back to the bytes that were read
-  pub writes-back : Below 256 b → (i : Input) → input b ≡ accepted i → sheetBytes (i .names) (tokens (take (T b) ts′) (take (T b) vs′)) ≡ b
+  pub writes-back : AllBelow 256 b → (i : Input) → input b ≡ accepted i → sheetBytes (i .names) (tokens (take (T b) ts′) (take (T b) vs′)) ≡ b
   unfolding partsOf
   writes-back h i e =
       let p = input-parts b i e in

@@ -25,7 +25,7 @@ use Rattle.grammar.proofs.Laws as grammar-laws
 use Rattle.grammar.proofs.Got.{sheet-got}
 use Rattle.parts.specs.declared.Sizes.{Sizes}
 use Rattle.parts.specs.declared.PartsAnswer.{PartsAnswer}
-use Rattle.parts.specs.Answers.{partsOf, partsAnswer, tagsAfter, valuesAfter, Sized}
+use Rattle.parts.specs.Answers.{partsOf, partsAnswer, tagsAfter, valuesAfter, SizedParts}
 use Rattle.parts.proofs.Laws.{answer-refused, answer-sizes, answer-sized, answer-parts, names-told, tokens-told, lengths-long, tags-long, values-long}
 use Rattle.writing.proofs.Cuts.{cut-count}
 use Rattle.sheet.specs.declared.SheetAnswer.{SheetAnswer}
@@ -134,7 +134,7 @@ parts-refused b ts vs ts′ vs′ r e et ev =
     }
 
 module _ (b : List ℕ) (s : Sizes) (e : PartsAnswer.Parts s ≡ partsAnswer b) where
-  sized : Sized b s
+  sized : SizedParts b s
   sized = answer-sized b s e
 
   pub few : (s .names ≤ 1024) × (s .tokens ≤ 4096)

@@ -1,4 +1,3 @@
 -- What the proofs of several functions use, and what follows from `read`'s contract.
 pub mod Laws
-pub mod Summaries
 pub mod Consequences

@@ -1,9 +1,9 @@
 // A sheet's bytes are read: refusals 1 to 7, in checking order, of document 01, or its tokens stand in the working arrays.
 use definitions::Refusal;
+use definitions::WORKING_TOKENS;
 use grammar::Read;
 use parts::PartsAnswer;
 use parts::Sizes;
-use typedefs::Defined;
 ghost use mathlib.Core.Path.{_≡_};
 ghost use mathlib.Core.List.{List};
 ghost use Prim.Native.Nat.{ℕ, _≤_, _<_, _^_};
@@ -12,11 +12,10 @@ ghost use Rattle.definitions.specs.Bytes.{tokens};
 ghost use Rattle.definitions.specs.Lists.{any};
 ghost use Rattle.definitions.specs.Tree.{TypeDef, Equation, Node, Sheet};
 ghost use Rattle.definitions.specs.Reading.{got, times};
-ghost use Rattle.definitions.specs.Grammar.{typeDef, equation, node, sheet};
-ghost use Rattle.definitions.specs.Refusals.{told, number, place};
+ghost use Rattle.definitions.specs.Grammar.{equation, node, sheet};
+ghost use Rattle.definitions.specs.Refusals.{told};
 ghost use Rattle.definitions.specs.InferClocks.{usesClocks};
 ghost use Rattle.sheet.specs.Answers.{tokensAnswer, checkedTold, SheetRead};
-ghost use Rattle.sheet.specs.Summary.{typeSummary};
 
 // Accepted, with the sizes, or turned down.
 pub enum SheetAnswer {
@@ -28,19 +27,6 @@ pub enum SheetAnswer {
 pub enum Checked {
     Fine,
     Refused(Refusal),
-}
-
-// A type's definition in short: its name, what it is, and how many variants or fields it has, 1 for an alias.
-pub enum TypeKind {
-    Enum,
-    Record,
-    Alias,
-}
-
-pub struct TypeSummary {
-    pub name: u32,
-    pub kind: TypeKind,
-    pub count: u32,
 }
 
 fn narrow(x: usize) -> u32
@@ -77,7 +63,7 @@ fn check_types(tags: &[u8], values: &[u32], names: u32) -> Checked
 }
 
 // Refusals 5 to 7, by a sheet's tokens.
-pub fn check_tokens(tags: &[u8], values: &[u32], names: u32) -> Checked
+fn check_tokens(tags: &[u8], values: &[u32], names: u32) -> Checked
     requires { ⌜ length (now values) ≡ length (now tags) ⌝ }
     ensures { λ r. ⌜ checkedTold r ≡ told (tokensAnswer names (tokens (now (tags .entry)) (now (values .entry)))) ⌝ }
 {
@@ -97,7 +83,11 @@ fn check_front(tags: &[u8], values: &[u32], names: u32, n: usize) -> Checked
 }
 
 // A sheet is read: what it is refused for, or its sizes, and its tokens stand at the front of the working arrays.
-pub fn read(sheet: &[u8], tags: &mut [u8; 8192], values: &mut [u32; 8192]) -> SheetAnswer
+pub fn read(
+    sheet: &[u8],
+    tags: &mut [u8; WORKING_TOKENS],
+    values: &mut [u32; WORKING_TOKENS],
+) -> SheetAnswer
     ensures { λ r. ⌜ SheetRead (now (sheet .entry)) (now (tags .entry)) (now (values .entry)) (now (tags .exit)) (now (values .exit)) r ⌝ }
 {
     let a = parts::read_parts(sheet, tags, values);
@@ -114,36 +104,6 @@ pub fn read(sheet: &[u8], tags: &mut [u8; 8192], values: &mut [u32; 8192]) -> Sh
     }
 }
 
-// A type's definition in short.
-pub fn type_summary(tags: &[u8], values: &[u32], names: u32, at: usize) -> TypeSummary
-    requires { ⌜ length (now values) ≡ length (now tags) ⌝ }
-    ensures { λ r. ⌜ ((d : TypeDef) (q : ℕ) → typeDef names (tokens (now (tags .entry)) (now (values .entry))) at ≡ got d q → r ≡ typeSummary d) ⌝ }
-{
-    let found = typedefs::describe(tags, values, names, at);
-    match found {
-        Defined::Enum(x, n, _) => TypeSummary {
-            name: x,
-            kind: TypeKind::Enum,
-            count: n,
-        },
-        Defined::Record(x, n, _) => TypeSummary {
-            name: x,
-            kind: TypeKind::Record,
-            count: n,
-        },
-        Defined::Alias(x, _) => TypeSummary {
-            name: x,
-            kind: TypeKind::Alias,
-            count: 1,
-        },
-        Defined::Nothing => TypeSummary {
-            name: 0,
-            kind: TypeKind::Enum,
-            count: 0,
-        },
-    }
-}
-
 // Does the node that stands at a place use clocks?
 pub fn node_uses_clocks(tags: &[u8], values: &[u32], names: u32, at: usize) -> bool
     requires { ⌜ length (now values) ≡ length (now tags) ⌝ }
@@ -152,44 +112,4 @@ pub fn node_uses_clocks(tags: &[u8], values: &[u32], names: u32, at: usize) -> b
     let whole = layout::node_at(tags, values, names, at);
     let equations = whole.equations;
     extents::equations_use_clocks(tags, values, equations.count, equations.at)
-}
-
-// A refusal's number.
-pub fn refusal_number(r: Refusal) -> u32
-    ensures { λ n. ⌜ n ≡ number r ⌝ }
-{
-    match r {
-        Refusal::Short => 1,
-        Refusal::Size(_) => 2,
-        Refusal::Length => 3,
-        Refusal::Name(_) => 4,
-        Refusal::Token(_) => 5,
-        Refusal::Limit(_) => 6,
-        Refusal::Cycle(_) => 7,
-        Refusal::Missing => 8,
-        Refusal::Deep(_) => 9,
-        Refusal::Faulty(_) => 10,
-        Refusal::Large => 11,
-        Refusal::Lent(_) => 12,
-    }
-}
-
-// A refusal's place.
-pub fn refusal_place(r: Refusal) -> usize
-    ensures { λ n. ⌜ n ≡ place r ⌝ }
-{
-    match r {
-        Refusal::Short => 0,
-        Refusal::Size(p) => p,
-        Refusal::Length => 0,
-        Refusal::Name(p) => p,
-        Refusal::Token(p) => p,
-        Refusal::Limit(p) => p,
-        Refusal::Cycle(p) => p,
-        Refusal::Missing => 0,
-        Refusal::Deep(p) => p,
-        Refusal::Faulty(_) => 0,
-        Refusal::Large => 0,
-        Refusal::Lent(n) => n,
-    }
 }

@@ -12,14 +12,12 @@ use Rattle.definitions.specs.declared.Refusal.{Refusal}
 use Rattle.definitions.specs.declared.FaultRecord.{FaultRecord}
 use Rattle.definitions.specs.Lists.{sum, Letters}
 use Rattle.definitions.specs.Tree.{Sheet}
-use Rattle.definitions.specs.Refusals.{Answer, accepted, refused, faulty, must, lending, _>>=_, fine, down, told}
+use Rattle.definitions.specs.Refusals.{Answer, accepted, refused, faulty, must, lending, _>>=_, down, told}
 use Rattle.definitions.specs.Reading.{Got, got, rejected}
 use Rattle.definitions.specs.Bytes.{mostNames, mostLetters, fewestTokens, mostTokens, M, L, T, lengths, letters, cut, badName, parts}
 use Rattle.definitions.specs.Grammar.{sheet}
 use Rattle.definitions.specs.Types.{firstCycle}
-use Rattle.definitions.specs.InferClocks.{NodeFault}
-use Rattle.definitions.specs.Output.{lettersOf, ClockedNode, nodeFaults, namesOut, sheetOut, withinLimits, written}
-use Rattle.definitions.specs.Texts.{faultText}
+use Rattle.definitions.specs.Output.{ClockedNode, namesOut, sheetOut, withinLimits, written}
 use Rattle.definitions.specs.Answer.{Input, input, answered, clockings, unlessFaulty, rewriteAnswer, itemAt, nodeAt, textAnswer}
 use Rattle.stateless.specs.Sheets.{NodeHere, firstFaultsFrom}
 use Rattle.stateless.proofs.Nodes.{first-faults}
@@ -72,13 +70,6 @@ input-refused bytes x e = go (plain-input bytes) e
     go accepts h = let z : _≡_ {A = ℕ} 0 1 = cc in absurd (omega arith)
     go (refuses {r}) h = ap refused (down-eq r x h)
 
-pub input-accepted : (bytes : List ℕ) → told (input bytes) ≡ fine → (r : Input) × (input bytes ≡ accepted r)
-input-accepted bytes e = go (plain-input bytes) e
-  where
-    go : {a : Answer Input} → Plain a → told a ≡ fine → (r : Input) × (a ≡ accepted r)
-    go (accepts {a = r}) h = (r, refl)
-    go refuses h = let z : _≡_ {A = ℕ} 0 1 = cc in absurd (omega arith)
-
 -- ---- what is lent
 lent-enough : {A : Type 0} (needed lent : ℕ) (a : A) → needed ≤ lent → lending needed lent >>= (λ _. accepted a) ≡ accepted a
 lent-enough needed lent a h = rw (le-leb needed lent h)
@@ -123,9 +114,6 @@ module _ (bytes : List ℕ) (lent : ℕ) where
           go [] h = absurd (omega arith)
           go (f ∷ l) h = refl
 
-      pub rewrite-faulty-by : (f : FaultRecord) (fs : List FaultRecord) → firstFaultsFrom r 0 ns ≡ f ∷ fs → rewriteAnswer bytes lent ≡ faulty (f ∷ fs)
-      rewrite-faulty-by f fs e = clocked-answer ∙ ap (λ (l : List FaultRecord). unlessFaulty l >>= λ _. after-faults) e
-
       module _ (none-faulty : firstFaultsFrom r 0 ns ≡ []) where
         faultless-answer : rewriteAnswer bytes lent ≡ after-faults
         faultless-answer = clocked-answer ∙ ap (λ (l : List FaultRecord). unlessFaulty l >>= λ _. after-faults) none-faulty
@@ -149,33 +137,13 @@ module _ (bytes : List ℕ) (lent : ℕ) where
           rewrite-accepted h = limited-answer ∙ lent-enough (length (written (allNames r ns) (outSheet r ns))) lent (written (allNames r ns) (outSheet r ns)) h
 
 -- ---- an item of a list
-pub item-missing : {A : Type 0} (l : List A) (k : ℕ) → length l ≤ k → itemAt l k ≡ refused Refusal.Missing
-item-missing [] k h = refl
-item-missing (a ∷ l) zero h = absurd (omega arith)
-item-missing (a ∷ l) (suc k) h = item-missing l k (omega arith)
-
-pub item-there : {A : Type 0} (l : List A) (k : ℕ) (a : A) → getElem? l k ≡ some a → itemAt l k ≡ accepted a
+item-there : {A : Type 0} (l : List A) (k : ℕ) (a : A) → getElem? l k ≡ some a → itemAt l k ≡ accepted a
 item-there [] k a e = absurd (Option·none-ne-some a e)
 item-there (b ∷ l) zero a e = ap accepted (Option·some-injective b a e)
 item-there (b ∷ l) (suc k) a e = item-there l k a e
 
-item-some : {A : Type 0} (l : List A) (k : ℕ) → k < length l → (a : A) × (itemAt l k ≡ accepted a)
-item-some [] k h = absurd (omega arith)
-item-some (a ∷ l) zero h = (a, refl)
-item-some (a ∷ l) (suc k) h = item-some l k (omega arith)
-
 -- ---- node k, which the queries ask for
 module _ (r : Input) (k : ℕ) where
-  -- 8
-  pub node-missing : length (r .sheet .nodes) ≤ k → nodeAt r k ≡ refused Refusal.Missing
-  unfolding nodeAt
-  node-missing h = rw (item-missing (r .sheet .nodes) k h)
-
-  -- 9
-  pub node-deep : k < length (r .sheet .nodes) → (x : Refusal) → clockings 0 (r .sheet .nodes) ≡ refused x → nodeAt r k ≡ refused x
-  unfolding nodeAt
-  node-deep h x e = rw (item-some (r .sheet .nodes) k h .1, e)
-
   pub node-there : (ns : List ClockedNode) → clockings 0 (r .sheet .nodes) ≡ accepted ns → (u : NodeHere (r .sheet .nodes) ns k) → nodeAt r k ≡ accepted (u .clocked)
   unfolding nodeAt
   node-there ns e u = rw (item-there (r .sheet .nodes) k (u .clocked .node) (u .node-here), e, item-there ns k (u .clocked) (u .here))
@@ -186,33 +154,3 @@ module _ (bytes : List ℕ) (k j lent : ℕ) where
   pub text-refused : (x : Refusal) → told (input bytes) ≡ down x → textAnswer bytes k j lent ≡ refused x
   unfolding textAnswer
   text-refused x e = rw (input-refused bytes x e)
-
-  module _ (r : Input) (reading : input bytes ≡ accepted r) where
-    -- 8, no such node
-    pub text-no-node : length (r .sheet .nodes) ≤ k → textAnswer bytes k j lent ≡ refused Refusal.Missing
-    unfolding textAnswer
-    text-no-node h = rw (reading, node-missing r k h)
-
-    -- 9
-    pub text-deep : k < length (r .sheet .nodes) → (x : Refusal) → clockings 0 (r .sheet .nodes) ≡ refused x → textAnswer bytes k j lent ≡ refused x
-    unfolding textAnswer
-    text-deep h x e = rw (reading, node-deep r k h x e)
-
-    module _ (ns : List ClockedNode) (clocks : clockings 0 (r .sheet .nodes) ≡ accepted ns) (u : NodeHere (r .sheet .nodes) ns k) where
-      -- 8, no such fault
-      pub text-no-fault : length (nodeFaults (r .names) (r .sheet) (u .clocked)) ≤ j → textAnswer bytes k j lent ≡ refused Refusal.Missing
-      unfolding textAnswer
-      text-no-fault h = rw (reading, node-there r k ns clocks u, item-missing (nodeFaults (r .names) (r .sheet) (u .clocked)) j h)
-
-      module _ (f : NodeFault) (there : getElem? (nodeFaults (r .names) (r .sheet) (u .clocked)) j ≡ some f) where
-        text-answer : textAnswer bytes k j lent ≡ (lending (length (faultText (lettersOf (r .names)) (f .fault))) lent >>= λ _. accepted (faultText (lettersOf (r .names)) (f .fault)))
-        unfolding textAnswer
-        text-answer = rw (reading, node-there r k ns clocks u, item-there (nodeFaults (r .names) (r .sheet) (u .clocked)) j f there)
-
-        -- 12
-        pub text-lent : lent < length (faultText (lettersOf (r .names)) (f .fault)) → textAnswer bytes k j lent ≡ refused (Refusal.Lent (length (faultText (lettersOf (r .names)) (f .fault))))
-        text-lent h = text-answer ∙ lent-less (length (faultText (lettersOf (r .names)) (f .fault))) lent (faultText (lettersOf (r .names)) (f .fault)) h
-
-        -- none
-        pub text-accepted : length (faultText (lettersOf (r .names)) (f .fault)) ≤ lent → textAnswer bytes k j lent ≡ accepted (faultText (lettersOf (r .names)) (f .fault))
-        text-accepted h = text-answer ∙ lent-enough (length (faultText (lettersOf (r .names)) (f .fault))) lent (faultText (lettersOf (r .names)) (f .fault)) h

@@ -7,7 +7,7 @@ use mathlib.Core.Logic.{_⊎_, inl, inr}
 use native.Mathlib.Omega.{arith}
 use Rattle.definitions.specs.declared.Condition.{Condition}
 use Rattle.definitions.specs.Lists.{choose, any}
-use Rattle.definitions.specs.Clock.{Clock, base, _/_, parent, sameClock, isBase}
+use Rattle.definitions.specs.Clock.{Clock, base, _↓_, parent, sameClock, isBase}
 use Rattle.definitions.specs.Declock.{clockPlace, add, addWithParents}
 use Rattle.clock.proofs.Laws.{same-clock, clock-same}
 use Rattle.needs.specs.Need.{Needs, withFirst}
@@ -59,7 +59,7 @@ keeps-add c cs = go (has c cs)
 pub keeps-parents : (c : Clock) (cs : List Clock) → Keeps cs (addWithParents c cs)
 unfolding addWithParents
 keeps-parents base cs = keeps-self cs
-keeps-parents (c / k) cs = keeps-trans cs (addWithParents c cs) (add (c / k) (addWithParents c cs)) (keeps-parents c cs) (keeps-add (c / k) (addWithParents c cs))
+keeps-parents (c ↓ k) cs = keeps-trans cs (addWithParents c cs) (add (c ↓ k) (addWithParents c cs)) (keeps-parents c cs) (keeps-add (c ↓ k) (addWithParents c cs))
 
 -- what was added is there
 pub has-add : (c : Clock) (cs : List Clock) → has c (add c cs) ≡ true
@@ -76,7 +76,7 @@ has-add c cs = go (has c cs) refl
 pub has-parents : (c : Clock) (cs : List Clock) → isBase c ≡ false → has c (addWithParents c cs) ≡ true
 unfolding addWithParents
 has-parents base cs e = absurd (true≢false e)
-has-parents (c / k) cs e = has-add (c / k) (addWithParents c cs)
+has-parents (c ↓ k) cs e = has-add (c ↓ k) (addWithParents c cs)
 
 -- what is there after adding was there or was added
 add-cases : (c d : Clock) (cs : List Clock) → has d (add c cs) ≡ true → (has d cs ≡ true) ⊎ (d ≡ c)
@@ -93,19 +93,19 @@ add-cases c d cs = go (has c cs)
 
 -- the parents of clocks are there too
 abbrev pub Closed : List Clock → Type 0
-Closed cs = (c : Clock) (k : Condition) → has (c / k) cs ≡ true → isBase c ≡ false → has c cs ≡ true
+Closed cs = (c : Clock) (k : Condition) → has (c ↓ k) cs ≡ true → isBase c ≡ false → has c cs ≡ true
 
-closed-add : (c : Clock) (k : Condition) (cs : List Clock) → Closed cs → (isBase c ≡ false → has c cs ≡ true) → Closed (add (c / k) cs)
-closed-add c k cs s h d l i e = keeps-add (c / k) cs .there d (go (add-cases (c / k) (d / l) cs i))
+closed-add : (c : Clock) (k : Condition) (cs : List Clock) → Closed cs → (isBase c ≡ false → has c cs ≡ true) → Closed (add (c ↓ k) cs)
+closed-add c k cs s h d l i e = keeps-add (c ↓ k) cs .there d (go (add-cases (c ↓ k) (d ↓ l) cs i))
   where
-    go : (has (d / l) cs ≡ true) ⊎ (d / l ≡ c / k) → has d cs ≡ true
+    go : (has (d ↓ l) cs ≡ true) ⊎ (d ↓ l ≡ c ↓ k) → has d cs ≡ true
     go (inl j) = s d l j e
     go (inr q) = let p : d ≡ c = ap parent q in rw p (h (ap isBase (sym p) ∙ e))
 
 closed-parents : (c : Clock) (cs : List Clock) → Closed cs → Closed (addWithParents c cs)
 unfolding addWithParents
 closed-parents base cs s = s
-closed-parents (c / k) cs s = closed-add c k (addWithParents c cs) (closed-parents c cs s) (has-parents c cs)
+closed-parents (c ↓ k) cs s = closed-add c k (addWithParents c cs) (closed-parents c cs s) (has-parents c cs)
 
 -- the flags' parents have flags, and so has each clock with a first-tick flag
 pub record Sound (v : Needs) : Type 0 where

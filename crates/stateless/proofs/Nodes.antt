@@ -1,6 +1,6 @@
 -- A sheet's nodes one by one: each has its clocks (`clockings-form`, `node-here`, `node-read`), where no clock fault is found no clock is too
 -- deep (`all-within`), its faults are its clock faults, else the one that rewriting stops at (`node-faults`, `no-faults`). For loops over
--- nodes, faults, names and tokens of the output from node i on (`faults-left`, `names-left`, `tokens-left`) and up to it (`..-front`).
+-- nodes, names of the output from node i on (`names-left`), and faults, names and tokens of the output up to it (`..-front`).
 use Prim.Native.Nat.{ℕ, zero, suc, _+_, _-_, _≤_, _<_}
 use mathlib.Core.Path.{_≡_, refl, sym, ap, ap₂, _∙_, subst}
 use mathlib.Core.List.{List, [], _∷_, _++_, map, append-assoc, append-nil, cons≢nil, List·Memᴰ, List·Memᴰ·head, List·Memᴰ·tail}
@@ -11,7 +11,7 @@ use native.Mathlib.Numerals.{add-one}
 use lib.Dec.{leb}
 use lib.ListN.{length, take, drop, getElem?, drop-of-length-le, length-map}
 use lib.Seq.{length-take-le, take-all}
-use borrow.Author.Tests.{le-leb, lt-leb}
+use borrow.Author.Tests.{lt-leb}
 use Rattle.definitions.specs.declared.Refusal.{Refusal}
 use Rattle.definitions.specs.declared.FaultRecord.{FaultRecord}
 use Rattle.definitions.specs.declared.Token.{Token}
@@ -224,12 +224,6 @@ module _ (names : List Letters) (sheet : Sheet) (n : ClockedNode) where
           one (some f) = refl
 
   -- the same case by case: it has clock faults; it uses no clocks; it does
-  pub clock-faulty : (f : NodeFault) (fs : List NodeFault) → clockFaults (n .clocking .findings) ≡ f ∷ fs → nodeFaults names sheet n ≡ f ∷ fs
-  clock-faulty f fs e = node-faults ∙ ap (λ (l : List NodeFault). faultsBy l (usesClocks (n .node)) (faultOf sheet names n)) e
-
-  pub unclocked-faultless : clockFaults (n .clocking .findings) ≡ [] → usesClocks (n .node) ≡ false → nodeFaults names sheet n ≡ []
-  unclocked-faultless e u = node-faults ∙ ap₂ (λ (l : List NodeFault) (b : Bool). faultsBy l b (faultOf sheet names n)) e u
-
   pub rewriting-faulty : clockFaults (n .clocking .findings) ≡ [] → usesClocks (n .node) ≡ true → nodeFaults names sheet n ≡ oneOf (faultOf sheet names n)
   rewriting-faulty e u = node-faults ∙ ap₂ (λ (l : List NodeFault) (b : Bool). faultsBy l b (faultOf sheet names n)) e u
 
@@ -287,9 +281,6 @@ append-numbered f i (a ∷ l) m =
     rw e (ap (λ k. f i a ++ k) (append-numbered f (suc i) l m) ∙ sym (append-assoc (f i a) (join (numbered f (suc i) l)) (join (numbered f (suc i + length l) m))))
 
 module _ (r : Input) {nodes : List Node} {ns : List ClockedNode} {i : ℕ} (u : NodeHere nodes ns i) where
-  pub faults-left : firstFaultsFrom r i (drop i ns) ≡ firstOf i (nodeFaults (r .names) (r .sheet) (u .clocked)) ++ firstFaultsFrom r (i + 1) (drop (i + 1) ns)
-  faults-left = ap (firstFaultsFrom r i) (u .left) ∙ faults-step r i (u .clocked) (drop (i + 1) ns)
-
   pub faults-front : firstFaultsFrom r 0 (take (i + 1) ns) ≡ firstFaultsFrom r 0 (take i ns) ++ firstOf i (nodeFaults (r .names) (r .sheet) (u .clocked))
   unfolding firstFaultsFrom
   faults-front =
@@ -349,14 +340,7 @@ module _ (names : List Letters) (sheet : Sheet) where
     unfolding outputTokens
     tokens-end = refl
 
-    pub tokens-step : (n : ClockedNode) (rest : List ClockedNode) → outputTokens names sheet all (n ∷ rest) ≡ nodeTokens (outputNode names sheet all n) ++ outputTokens names sheet all rest
-    unfolding outputTokens
-    tokens-step n rest = refl
-
     module _ {nodes : List Node} {ns : List ClockedNode} {i : ℕ} (u : NodeHere nodes ns i) where
-      pub tokens-left : outputTokens names sheet all (drop i ns) ≡ nodeTokens (outputNode names sheet all (u .clocked)) ++ outputTokens names sheet all (drop (i + 1) ns)
-      tokens-left = ap (outputTokens names sheet all) (u .left) ∙ tokens-step (u .clocked) (drop (i + 1) ns)
-
       pub tokens-front : outputTokens names sheet all (take (i + 1) ns) ≡ outputTokens names sheet all (take i ns) ++ nodeTokens (outputNode names sheet all (u .clocked))
       unfolding outputTokens
       tokens-front =
@@ -365,10 +349,6 @@ module _ (names : List Letters) (sheet : Sheet) where
 
 -- ---- the limits of an output
 module _ (names : List Letters) (out : Sheet) where
-  pub limits-kept : length names ≤ 1024 → length (join names) ≤ 16384 → length (sheetTokens out) ≤ 8192 → withinLimits names out ≡ true
-  unfolding withinLimits
-  limits-kept a b c = rw (le-leb (length names) 1024 a, le-leb (length (join names)) 16384 b, le-leb (length (sheetTokens out)) 8192 c)
-
   pub many-names : 1024 < length names → withinLimits names out ≡ false
   unfolding withinLimits
   many-names h = rw (lt-leb (length names) 1024 h)

@@ -9,7 +9,7 @@ use lib.ListN.{length}
 use Rattle.definitions.specs.declared.Primitive.{Primitive}
 use Rattle.definitions.specs.Lists.{choose, numbered, upFrom, Letters}
 use Rattle.definitions.specs.Tree.{Ty, Expr, Equation, Node, Sheet}
-use Rattle.definitions.specs.Clock.{Clock, base, _/_, sameClock, isBase, chainOrder, insert, inChainOrder}
+use Rattle.definitions.specs.Clock.{Clock, base, _↓_, sameClock, isBase, chainOrder, insert, inChainOrder}
 use Rattle.definitions.specs.InferClocks.{usesClocks}
 use Rattle.definitions.specs.Declock.{State, nothingNeeded, Hold, done, Stem, ck, first, hold, clockPlace, New, activation, firstTick, andOf, conditionExpr, newLocals, withNew}
 use Rattle.definitions.specs.Output.{lettersOf, newLetters, newId, condactId, ClockedNode, rewritten, withNewNames, outputNode}
@@ -78,7 +78,7 @@ module _ (names : List Letters) (new : Stem → ℕ → ℕ) (condact : ℕ) (s 
 
   activation-same : (c : Clock) → has c (s .flags) ≡ true → activation (lettersOf names) new s c ≡ activationBy ids c
   activation-same base h = refl
-  activation-same (c / k) h = go (isBase c) refl
+  activation-same (c ↓ k) h = go (isBase c) refl
     where
       go : (u : Bool) → isBase c ≡ u → choose u (conditionExpr k) (andOf (Expr.var (new ck (clockPlace c (s .flags)))) (conditionExpr k)) ≡ choose u (conditionExpr k) (andOf (Expr.var (ids .flag c)) (conditionExpr k))
       go true b = refl

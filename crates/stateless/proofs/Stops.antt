@@ -7,7 +7,7 @@ use mathlib.Core.Option.{Option, none, some, Option·some-injective, Option·non
 use lib.Dec.{eqb}
 use Rattle.definitions.specs.Lists.{choose, orElse, Letters}
 use Rattle.definitions.specs.Tree.{Ty, Declared, TypeDef, Expr, Exprs, Equation, Node, Sheet}
-use Rattle.definitions.specs.Clock.{Clock, base, _/_, parent, isOn, isNot}
+use Rattle.definitions.specs.Clock.{Clock, base, _↓_, parent, isOn, isNot}
 use Rattle.definitions.specs.Types.{default}
 use Rattle.definitions.specs.InferClocks.{Fault, undeclared, noDefault, noOutputDefault, notSingleCall, preUntyped, NodeFault, Clocked}
 use Rattle.definitions.specs.Declock.{State, Rewritten, stopped, done, Rewriter, after, need, stop, Stem, flag, firstFlag, newHold, gated, outputDefaults, leftDefault, leftDefaults, callOn, heldPre, preOn, arrowOn, rewrite, rewrites, gateSeveral, underFlag, rightSide, oldEquations, Shape, bare, other, calls, shapeOf, operandType, lastType, declared, nothingNeeded}
@@ -99,20 +99,20 @@ module _ (types : List TypeDef) (nodes : List Node) (node : Node) (new : Stem �
     pre-meets base (Expr.call g es) f s = ends refl
     pre-meets base (Expr.when k a) f s = ends refl
     pre-meets base (Expr.merge x a b) f s = ends refl
-    pre-meets (c / j) (Expr.const l x) f s = held-meets (c / j) (Expr.const l x) f s
-    pre-meets (c / j) (Expr.var x) f s = ends refl
-    pre-meets (c / j) (Expr.op o es) f s = held-meets (c / j) (Expr.op o es) f s
-    pre-meets (c / j) (Expr.pre a) f s = held-meets (c / j) (Expr.pre a) f s
-    pre-meets (c / j) (Expr.arrow a b) f s = held-meets (c / j) (Expr.arrow a b) f s
-    pre-meets (c / j) (Expr.call g es) f s = held-meets (c / j) (Expr.call g es) f s
-    pre-meets (c / j) (Expr.when k a) f s = held-meets (c / j) (Expr.when k a) f s
-    pre-meets (c / j) (Expr.merge x a b) f s = held-meets (c / j) (Expr.merge x a b) f s
+    pre-meets (c ↓ j) (Expr.const l x) f s = held-meets (c ↓ j) (Expr.const l x) f s
+    pre-meets (c ↓ j) (Expr.var x) f s = ends refl
+    pre-meets (c ↓ j) (Expr.op o es) f s = held-meets (c ↓ j) (Expr.op o es) f s
+    pre-meets (c ↓ j) (Expr.pre a) f s = held-meets (c ↓ j) (Expr.pre a) f s
+    pre-meets (c ↓ j) (Expr.arrow a b) f s = held-meets (c ↓ j) (Expr.arrow a b) f s
+    pre-meets (c ↓ j) (Expr.call g es) f s = held-meets (c ↓ j) (Expr.call g es) f s
+    pre-meets (c ↓ j) (Expr.when k a) f s = held-meets (c ↓ j) (Expr.when k a) f s
+    pre-meets (c ↓ j) (Expr.merge x a b) f s = held-meets (c ↓ j) (Expr.merge x a b) f s
 
     -- a `->`
     arrow-meets : (c : Clock) (a b : Expr) (s : State) → Meets {F = Fault} (faultAt i) (λ d. shapeOf d ≡ other) none (arrowOn types nodes new condact node i c a b s)
     unfolding arrowOn firstFlag
     arrow-meets base a b s = ends refl
-    arrow-meets (c / k) a b s = ends refl
+    arrow-meets (c ↓ k) a b s = ends refl
 
     mutual
       unfolding rewrite faultIn shapeAfter
@@ -126,7 +126,7 @@ module _ (types : List TypeDef) (nodes : List Node) (node : Node) (new : Stem �
       rewrite-outcome (Expr.arrow a b) c s = meets-after _ (rewrite-outcome a c s) (λ d s₁ q. meets-map _ (rewrite-outcome b c s₁) (λ e s₂ p. arrow-meets c d e s₂))
       rewrite-outcome (Expr.call f es) c s = meets-after _ (rewrites-outcome es c s) (λ fs s₁ q. call-meets c f fs es s₁)
       rewrite-outcome (Expr.when k e) c s = rewrite-outcome e (parent c) s
-      rewrite-outcome (Expr.merge x a b) c s = meets-after _ (rewrite-outcome a (c / isOn x) s) (λ d s₁ q. meets-map _ (rewrite-outcome b (c / isNot x) s₁) (λ e s₂ p. ends refl))
+      rewrite-outcome (Expr.merge x a b) c s = meets-after _ (rewrite-outcome a (c ↓ isOn x) s) (λ d s₁ q. meets-map _ (rewrite-outcome b (c ↓ isNot x) s₁) (λ e s₂ p. ends refl))
 
       pub rewrites-outcome : (es : Exprs) (c : Clock) (s : State) → Meets (faultAt i) Any (faultAmong types nodes node c c es) (rewrites types nodes new condact node i c es s)
       rewrites-outcome Exprs.end c s = ends tt
@@ -159,8 +159,8 @@ module _ (types : List TypeDef) (nodes : List Node) (node : Node) (new : Stem �
     pub right-outcome : (c : Clock) (xs : List ℕ) (e : Expr) (s : State) → Meets (faultAt i) Any (rightFault types nodes node condact c xs e) (rightSide types nodes new condact node i c xs e s)
     unfolding rightSide rightFault flag
     right-outcome base xs e s = meets-after _ (rewrite-outcome e base s) (λ f s₁ q. ends tt)
-    right-outcome (c / k) xs e s = meets-after _ (rewrite-outcome e (c / k) s) (λ f s₁ q.
-        subst (λ (u : Shape). Meets (faultAt i) Any (flaggedFault types nodes node condact xs u) (after (flag new (c / k) s₁) (λ a. underFlag types nodes new condact node i xs a f))) q (flagged-meets xs _ f _))
+    right-outcome (c ↓ k) xs e s = meets-after _ (rewrite-outcome e (c ↓ k) s) (λ f s₁ q.
+        subst (λ (u : Shape). Meets (faultAt i) Any (flaggedFault types nodes node condact xs u) (after (flag new (c ↓ k) s₁) (λ a. underFlag types nodes new condact node i xs a f))) q (flagged-meets xs _ f _))
 
   at-equation : {A : Type 0} {Q : A → Type 0} {r : Rewritten A} {o : Option Fault} (i : ℕ) → Meets (faultAt i) Q o r → Meets (λ f. f) Q (atEquation types nodes node i o) r
   at-equation i stops = stops

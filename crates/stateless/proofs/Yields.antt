@@ -9,7 +9,7 @@ use lib.Dec.{eqb}
 use lib.ListN.{length, length-append}
 use Rattle.definitions.specs.Lists.{choose}
 use Rattle.definitions.specs.Tree.{Ty, Declared, TypeDef, Expr, Exprs, Equation, Node}
-use Rattle.definitions.specs.Clock.{Clock, base, _/_, parent, isOn, isNot, isBase}
+use Rattle.definitions.specs.Clock.{Clock, base, _↓_, parent, isOn, isNot, isBase}
 use Rattle.definitions.specs.Types.{default}
 use Rattle.definitions.specs.InferClocks.{Fault, undeclared, noDefault, noOutputDefault, notSingleCall, preUntyped, Clocked}
 use Rattle.definitions.specs.Declock.{State, nothingNeeded, Hold, Rewritten, done, Rewriter, after, stop, need as require, clockPlace, add, addWithParents, Stem, ck, first, hold, flag, firstFlag, newHold, gated, outputDefaults, leftDefault, leftDefaults, operatorOutputs, callOn, heldPre, preOn, arrowOn, rewrite, rewrites, gateSeveral, underFlag, rightSide, oldEquations, Shape, bare, other, calls, shapeOf, lastType, operandType, declared, ifOf}
@@ -121,23 +121,23 @@ module _ (types : List TypeDef) (nodes : List Node) (new : Stem → ℕ → ℕ)
         → Ends (Done s (mapped (callTree types nodes node ids (gateOf types nodes node c f) c f) y)) (callOn types nodes new condact node i c f es s₁)
     unfolding callOn flag gated
     call-done base f es s s₁ y d = ends (done-map (Expr.call f) d)
-    call-done (c / k) f es s s₁ y d = go (operatorOutputs nodes f)
+    call-done (c ↓ k) f es s s₁ y d = go (operatorOutputs nodes f)
       where
-        go : (o : Option (List Declared)) → Ends (Done s (mapped (callTree types nodes node ids o (c / k) f) y))
-            ((elim o as (λ x. Rewriter Expr) [ none ↦ (λ s. done (Expr.call f es) s) | some outputs ↦ (λ s. after (flag new (c / k) s) (λ a s₁. after (outputDefaults types nodes new condact node i f outputs s₁) (λ ds s₂. gated condact a (Expr.call f es) ds s₂))) ]) s₁)
+        go : (o : Option (List Declared)) → Ends (Done s (mapped (callTree types nodes node ids o (c ↓ k) f) y))
+            ((elim o as (λ x. Rewriter Expr) [ none ↦ (λ s. done (Expr.call f es) s) | some outputs ↦ (λ s. after (flag new (c ↓ k) s) (λ a s₁. after (outputDefaults types nodes new condact node i f outputs s₁) (λ ds s₂. gated condact a (Expr.call f es) ds s₂))) ]) s₁)
         go none = ends (done-map (Expr.call f) d)
-        go (some os) = ends-after _ (outputs-give types nodes new condact node i f os (flagged (c / k) (s₁ .holds) (s₁ .condact) s₁)) (λ ds s₂ p. ends (rw (p .1)
-            (done-step s s₁ (flagged (c / k) (s₁ .holds) true s₁) y (callTree types nodes node ids (some os) (c / k) f) es _ d (step-to (c / k) true s₁) refl
-            (λ l. rw (p .0, flag-name (c / k) s₁ (length (s₁ .holds)) true refl l, agree .condact-agrees)))))
+        go (some os) = ends-after _ (outputs-give types nodes new condact node i f os (flagged (c ↓ k) (s₁ .holds) (s₁ .condact) s₁)) (λ ds s₂ p. ends (rw (p .1)
+            (done-step s s₁ (flagged (c ↓ k) (s₁ .holds) true s₁) y (callTree types nodes node ids (some os) (c ↓ k) f) es _ d (step-to (c ↓ k) true s₁) refl
+            (λ l. rw (p .0, flag-name (c ↓ k) s₁ (length (s₁ .holds)) true refl l, agree .condact-agrees)))))
 
     -- a `->`
     arrow-done : (c : Clock) (a b : Expr) (s s₁ : State) (y z : Yield Expr) → ((f : Expr → Expr → Expr) → Done s (joined f y z) (f a b) s₁)
         → Ends (Done s (joined (arrowTree types nodes node ids c) y z)) (arrowOn types nodes new condact node i c a b s₁)
     unfolding arrowOn firstFlag
     arrow-done base a b s s₁ y z d = ends (d (λ d e. Expr.arrow d e))
-    arrow-done (c / k) a b s s₁ y z d =
-        ends (done-step s s₁ _ (joined (λ d e. ifOf (Expr.var (ids .first (c / k))) d e) y z) (λ e. e) _ _ (d (λ d e. ifOf (Expr.var (ids .first (c / k))) d e)) (step-first (c / k) (needsOf s₁) refl) refl
-        (λ l. ap (λ (x : ℕ). ifOf (Expr.var x) a b) (first-name (c / k) s₁ l)))
+    arrow-done (c ↓ k) a b s s₁ y z d =
+        ends (done-step s s₁ _ (joined (λ d e. ifOf (Expr.var (ids .first (c ↓ k))) d e) y z) (λ e. e) _ _ (d (λ d e. ifOf (Expr.var (ids .first (c ↓ k))) d e)) (step-first (c ↓ k) (needsOf s₁) refl) refl
+        (λ l. ap (λ (x : ℕ). ifOf (Expr.var x) a b) (first-name (c ↓ k) s₁ l)))
 
     -- a `pre` that is held
     held-done : (c : Clock) (e f : Expr) (s s₁ : State) (y : Yield Expr) → isBase c ≡ false → Done s y f s₁
@@ -181,14 +181,14 @@ module _ (types : List TypeDef) (nodes : List Node) (new : Stem → ℕ → ℕ)
     pre-done base (Expr.call g es) f s s₁ y d = ends (done-map Expr.pre d)
     pre-done base (Expr.when k a) f s s₁ y d = ends (done-map Expr.pre d)
     pre-done base (Expr.merge x a b) f s s₁ y d = ends (done-map Expr.pre d)
-    pre-done (c / j) (Expr.const l x) f s s₁ y d = held-done (c / j) (Expr.const l x) f s s₁ y refl d
-    pre-done (c / j) (Expr.var x) f s s₁ y d = ends (done-map Expr.pre d)
-    pre-done (c / j) (Expr.op o es) f s s₁ y d = held-done (c / j) (Expr.op o es) f s s₁ y refl d
-    pre-done (c / j) (Expr.pre a) f s s₁ y d = held-done (c / j) (Expr.pre a) f s s₁ y refl d
-    pre-done (c / j) (Expr.arrow a b) f s s₁ y d = held-done (c / j) (Expr.arrow a b) f s s₁ y refl d
-    pre-done (c / j) (Expr.call g es) f s s₁ y d = held-done (c / j) (Expr.call g es) f s s₁ y refl d
-    pre-done (c / j) (Expr.when k a) f s s₁ y d = held-done (c / j) (Expr.when k a) f s s₁ y refl d
-    pre-done (c / j) (Expr.merge x a b) f s s₁ y d = held-done (c / j) (Expr.merge x a b) f s s₁ y refl d
+    pre-done (c ↓ j) (Expr.const l x) f s s₁ y d = held-done (c ↓ j) (Expr.const l x) f s s₁ y refl d
+    pre-done (c ↓ j) (Expr.var x) f s s₁ y d = ends (done-map Expr.pre d)
+    pre-done (c ↓ j) (Expr.op o es) f s s₁ y d = held-done (c ↓ j) (Expr.op o es) f s s₁ y refl d
+    pre-done (c ↓ j) (Expr.pre a) f s s₁ y d = held-done (c ↓ j) (Expr.pre a) f s s₁ y refl d
+    pre-done (c ↓ j) (Expr.arrow a b) f s s₁ y d = held-done (c ↓ j) (Expr.arrow a b) f s s₁ y refl d
+    pre-done (c ↓ j) (Expr.call g es) f s s₁ y d = held-done (c ↓ j) (Expr.call g es) f s s₁ y refl d
+    pre-done (c ↓ j) (Expr.when k a) f s s₁ y d = held-done (c ↓ j) (Expr.when k a) f s s₁ y refl d
+    pre-done (c ↓ j) (Expr.merge x a b) f s s₁ y d = held-done (c ↓ j) (Expr.merge x a b) f s s₁ y refl d
 
     mutual
       unfolding rewrite yield
@@ -203,8 +203,8 @@ module _ (types : List TypeDef) (nodes : List Node) (new : Stem → ℕ → ℕ)
           arrow-done c d e s s₂ y (yield types nodes node ids c (y .after) b) (λ f. done-join s s₁ s₂ f y (λ n. yield types nodes node ids c n b) d e p q)))
       rewrite-done (Expr.call f es) c s = ends-after _ (rewrites-done es c s) (λ fs s₁ d. call-done c f fs s s₁ _ d)
       rewrite-done (Expr.when k e) c s = rewrite-done e (parent c) s
-      rewrite-done (Expr.merge x a b) c s = ends-after _ (rewrite-done a (c / isOn x) s) (λ d s₁ p. ends-after _ (rewrite-done b (c / isNot x) s₁) (λ e s₂ q.
-          ends (done-join s s₁ s₂ (λ d e. ifOf (Expr.var x) d e) (yield types nodes node ids (c / isOn x) (length (s .holds)) a) (λ n. yield types nodes node ids (c / isNot x) n b) d e p q)))
+      rewrite-done (Expr.merge x a b) c s = ends-after _ (rewrite-done a (c ↓ isOn x) s) (λ d s₁ p. ends-after _ (rewrite-done b (c ↓ isNot x) s₁) (λ e s₂ q.
+          ends (done-join s s₁ s₂ (λ d e. ifOf (Expr.var x) d e) (yield types nodes node ids (c ↓ isOn x) (length (s .holds)) a) (λ n. yield types nodes node ids (c ↓ isNot x) n b) d e p q)))
 
       rewrites-done : (es : Exprs) (c : Clock) (s : State) → Ends (Done s (yields types nodes node ids c c (length (s .holds)) es)) (rewrites types nodes new condact node i c es s)
       rewrites-done Exprs.end c s = ends (done-still Exprs.end s)
@@ -259,7 +259,7 @@ module _ (types : List TypeDef) (nodes : List Node) (new : Stem → ℕ → ℕ)
     pub right-done : (c : Clock) (xs : List ℕ) (e : Expr) (s : State) → Ends (Done s (rightYield types nodes node ids c xs (length (s .holds)) e)) (rightSide types nodes new condact node i c xs e s)
     unfolding rightSide rightYield flag
     right-done base xs e s = ends-after _ (rewrite-done e base s) (λ f s₁ d. ends (done-map (λ g. g) d))
-    right-done (c / k) xs e s = ends-after _ (rewrite-done e (c / k) s) (λ f s₁ d. flagged-done (c / k) xs f s s₁ _ refl d)
+    right-done (c ↓ k) xs e s = ends-after _ (rewrite-done e (c ↓ k) s) (λ f s₁ d. flagged-done (c ↓ k) xs f s s₁ _ refl d)
 
   -- the old equations, from equation i on
   pub old-done : (i : ℕ) (es : List Clocked) (s : State) → Ends (Done s (oldYield types nodes node ids (length (s .holds)) es)) (oldEquations types nodes new condact node i es s)
@@ -269,15 +269,7 @@ module _ (types : List TypeDef) (nodes : List Node) (new : Stem → ℕ → ℕ)
       ends (done-join s s₁ s₂ (λ r rest. record { left = e .equation .left; right = r } ∷ rest)
       (rightYield types nodes node ids (e .clock) (e .equation .left) (length (s .holds)) (e .equation .right)) (λ n. oldYield types nodes node ids n es) r rest p q)))
 
-  -- THE LAWS: where rewriting ends, it ends with what is yielded
-  pub rewrite-yields : (i : ℕ) (c : Clock) (e a : Expr) (s s′ : State) → rewrite types nodes new condact node i c e s ≡ done a s′ → Leads (needsOf s′) w
-      → Same s (yield types nodes node ids c (length (s .holds)) e) a s′
-  rewrite-yields i c e a s s′ q l = ended a s′ q (rewrite-done i e c s) .same l
-
-  pub right-yields : (i : ℕ) (c : Clock) (xs : List ℕ) (e a : Expr) (s s′ : State) → rightSide types nodes new condact node i c xs e s ≡ done a s′ → Leads (needsOf s′) w
-      → Same s (rightYield types nodes node ids c xs (length (s .holds)) e) a s′
-  right-yields i c xs e a s s′ q l = ended a s′ q (right-done i c xs e s) .same l
-
+  -- THE LAW: where rewriting of the equations ends, it ends with what is yielded
   pub old-yields : (i : ℕ) (es : List Clocked) (rs : List Equation) (s s′ : State) → oldEquations types nodes new condact node i es s ≡ done rs s′ → Leads (needsOf s′) w
       → Same s (oldYield types nodes node ids (length (s .holds)) es) rs s′
   old-yields i es rs s s′ q l = ended rs s′ q (old-done i es s) .same l
@@ -335,7 +327,7 @@ module _ (types : List TypeDef) (nodes : List Node) (new : Stem → ℕ → ℕ)
         → Ends (λ f s₁. needsOf s₁ ≡ rightNeeds types nodes node condact c xs e (needsOf s)) (rightSide types nodes new condact node i c xs e s)
     unfolding rightSide rightNeeds flag
     right-needs base xs e s = ends-after _ (rewrite-leaves base e s) (λ f s₁ q. ends (q .1))
-    right-needs (c / k) xs e s = ends-after _ (rewrite-leaves (c / k) e s) (λ f s₁ q. ends-map (λ g s₂ p. p ∙ rw (q .0, q .1)) (flagged-needs (c / k) xs _ f s₁))
+    right-needs (c ↓ k) xs e s = ends-after _ (rewrite-leaves (c ↓ k) e s) (λ f s₁ q. ends-map (λ g s₂ p. p ∙ rw (q .0, q .1)) (flagged-needs (c ↓ k) xs _ f s₁))
 
   -- what the old equations need, from equation i on
   pub old-needed : (i : ℕ) (es : List Clocked) (s : State)

@@ -5,7 +5,7 @@ use mathlib.Core.Option.{Option, none, some}
 use lib.Dec.{eqb}
 use Rattle.definitions.specs.Lists.{choose, orElse}
 use Rattle.definitions.specs.Tree.{Ty, Declared, TypeDef, Expr, Exprs, Equation, Node}
-use Rattle.definitions.specs.Clock.{Clock, _/_, parent, isOn, isNot, isBase}
+use Rattle.definitions.specs.Clock.{Clock, _↓_, parent, isOn, isNot, isBase}
 use Rattle.definitions.specs.Types.{default}
 use Rattle.definitions.specs.InferClocks.{Fault, undeclared, noDefault, noOutputDefault, notSingleCall, preUntyped, NodeFault, Clocked}
 use Rattle.definitions.specs.Declock.{Shape, bare, other, calls, declared, lastType, operandType, operatorOutputs}
@@ -49,7 +49,7 @@ module _ (types : List TypeDef) (nodes : List Node) (node : Node) where
     faultIn c (Expr.arrow a b) = orElse (faultIn c a) (faultIn c b)
     faultIn c (Expr.call f es) = orElse (faultAmong c c es) (gateFault f (gateOf types nodes node c f))
     faultIn c (Expr.when k e) = faultIn (parent c) e
-    faultIn c (Expr.merge x a b) = orElse (faultIn (c / isOn x) a) (faultIn (c / isNot x) b)
+    faultIn c (Expr.merge x a b) = orElse (faultIn (c ↓ isOn x) a) (faultIn (c ↓ isNot x) b)
 
     -- operands, of which the first is on c and the others on d
     pub faultAmong : Clock → Clock → Exprs → Option Fault

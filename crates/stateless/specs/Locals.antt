@@ -7,7 +7,7 @@ use lib.ListN.{getD}
 use Rattle.definitions.specs.declared.Primitive.{Primitive}
 use Rattle.definitions.specs.Lists.{choose, any, numbered}
 use Rattle.definitions.specs.Tree.{Ty, Declared, Expr, Equation, Node}
-use Rattle.definitions.specs.Clock.{Clock, base, _/_, isBase, sameClock}
+use Rattle.definitions.specs.Clock.{Clock, base, _↓_, isBase, sameClock}
 use Rattle.definitions.specs.Declock.{Stem, ck, first, hold, Hold, clockPlace, trueOf, notOf, andOf, conditionExpr}
 use Rattle.stateless.specs.Yield.{Ids}
 
@@ -38,7 +38,7 @@ module _ (ids : Ids) where
   -- a clock's condition, and its parent's flag where the parent is not base
   abbrev pub activationBy : Clock → Expr
   activationBy base = trueOf
-  activationBy (c / k) = choose (isBase c) (conditionExpr k) (andOf (Expr.var (ids .flag c)) (conditionExpr k))
+  activationBy (c ↓ k) = choose (isBase c) (conditionExpr k) (andOf (Expr.var (ids .flag c)) (conditionExpr k))
 
   -- true until the clock has been on at a tick before
   abbrev pub firstTickBy : Clock → Expr

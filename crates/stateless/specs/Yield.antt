@@ -8,7 +8,7 @@ use Rattle.definitions.specs.declared.Primitive.{Primitive}
 use Rattle.definitions.specs.declared.Literal.{Literal}
 use Rattle.definitions.specs.Lists.{choose}
 use Rattle.definitions.specs.Tree.{Ty, Declared, TypeDef, Head, Expr, Exprs, Equation, Node}
-use Rattle.definitions.specs.Clock.{Clock, base, _/_, parent, isOn, isNot, isBase}
+use Rattle.definitions.specs.Clock.{Clock, base, _↓_, parent, isOn, isNot, isBase}
 use Rattle.definitions.specs.Types.{default}
 use Rattle.definitions.specs.InferClocks.{Clocked}
 use Rattle.definitions.specs.Declock.{Hold, Shape, bare, other, calls, shapeOf, ifOf, declared, lastType, operandType, operatorOutputs}
@@ -123,7 +123,7 @@ module _ (types : List TypeDef) (nodes : List Node) (node : Node) where
       yield c n (Expr.call f es) = mapped (callTree (gateOf c f) c f) (yields c c n es)
       yield c n (Expr.when k e) = yield (parent c) n e
       yield c n (Expr.merge x a b) =
-          joined (λ d e. ifOf (Expr.var x) d e) (yield (c / isOn x) n a) (yield (c / isNot x) (yield (c / isOn x) n a .after) b)
+          joined (λ d e. ifOf (Expr.var x) d e) (yield (c ↓ isOn x) n a) (yield (c ↓ isNot x) (yield (c ↓ isOn x) n a .after) b)
 
       -- operands, of which the first is on c and the others on d
       pub yields : Clock → Clock → ℕ → Exprs → Yield Exprs

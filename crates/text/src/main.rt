@@ -33,7 +33,7 @@ fn show(fd: i32, out: &[u8], n: usize) {
 
 fn refuse(r: Refusal) {
     let mut line = [0u8; 256];
-    let n = arguments::put_reason(&mut line, r);
+    let n = refusals::put_reason(&mut line, r);
     show(STDERR_FILENO, &line, n);
 }
 
@@ -50,8 +50,9 @@ fn tell(sheet: &[u8], node: usize, fault: usize, out: &mut [u8]) {
 }
 
 fn tell_lent(sheet: &[u8], node: usize, fault: usize, out: &mut [u8], lent: usize) {
-    if lent <= out.len() {
-        tell(sheet, node, fault, &mut out[..lent]);
+    let from: usize = 0;
+    if lent < out.len() {
+        tell(sheet, node, fault, &mut out[from..lent]);
         return;
     }
     tell(sheet, node, fault, out);

@@ -7,7 +7,7 @@ use native.Mathlib.Numerals.{add-one}
 use lib.ListN.{length}
 use Rattle.definitions.specs.declared.Condition.{Condition}
 use Rattle.definitions.specs.Lists.{Letters, bytes}
-use Rattle.definitions.specs.Clock.{Clock, base, _/_, conditions}
+use Rattle.definitions.specs.Clock.{Clock, base, _↓_, conditions}
 use Rattle.definitions.specs.Texts.{separated, conditionText, testSign, clockText, clockKey}
 use Rattle.clock.specs.Value.{at, clockAt}
 use Rattle.spelling.specs.Writing.{Put, farthest}
@@ -34,12 +34,12 @@ separated-last by (a ∷ l) x y =
     ∙ ap (λ r. a ++ r) (append-assoc by (separated by (l ++ (x ∷ []))) (by ++ y)))
 
 module _ (letters : ℕ → Letters) where
-  pub words-last : (c : Clock) (j k : Condition) → words letters ((c / j) / k) ≡ words letters (c / j) ++ (bytes " " ++ conditionText letters k)
+  pub words-last : (c : Clock) (j k : Condition) → words letters ((c ↓ j) ↓ k) ≡ words letters (c ↓ j) ++ (bytes " " ++ conditionText letters k)
   unfolding words conditions
   words-last c j k =
       let f = conditionText letters in
       let l = map f (conditions c) in
-      ap (λ r. separated (bytes " ") r) (map-last f (conditions (c / j)) k ∙ ap (λ r. r ++ (f k ∷ [])) (map-last f (conditions c) j))
+      ap (λ r. separated (bytes " ") r) (map-last f (conditions (c ↓ j)) k ∙ ap (λ r. r ++ (f k ∷ [])) (map-last f (conditions c) j))
       ∙ separated-last (bytes " ") l (f j) (f k)
       ∙ ap (λ r. separated (bytes " ") r ++ (bytes " " ++ f k)) (sym (map-last f (conditions c) j))
 

@@ -10,7 +10,7 @@ use lib.ListN.{length, getD, take, drop, length-append, length-take, length-drop
 use Rattle.definitions.specs.declared.Test.{Test}
 use Rattle.definitions.specs.declared.Condition.{Condition}
 use Rattle.definitions.specs.Lists.{choose, join, Letters, bytes}
-use Rattle.definitions.specs.Clock.{Clock, base, _/_, conditions, depth}
+use Rattle.definitions.specs.Clock.{Clock, base, _↓_, conditions, depth}
 use Rattle.definitions.specs.InferClocks.{Fault, leftElsewhere, usedElsewhere, whenElsewhere, clockNameElsewhere, undeclared, noDefault, noOutputDefault, notSingleCall, preUntyped, faultNumber, NodeFault}
 use Rattle.definitions.specs.Texts.{whenText, testSign, separated, conditionText, clockText, faultText, clockKey, faultLine}
 use Rattle.clock.proofs.Laws.{value-depth}
@@ -70,22 +70,22 @@ module _ (letters : ℕ → Letters) (m : ℕ) (short : (x : ℕ) → length (le
   words-length : (c : Clock) → length (words letters c) ≤ depth c * (m + 10)
   unfolding words conditions separated bytes
   words-length base = omega arith
-  words-length (base / k) = omega (arith, suc-mul 0 (m + 10), condition-length k)
-  words-length ((c / j) / k) =
-      omega (arith, suc-mul (depth (c / j)) (m + 10), words-length (c / j), condition-length k, ap length (words-last letters c j k), length-append (words letters (c / j)) (32 ∷ conditionText letters k))
+  words-length (base ↓ k) = omega (arith, suc-mul 0 (m + 10), condition-length k)
+  words-length ((c ↓ j) ↓ k) =
+      omega (arith, suc-mul (depth (c ↓ j)) (m + 10), words-length (c ↓ j), condition-length k, ap length (words-last letters c j k), length-append (words letters (c ↓ j)) (32 ∷ conditionText letters k))
 
   -- a clock in a text
   clock-length : (c : Clock) → depth c ≤ 8 → length (clockText letters c) ≤ 8 * m + 88
   unfolding clockText words bytes
   clock-length base h = omega arith
-  clock-length (c / k) h =
-      omega (arith, words-length (c / k), mul-le-mul-right (m + 10) h, length-append (words letters (c / k)) (bytes "`"))
+  clock-length (c ↓ k) h =
+      omega (arith, words-length (c ↓ k), mul-le-mul-right (m + 10) h, length-append (words letters (c ↓ k)) (bytes "`"))
 
   -- a clock in the listing
   pub key-length : (c : Clock) → length (clockKey letters c) ≤ 4 + depth c * (m + 2)
   unfolding clockKey bytes
   key-length base = omega arith
-  key-length (c / k) =
+  key-length (c ↓ k) =
       omega (arith, key-length c, suc-mul (depth c) (m + 2), short (k .name), sign-length (k .test), length-append (clockKey letters c) (47 ∷ (letters (k .name) ++ testSign (k .test))), length-append (letters (k .name)) (testSign (k .test)))
 
   -- a fault in a text

@@ -23,7 +23,7 @@ pub enum Lending {
 }
 
 // A name between backquotes.
-pub fn put_quoted(out: &mut [u8], at: usize, starts: &[u32], letters: &[u8], x: u32) -> usize
+fn put_quoted(out: &mut [u8], at: usize, starts: &[u32], letters: &[u8], x: u32) -> usize
     requires { ⌜ length (now out) ≤ farthest ⌝ }
     ensures { λ r. ⌜ Put (quoted (lettersAt (now (starts .entry)) (now (letters .entry))) x) at (now (out .entry)) r (now (out .exit)) ⌝ }
 {
@@ -44,13 +44,7 @@ fn put_when(out: &mut [u8], at: usize, test: Test) -> usize
 }
 
 // A condition in a text.
-pub fn put_condition(
-    out: &mut [u8],
-    at: usize,
-    starts: &[u32],
-    letters: &[u8],
-    k: Condition,
-) -> usize
+fn put_condition(out: &mut [u8], at: usize, starts: &[u32], letters: &[u8], k: Condition) -> usize
     requires { ⌜ length (now out) ≤ farthest ⌝ }
     ensures { λ r. ⌜ Put (conditionText (lettersAt (now (starts .entry)) (now (letters .entry))) k) at (now (out .entry)) r (now (out .exit)) ⌝ }
 {
@@ -86,7 +80,7 @@ fn put_conditions(
 }
 
 // A clock in a text.
-pub fn put_clock_text(out: &mut [u8], at: usize, starts: &[u32], letters: &[u8], c: Clock) -> usize
+fn put_clock_text(out: &mut [u8], at: usize, starts: &[u32], letters: &[u8], c: Clock) -> usize
     requires { ⌜ length (now out) ≤ farthest ⌝ }
     ensures { λ r. ⌜ Put (clockText (lettersAt (now (starts .entry)) (now (letters .entry))) (valueOf c)) at (now (out .entry)) r (now (out .exit)) ⌝ }
 {
@@ -229,7 +223,7 @@ fn put_no_output_default(
 }
 
 // The text of a fault.
-pub fn put_fault_text(out: &mut [u8], at: usize, starts: &[u32], letters: &[u8], f: Fault) -> usize
+fn put_fault_text(out: &mut [u8], at: usize, starts: &[u32], letters: &[u8], f: Fault) -> usize
     requires { ⌜ length (now out) ≤ farthest ⌝ }
     ensures { λ r. ⌜ Put (faultText (lettersAt (now (starts .entry)) (now (letters .entry))) (faultOf f)) at (now (out .entry)) r (now (out .exit)) ⌝ }
 {
@@ -278,7 +272,7 @@ fn put_key_part(out: &mut [u8], at: usize, starts: &[u32], letters: &[u8], k: Co
 }
 
 // A clock in the listing.
-pub fn put_clock_key(out: &mut [u8], at: usize, starts: &[u32], letters: &[u8], c: Clock) -> usize
+fn put_clock_key(out: &mut [u8], at: usize, starts: &[u32], letters: &[u8], c: Clock) -> usize
     requires { ⌜ length (now out) ≤ farthest ⌝ }
     ensures { λ r. ⌜ Put (clockKey (lettersAt (now (starts .entry)) (now (letters .entry))) (valueOf c)) at (now (out .entry)) r (now (out .exit)) ⌝ }
 {

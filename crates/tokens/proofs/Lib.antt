@@ -1,4 +1,4 @@
 -- What other crates cite.
 pub mod Back
 -- What this crate's proofs share.
-mod Classes
+mod Outside

@@ -1,3 +1,2 @@
 pub mod Found
 pub mod Range
-pub mod Classes

@@ -9,13 +9,13 @@ use definitions::Token;
 use definitions::TypeToken;
 use definitions::UnaryOp;
 ghost use mathlib.Core.Path.{_≡_};
+ghost use mathlib.Core.Option.{some};
+ghost use Prim.Native.Nat.{ℕ, _+_, _≤_, _<_};
 ghost use Rattle.definitions.specs.declared.ExprToken.{ExprToken};
-ghost use Rattle.definitions.specs.declared.TypeToken.{TypeToken};
 ghost use lib.Dec.{eqb, ltb};
 ghost use Rattle.definitions.specs.Tokens.{given, mapped, unaryOf, binaryOf, primitiveOf, kindOf, typeTokenOf, definitionTokenOf, exprTokenOf};
 ghost use Rattle.definitions.specs.Tokens.{unaryValue, binaryValue, primitiveTag, kindCode, literalCode, typeCode, definitionCode, exprCode, tagOf, valueOf};
 ghost use Rattle.tokens.specs.Found.{exprOption, typeOption, definitionOption, kindOption};
-ghost use Rattle.tokens.specs.Classes.{classOf};
 
 // An expression's first token, if there is one.
 pub enum FoundExpr {
@@ -39,14 +39,6 @@ pub enum FoundDefinition {
 pub enum FoundKind {
     Kind(NodeKind),
     Nothing,
-}
-
-// What a tag's token is the first of.
-enum Class {
-    Definition,
-    Type,
-    Expression,
-    Other,
 }
 
 // "55 unary(0, 1)"
@@ -89,24 +81,24 @@ fn binary_token(value: u32) -> FoundExpr
     }
 }
 
-// "20 to 31 the types Bool to Char in the Rust's order"
-fn primitive_token(tag: u8) -> FoundType
-    ensures { λ r. ⌜ typeOption r ≡ mapped TypeToken.Basic (primitiveOf tag) ⌝ }
+// "20 to 31 the types Bool to Char in the Rust's order": the type at a place of that order, Bool at 0.
+fn primitive_at(place: u8) -> Primitive
+    requires { ⌜ place ≤ 11 ⌝ }
+    ensures { λ r. ⌜ primitiveOf (place + 20) ≡ some r ⌝ }
 {
-    match tag {
-        20 => FoundType::Token(TypeToken::Basic(Primitive::Bool)),
-        21 => FoundType::Token(TypeToken::Basic(Primitive::Int8)),
-        22 => FoundType::Token(TypeToken::Basic(Primitive::Int16)),
-        23 => FoundType::Token(TypeToken::Basic(Primitive::Int32)),
-        24 => FoundType::Token(TypeToken::Basic(Primitive::Int64)),
-        25 => FoundType::Token(TypeToken::Basic(Primitive::Uint8)),
-        26 => FoundType::Token(TypeToken::Basic(Primitive::Uint16)),
-        27 => FoundType::Token(TypeToken::Basic(Primitive::Uint32)),
-        28 => FoundType::Token(TypeToken::Basic(Primitive::Uint64)),
-        29 => FoundType::Token(TypeToken::Basic(Primitive::Float32)),
-        30 => FoundType::Token(TypeToken::Basic(Primitive::Float64)),
-        31 => FoundType::Token(TypeToken::Basic(Primitive::Char)),
-        _ => FoundType::Nothing,
+    match place {
+        0 => Primitive::Bool,
+        1 => Primitive::Int8,
+        2 => Primitive::Int16,
+        3 => Primitive::Int32,
+        4 => Primitive::Int64,
+        5 => Primitive::Uint8,
+        6 => Primitive::Uint16,
+        7 => Primitive::Uint32,
+        8 => Primitive::Uint64,
+        9 => Primitive::Float32,
+        10 => Primitive::Float64,
+        _ => Primitive::Char,
     }
 }
 
@@ -122,46 +114,15 @@ pub fn node_kind(value: u32) -> FoundKind
     }
 }
 
-// The first token of a type that a tag and a value are, in a sheet of so many names.
-fn type_token(names: u32, tag: u8, value: u32) -> FoundType
-    ensures { λ r. ⌜ typeOption r ≡ typeTokenOf names tag value ⌝ }
+// "10 enum(id), 11 record(id), 12 alias(id)": the token of a tag among these, its id in range.
+fn definition_token(tag: u8, value: u32) -> DefinitionToken
+    requires { ⌜ (10 ≤ tag) × (tag ≤ 12) ⌝ }
+    ensures { λ r. ⌜ ((M : ℕ) → value < M → definitionTokenOf M tag value ≡ some r) ⌝ }
 {
     match tag {
-        32 => FoundType::Token(TypeToken::Array(value)),
-        33 => if value < names {
-            FoundType::Token(TypeToken::Named(value))
-        } else {
-            FoundType::Nothing
-        },
-        _ => if value == 0 {
-            primitive_token(tag)
-        } else {
-            FoundType::Nothing
-        },
-    }
-}
-
-// The first token of a definition that a tag and a value are.
-fn definition_token(names: u32, tag: u8, value: u32) -> FoundDefinition
-    ensures { λ r. ⌜ definitionOption r ≡ definitionTokenOf names tag value ⌝ }
-{
-    match tag {
-        10 => if value < names {
-            FoundDefinition::Token(DefinitionToken::Enum(value))
-        } else {
-            FoundDefinition::Nothing
-        },
-        11 => if value < names {
-            FoundDefinition::Token(DefinitionToken::Record(value))
-        } else {
-            FoundDefinition::Nothing
-        },
-        12 => if value < names {
-            FoundDefinition::Token(DefinitionToken::Alias(value))
-        } else {
-            FoundDefinition::Nothing
-        },
-        _ => FoundDefinition::Nothing,
+        10 => DefinitionToken::Enum(value),
+        11 => DefinitionToken::Record(value),
+        _ => DefinitionToken::Alias(value),
     }
 }
 
@@ -187,8 +148,9 @@ fn below(t: ExprToken, value: u32, bound: u32) -> FoundExpr
     }
 }
 
-// The first token of an expression that a tag and a value are.
+// "50 bool(0/1)" to "71 fold(id)": the token of a tag among these, if its value is in range.
 fn expr_token(names: u32, tag: u8, value: u32) -> FoundExpr
+    requires { ⌜ (50 ≤ tag) × (tag ≤ 71) ⌝ }
     ensures { λ r. ⌜ exprOption r ≡ exprTokenOf names tag value ⌝ }
 {
     match tag {
@@ -213,52 +175,50 @@ fn expr_token(names: u32, tag: u8, value: u32) -> FoundExpr
         68 => below(ExprToken::WhenNot(value), value, names),
         69 => below(ExprToken::Merge(value), value, names),
         70 => below(ExprToken::Map(value), value, names),
-        71 => below(ExprToken::Fold(value), value, names),
-        _ => FoundExpr::Nothing,
+        _ => below(ExprToken::Fold(value), value, names),
     }
 }
 
-// "20 to 31 the types Bool to Char in the Rust's order": the tags of definitions, types and expressions stand in three ranges.
-fn class_of(tag: u8) -> Class
-    ensures { λ r. ⌜ r ≡ classOf tag ⌝ }
-{
-    match tag {
-        10..=12 => Class::Definition,
-        20..=33 => Class::Type,
-        50..=71 => Class::Expression,
-        _ => Class::Other,
-    }
-}
-
-// The first token of a definition that a tag and a value are, if the tag is one of a definition.
+// The first token of a definition that a tag and a value are, if they are one.
 pub fn find_definition(names: u32, tag: u8, value: u32) -> FoundDefinition
     ensures { λ r. ⌜ definitionOption r ≡ definitionTokenOf names tag value ⌝ }
 {
-    let class = class_of(tag);
-    match class {
-        Class::Definition => definition_token(names, tag, value),
+    match tag {
+        10..=12 => if value < names {
+            FoundDefinition::Token(definition_token(tag, value))
+        } else {
+            FoundDefinition::Nothing
+        },
         _ => FoundDefinition::Nothing,
     }
 }
 
-// The first token of a type that a tag and a value are, if the tag is one of a type.
+// The first token of a type that a tag and a value are, if they are one.
 pub fn find_type(names: u32, tag: u8, value: u32) -> FoundType
     ensures { λ r. ⌜ typeOption r ≡ typeTokenOf names tag value ⌝ }
 {
-    let class = class_of(tag);
-    match class {
-        Class::Type => type_token(names, tag, value),
+    match tag {
+        20..=31 => if value == 0 {
+            FoundType::Token(TypeToken::Basic(primitive_at(tag - 20)))
+        } else {
+            FoundType::Nothing
+        },
+        32 => FoundType::Token(TypeToken::Array(value)),
+        33 => if value < names {
+            FoundType::Token(TypeToken::Named(value))
+        } else {
+            FoundType::Nothing
+        },
         _ => FoundType::Nothing,
     }
 }
 
-// The first token of an expression that a tag and a value are, if the tag is one of an expression.
+// The first token of an expression that a tag and a value are, if they are one.
 pub fn find_expr(names: u32, tag: u8, value: u32) -> FoundExpr
     ensures { λ r. ⌜ exprOption r ≡ exprTokenOf names tag value ⌝ }
 {
-    let class = class_of(tag);
-    match class {
-        Class::Expression => expr_token(names, tag, value),
+    match tag {
+        50..=71 => expr_token(names, tag, value),
         _ => FoundExpr::Nothing,
     }
 }
@@ -266,7 +226,7 @@ pub fn find_expr(names: u32, tag: u8, value: u32) -> FoundExpr
 // The way back: the tag and the value of each token.
 
 // The value of a unary operator.
-pub fn unary_value(o: UnaryOp) -> u32
+fn unary_value(o: UnaryOp) -> u32
     ensures { λ r. ⌜ r ≡ unaryValue o ⌝ }
 {
     match o {
@@ -276,7 +236,7 @@ pub fn unary_value(o: UnaryOp) -> u32
 }
 
 // The value of a binary operator.
-pub fn binary_value(o: BinOp) -> u32
+fn binary_value(o: BinOp) -> u32
     ensures { λ r. ⌜ r ≡ binaryValue o ⌝ }
 {
     match o {
@@ -304,7 +264,7 @@ pub fn binary_value(o: BinOp) -> u32
 }
 
 // The tag of a primitive type.
-pub fn primitive_tag(p: Primitive) -> u8
+fn primitive_tag(p: Primitive) -> u8
     ensures { λ r. ⌜ r ≡ primitiveTag p ⌝ }
 {
     match p {
@@ -324,7 +284,7 @@ pub fn primitive_tag(p: Primitive) -> u8
 }
 
 // The value of a node's kind.
-pub fn kind_value(k: NodeKind) -> u32
+fn kind_value(k: NodeKind) -> u32
     ensures { λ r. ⌜ r ≡ kindCode k .value ⌝ }
 {
     match k {
@@ -335,7 +295,7 @@ pub fn kind_value(k: NodeKind) -> u32
 }
 
 // The tag of a constant.
-pub fn literal_tag(l: Literal) -> u8
+fn literal_tag(l: Literal) -> u8
     ensures { λ r. ⌜ r ≡ literalCode l .tag ⌝ }
 {
     match l {
@@ -347,7 +307,7 @@ pub fn literal_tag(l: Literal) -> u8
 }
 
 // The value of a constant: of an int and a float, the low word.
-pub fn literal_value(l: Literal) -> u32
+fn literal_value(l: Literal) -> u32
     ensures { λ r. ⌜ r ≡ literalCode l .value ⌝ }
 {
     match l {
@@ -359,7 +319,7 @@ pub fn literal_value(l: Literal) -> u32
 }
 
 // The tag of a type's first token.
-pub fn type_tag(t: TypeToken) -> u8
+fn type_tag(t: TypeToken) -> u8
     ensures { λ r. ⌜ r ≡ typeCode t .tag ⌝ }
 {
     match t {
@@ -370,7 +330,7 @@ pub fn type_tag(t: TypeToken) -> u8
 }
 
 // The value of a type's first token.
-pub fn type_value(t: TypeToken) -> u32
+fn type_value(t: TypeToken) -> u32
     ensures { λ r. ⌜ r ≡ typeCode t .value ⌝ }
 {
     match t {
@@ -381,7 +341,7 @@ pub fn type_value(t: TypeToken) -> u32
 }
 
 // The tag of a definition's first token.
-pub fn definition_tag(t: DefinitionToken) -> u8
+fn definition_tag(t: DefinitionToken) -> u8
     ensures { λ r. ⌜ r ≡ definitionCode t .tag ⌝ }
 {
     match t {
@@ -392,7 +352,7 @@ pub fn definition_tag(t: DefinitionToken) -> u8
 }
 
 // The value of a definition's first token.
-pub fn definition_value(t: DefinitionToken) -> u32
+fn definition_value(t: DefinitionToken) -> u32
     ensures { λ r. ⌜ r ≡ definitionCode t .value ⌝ }
 {
     match t {
@@ -403,7 +363,7 @@ pub fn definition_value(t: DefinitionToken) -> u32
 }
 
 // The tag of an expression's first token.
-pub fn expr_tag(t: ExprToken) -> u8
+fn expr_tag(t: ExprToken) -> u8
     ensures { λ r. ⌜ r ≡ exprCode t .tag ⌝ }
 {
     match t {
@@ -430,7 +390,7 @@ pub fn expr_tag(t: ExprToken) -> u8
 }
 
 // The value of an expression's first token.
-pub fn expr_value(t: ExprToken) -> u32
+fn expr_value(t: ExprToken) -> u32
     ensures { λ r. ⌜ r ≡ exprCode t .value ⌝ }
 {
     match t {

@@ -10,10 +10,10 @@ use Rattle.definitions.specs.Tokens.{TagValue}
 use Rattle.definitions.specs.Refusals.{accepted}
 use Rattle.definitions.specs.Bytes.{Parts, size, M, L, T, lengths, letters, tags, values, tokens, fourByteWords, cut, parts}
 use Rattle.definitions.specs.Output.{wordBytes, sheetBytes}
-use Rattle.parts.specs.Answers.{partsOf, sizesOf, Sized, Accepted}
+use Rattle.parts.specs.Answers.{partsOf, sizesOf, SizedParts, Accepted}
 use Rattle.parts.proofs.Laws.{accepted-is, accepted-only, accepted-parts, lengths-long, letters-long, tags-long, values-long}
 use Rattle.parts.proofs.Words.{words-length}
-use Rattle.writing.specs.Bytes.{plainBytes, Below, Within}
+use Rattle.writing.specs.Bytes.{plainBytes, AllBelow, Within}
 use Rattle.writing.proofs.Cuts.{cut-count, cut-join, join-cut, join-length, tokens-count, tokens-values, tokens-apart}
 use Rattle.writing.proofs.Words.{word-bytes, words-back, bytes-back, words-below, below-take, below-drop}
 use Rattle.writing.proofs.Whole.{plain, plain-long}
@@ -60,7 +60,7 @@ module _ (ns ls ts vs : List ℕ) where
     unfolding tags
     tags-are = rw (after-letters, T-is) (take-append-seam ts (join (map wordBytes vs)))
 
-    values-are : Below (2 ^ 32) vs → values all ≡ vs
+    values-are : AllBelow (2 ^ 32) vs → values all ≡ vs
     unfolding values
     values-are h = rw after-tags (words-back vs h)
 
@@ -115,7 +115,7 @@ module _ (names : List Letters) (ks : List TagValue) where
     bytes-long : length bytes ≡ 12 + length names + length (join names) + 5 * length ks
     bytes-long = omega (arith, plain-long (map length names) (join names) tagsOf valuesOf, names-count, tags-count, values-count)
 
-    bytes-sized : Sized bytes (sizesOf bytes)
+    bytes-sized : SizedParts bytes (sizesOf bytes)
     bytes-sized = record { told = refl; long = omega (arith, bytes-long); names = omega (arith, M-names, w .few); letters = omega (arith, L-letters, w .short); few = omega (arith, T-tokens, w .least); many = omega (arith, T-tokens, w .most); whole = omega (arith, bytes-long, M-names, L-letters, T-tokens) }
 
     names-again : cut (lengths bytes) (letters bytes) ≡ names
@@ -144,7 +144,7 @@ three (a ∷ b ∷ c ∷ d ∷ l) h = absurd (omega arith)
 seam : (n k : ℕ) (b : List ℕ) → take n (drop k b) ++ drop (k + n) b ≡ drop k b
 seam n k b = rw (← drop-drop n k b) (take-append-drop n (drop k b))
 
-module _ (b : List ℕ) (a : Accepted b) (h : Below 256 b) where
+module _ (b : List ℕ) (a : Accepted b) (h : AllBelow 256 b) where
   sizes-again : wordBytes (M b) ++ (wordBytes (L b) ++ (wordBytes (T b) ++ [])) ≡ take 12 b
   unfolding size
   sizes-again =
@@ -184,7 +184,7 @@ module _ (b : List ℕ) (a : Accepted b) (h : Below 256 b) where
   tokens-made : length (tokens (tags b) (values b)) ≡ T b
   tokens-made = tokens-count (tags b) (values b) tags-values ∙ tags-long b (sizesOf b) (a .sized)
 
-  values-made : Below (2 ^ 32) (map (λ (k : TagValue). k .value) (tokens (tags b) (values b)))
+  values-made : AllBelow (2 ^ 32) (map (λ (k : TagValue). k .value) (tokens (tags b) (values b)))
   unfolding values
   values-made = rw (tokens-values (tags b) (values b) tags-values) (words-below (drop (12 + M b + L b + T b) b) (below-drop 256 (12 + M b + L b + T b) b h))
 
@@ -192,11 +192,11 @@ module _ (b : List ℕ) (a : Accepted b) (h : Below 256 b) where
   parts-within = record { few = omega (arith, names-made, a .sized .names); short = omega (arith, letters-made, a .sized .letters); distinct = a .distinct ∙ sym names-made; least = omega (arith, tokens-made, a .sized .few); most = omega (arith, tokens-made, a .sized .many); small = values-made }
 
 -- what is read is within the limits
-pub read-within : (b : List ℕ) (p : Parts) → Below 256 b → parts b ≡ accepted p → Within (p .names) (p .tokens)
+pub read-within : (b : List ℕ) (p : Parts) → AllBelow 256 b → parts b ≡ accepted p → Within (p .names) (p .tokens)
 unfolding partsOf
 read-within b p h e = rw (accepted-parts b p e) (parts-within b (accepted-only b p e) h)
 
 -- what is read is written back
-pub write-back : (b : List ℕ) (p : Parts) → Below 256 b → parts b ≡ accepted p → sheetBytes (p .names) (p .tokens) ≡ b
+pub write-back : (b : List ℕ) (p : Parts) → AllBelow 256 b → parts b ≡ accepted p → sheetBytes (p .names) (p .tokens) ≡ b
 unfolding partsOf
 write-back b p h e = rw (accepted-parts b p e) (parts-again b (accepted-only b p e) h)

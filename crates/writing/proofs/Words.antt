@@ -7,19 +7,19 @@ use lib.ListN.{length, getD, take, drop}
 use Rattle.definitions.specs.Lists.{join}
 use Rattle.definitions.specs.Bytes.{fourByteWords}
 use Rattle.definitions.specs.Output.{wordBytes}
-use Rattle.writing.specs.Bytes.{Below}
+use Rattle.writing.specs.Bytes.{AllBelow}
 
 -- what the code knows of each element of a slice
-pub below-each : (n : ℕ) (l : List ℕ) → ((i : ℕ) → getD l i 0 < n) → Below n l
+pub below-each : (n : ℕ) (l : List ℕ) → ((i : ℕ) → getD l i 0 < n) → AllBelow n l
 below-each n [] h = tt
 below-each n (x ∷ l) h = (h 0, below-each n l (λ i. h (suc i)))
 
-pub below-take : (n k : ℕ) (l : List ℕ) → Below n l → Below n (take k l)
+pub below-take : (n k : ℕ) (l : List ℕ) → AllBelow n l → AllBelow n (take k l)
 below-take n zero l h = tt
 below-take n (suc k) [] h = tt
 below-take n (suc k) (x ∷ l) h = (h .0, below-take n k l (h .1))
 
-pub below-drop : (n k : ℕ) (l : List ℕ) → Below n l → Below n (drop k l)
+pub below-drop : (n k : ℕ) (l : List ℕ) → AllBelow n l → AllBelow n (drop k l)
 below-drop n zero l h = h
 below-drop n (suc k) [] h = tt
 below-drop n (suc k) (x ∷ l) h = below-drop n k l (h .1)
@@ -42,7 +42,7 @@ word-bytes n h =
     together : (a p b q c r d n : ℕ) → 256 * p + a ≡ n → 256 * q + b ≡ p → 256 * r + c ≡ q → d ≡ r → a + 256 * b + 65536 * c + 16777216 * d ≡ n
     together a p b q c r d n e f g h = omega arith
 
-pub words-back : (vs : List ℕ) → Below (2 ^ 32) vs → fourByteWords (join (map wordBytes vs)) ≡ vs
+pub words-back : (vs : List ℕ) → AllBelow (2 ^ 32) vs → fourByteWords (join (map wordBytes vs)) ≡ vs
 unfolding fourByteWords
 words-back [] h = refl
 words-back (v ∷ vs) h = rw (word-bytes v (h .0), words-back vs (h .1))
@@ -60,7 +60,7 @@ third-byte a b c d p q r s = omega arith
 fourth-byte : (a b c d : ℕ) → a < 256 → b < 256 → c < 256 → d < 256 → ((a + 256 * b + 65536 * c + 16777216 * d) / 16777216) % 256 ≡ d
 fourth-byte a b c d p q r s = omega arith
 
-pub bytes-back : (n : ℕ) (l : List ℕ) → length l ≡ 4 * n → Below 256 l → join (map wordBytes (fourByteWords l)) ≡ l
+pub bytes-back : (n : ℕ) (l : List ℕ) → length l ≡ 4 * n → AllBelow 256 l → join (map wordBytes (fourByteWords l)) ≡ l
 unfolding fourByteWords
 bytes-back n [] e h = refl
 bytes-back n (a ∷ []) e h = absurd (omega arith)
@@ -71,7 +71,7 @@ bytes-back (suc n) (a ∷ b ∷ c ∷ d ∷ l) e (p, (q, (r, (s, h)))) =
     rw (first-byte a b c d p q r s, second-byte a b c d p q r s, third-byte a b c d p q r s, fourth-byte a b c d p q r s, bytes-back n l (omega arith) h)
 
 -- words of bytes are below 2 ^ 32
-pub words-below : (l : List ℕ) → Below 256 l → Below (2 ^ 32) (fourByteWords l)
+pub words-below : (l : List ℕ) → AllBelow 256 l → AllBelow (2 ^ 32) (fourByteWords l)
 unfolding fourByteWords
 words-below [] h = tt
 words-below (a ∷ []) h = tt

@@ -25,9 +25,9 @@ plainBytes lengths letters tags values =
     ++ (lengths ++ (letters ++ (tags ++ join (map wordBytes values))))))
 
 -- each number is below n
-abbrev pub Below : ℕ → List ℕ → Type 0
-Below n [] = Unit {0}
-Below n (x ∷ l) = (x < n) × Below n l
+abbrev pub AllBelow : ℕ → List ℕ → Type 0
+AllBelow n [] = Unit {0}
+AllBelow n (x ∷ l) = (x < n) × AllBelow n l
 
 -- names and tokens that a sheet may hold
 pub record Within (names : List Letters) (ts : List TagValue) : Type 0 where
@@ -36,4 +36,4 @@ pub record Within (names : List Letters) (ts : List TagValue) : Type 0 where
   pub distinct : badName [] names ≡ length names
   pub least : fewestTokens ≤ length ts
   pub most : length ts ≤ mostTokens
-  pub small : Below words (map (λ k. k .value) ts)
+  pub small : AllBelow words (map (λ k. k .value) ts)

@@ -9,7 +9,7 @@ use lib.ListN.{drop}
 use denote.Ref.{now}
 use Rattle.definitions.specs.Lists.{placeBy}
 use Rattle.definitions.specs.Tree.{Node}
-use Rattle.callees.specs.Callees.{firstNamed, Standing}
+use Rattle.callees.specs.Callees.{firstNamed, NodesStand}
 use Rattle.callees.proofs.Laws.{first-here, first-later, first-none, name-there}
 use borrow.Author.Needs.{needs}
 use Rattle.callees.proofs.node_named.Statement.{statement}
@@ -17,7 +17,7 @@ use Rattle.callees.proofs.node_named.Tie as tie
 
 abbrev Inv-loop : tie.InvT-loop
 Inv-loop tags values names places nodes f i₀ i =
-    (i ≤ nodes) × ((l : List Node) → Standing names tags values places nodes l → firstNamed f l ≡ i + placeBy (λ (m : Node). eqb (m .name) f) (drop i l))
+    (i ≤ nodes) × ((l : List Node) → NodesStand names tags values places nodes l → firstNamed f l ≡ i + placeBy (λ (m : Node). eqb (m .name) f) (drop i l))
 
 abbrev μ-loop : tie.MeasureT-loop
 μ-loop tags values names places nodes f i₀ i = nodes - i

@@ -5,7 +5,7 @@ use native.Mathlib.Omega.{arith}
 use denote.Ref.{now}
 use Rattle.definitions.specs.Grammar.{name}
 use Rattle.definitions.specs.Bytes.{tokens}
-use Rattle.flat.specs.Flat.{clockIn}
+use Rattle.clock.specs.Value.{valueOf}
 use Rattle.checking.proofs.Left.{times-nil, times-cons, name-there, left-none, left-more}
 use borrow.Author.Needs.{needs}
 use Prim.Native.Nat.{ℕ, _<_}
@@ -19,16 +19,16 @@ use Rattle.checking.proofs.left_on.Reads as left-on-reads
 use Rattle.checking.proofs.+check_left.{statement}
 use Rattle.checking.proofs.+check_left.Tie.{close}
 
-abbrev μ-check-left : Measures 6 check-left-kinds.ps ℕ
+abbrev μ-check-left : Measures 5 check-left-kinds.ps ℕ
 μ-check-left κs a = a .1 .1 .1 .1 .1 .1 .1 .1 .0
 
-abbrev check-left-at : ℕ → In 6 check-left-kinds.ps
+abbrev check-left-at : ℕ → In 5 check-left-kinds.ps
 check-left-at t =
-    and 6 check-left-kinds.ps (is 6 check-left-kinds.ps μ-check-left t) check-left.Pre
+    and 5 check-left-kinds.ps (is 5 check-left-kinds.ps μ-check-left t) check-left.Pre
 
-abbrev check-left-below : ℕ → In 6 check-left-kinds.ps
+abbrev check-left-below : ℕ → In 5 check-left-kinds.ps
 check-left-below t =
-    and 6 check-left-kinds.ps (falls 6 check-left-kinds.ps _<_ μ-check-left t) check-left.Pre
+    and 5 check-left-kinds.ps (falls 5 check-left-kinds.ps _<_ μ-check-left t) check-left.Pre
 
 abbrev check-left-uses : ℕ → check-left-lts.Claims
 check-left-uses t = (is-port-reads.Asked, is-port-reads.Learnt, left-on-reads.Asked, left-on-reads.Learnt, check-left-below t, check-left.Post)
@@ -38,7 +38,7 @@ check-left-returns t c = (
   refl,
   λ node clocks xs q fs a k g h.
       let z = times-nil _ _ _ _ xs q (c .if1 .taken) g in
-      left-none clocks (c .before .before .before .before .before .before .args .equation) node (clockIn (now (c .before .before .before .before .before .before .args .on)) 0) _ _ q fs xs _ _ (z .0) (z .1) refl h,
+      left-none clocks (c .before .before .before .before .before .before .args .equation) node (valueOf (c .before .before .before .before .before .before .args .on)) _ _ q fs xs _ _ (z .0) (z .1) refl h,
 )
 
 check-left-returns-2 : (t : ℕ) → check-left-lts.Need-returns-2 (check-left-uses t) (check-left-at t) check-left.Post
@@ -81,7 +81,7 @@ check-left-returns-3 t c = (
       let y = (name-there (c .before .before .before .before .before .before .before .before .before .before .before .before .before .before .before .before .before .args .names) (now (c .before .before .before .before .before .before .before .before .before .before .before .before .before .before .before .before .before .args .tags)) (now (c .before .before .before .before .before .before .before .before .before .before .before .before .before .before .before .before .before .args .values)) (c .before .before .before .before .before .before .before .before .before .before .before .before .before .before .before .before .before .pre .1) (c .before .before .before .before .before .before .before .before .before .before .before .before .before .before .before .before .before .args .at) (s .0) (s .1) (s .3)) in
       let e = y .2 in
       let m = c .before .before .before .before .before .before .left-on .ensures .1 clocks fs (rw e (a .same (s .0) (y .3))) h in
-      left-more clocks (c .before .before .before .before .before .before .before .before .before .before .before .before .before .before .before .before .before .args .equation) node (clockIn (now (c .before .before .before .before .before .before .before .before .before .before .before .before .before .before .before .before .before .args .on)) 0) _ _ q fs xs (s .0) _ (s .2) _ (s .5) e (c .before .before .before .before .before .before .before .is-port .ensures ∙ rw e (k .same (s .0) (y .3)))
+      left-more clocks (c .before .before .before .before .before .before .before .before .before .before .before .before .before .before .before .before .before .args .equation) node (valueOf (c .before .before .before .before .before .before .before .before .before .before .before .before .before .before .before .before .before .args .on)) _ _ q fs xs (s .0) _ (s .2) _ (s .5) e (c .before .before .before .before .before .before .before .is-port .ensures ∙ rw e (k .same (s .0) (y .3)))
       (c .before .before .check-left .ensures .1 node clocks (s .2) q _ a k (rw (y .0) at (s .4)) m),
 )
 

@@ -2,7 +2,7 @@
 -- Assumes nothing.
 use mathlib.Core.Path.{refl}
 use denote.Ref.{now}
-use Rattle.flat.specs.Flat.{clockIn}
+use Rattle.clock.specs.Value.{valueOf}
 use Rattle.checking.proofs.Laws.{holds-nil, enter-name, enter-previous, enter-follow, enter-none}
 use borrow.Author.Needs.{needs}
 use Rattle.checking.proofs.enter.Statement.{statement}
@@ -17,35 +17,35 @@ used-on-requires c κs = search needs
 enum-told : tie.Need-enum-told
 enum-told c = search needs
 
-site-on-requires : tie.Need-site-on-requires
-site-on-requires c κs = search needs
+push-site-requires : tie.Need-push-site-requires
+push-site-requires c κs = search needs
 
 enum-told-2 : tie.Need-enum-told-2
 enum-told-2 c = search needs
 
-site-on-requires-2 : tie.Need-site-on-requires-2
-site-on-requires-2 c κs = search needs
+push-site-requires-2 : tie.Need-push-site-requires-2
+push-site-requires-2 c κs = search needs
 
 same-length : tie.Need-same-length
 same-length c = search needs
 
 returns : tie.Need-returns
-returns c = let s = c .before .before .before .before .before .before .before .before .before .args in (c .before .before .used-on .ensures .0, enter-name (now (s .env)) (now (s .table)) _ (s .n) _ (s .equation) (clockIn (now (s .on)) 0) (s .role) _ (c .before .before .before .before .before .role .given .1) (c .before .before .used-on .ensures .1))
+returns c = let s = c .before .before .before .before .before .before .before .before .before .args in (c .before .before .used-on .ensures .0, enter-name (now (s .env)) (now (s .table)) _ (s .n) _ (s .equation) (valueOf (s .on)) (s .role) _ (c .before .before .before .before .before .role .given .1) (c .before .before .used-on .ensures .1))
 
 same-length-2 : tie.Need-same-length-2
 same-length-2 c = search needs
 
 returns-2 : tie.Need-returns-2
-returns-2 c = let s = c .before .before .before .before .before .before .before .before .args in (c .before .before .site-on .ensures .0, enter-previous (now (s .env)) (now (s .table)) _ (s .n) _ (s .equation) (clockIn (now (s .on)) 0) (s .role) (c .before .before .before .before .enum-told .given .1) (c .before .before .site-on .ensures .1))
+returns-2 c = let s = c .before .before .before .before .before .before .before .before .args in (c .before .before .push-site .ensures .0, enter-previous (now (s .env)) (now (s .table)) _ (s .n) _ (s .equation) (valueOf (s .on)) (s .role) (c .before .before .before .before .enum-told .given .1) (c .before .before .push-site .ensures .1))
 
 same-length-3 : tie.Need-same-length-3
 same-length-3 c = search needs
 
 returns-3 : tie.Need-returns-3
-returns-3 c = let s = c .before .before .before .before .before .before .before .before .args in (c .before .before .site-on2 .ensures .0, enter-follow (now (s .env)) (now (s .table)) _ (s .n) _ (s .equation) (clockIn (now (s .on)) 0) (s .role) (c .before .before .before .before .enum-told2 .given .1) (c .before .before .site-on2 .ensures .1))
+returns-3 c = let s = c .before .before .before .before .before .before .before .before .args in (c .before .before .push-site2 .ensures .0, enter-follow (now (s .env)) (now (s .table)) _ (s .n) _ (s .equation) (valueOf (s .on)) (s .role) (c .before .before .before .before .enum-told2 .given .1) (c .before .before .push-site2 .ensures .1))
 
 returns-4 : tie.Need-returns-4
-returns-4 c = let s = c .before .before .before .args in (refl, λ clocks fs p k h. holds-nil _ _ fs _ (enter-none clocks (s .equation) (clockIn (now (s .on)) 0) (s .role) (c .match .keys4) p) h)
+returns-4 c = let s = c .before .before .before .args in (refl, λ clocks fs p k h. holds-nil _ _ fs _ (enter-none clocks (s .equation) (valueOf (s .on)) (s .role) (c .match .keys4) p) h)
 
 pub enter-spec : {M : Type 1} → statement M
 enter-spec =
@@ -54,9 +54,9 @@ enter-spec =
     enum-known-role
     used-on-requires
     enum-told
-    site-on-requires
+    push-site-requires
     enum-told-2
-    site-on-requires-2
+    push-site-requires-2
     same-length
     returns
     same-length-2

@@ -46,7 +46,7 @@ use denote.Triple.Statement.{Contract, Triple}
 use denote.Triple.Call.{calls-at}
 use denote.Triple.Clauses.{ensured, lasts}
 use denote.Triple.Table.{entered, cited}
-use denote.Triple.Walked.{says, Stays, stay-dropped, gave-slice, walkOf, goes-dropped, goes-gave-slice, Walks, ends-at, walked, walk-meets}
+use denote.Triple.Walked.{Stays, stay-dropped, gave-slice, walkOf, goes-dropped, goes-gave-slice, Walks, ends-at, walked, walk-meets}
 use denote.Exit.{yes}
 use denote.Signature.{Slot, plain, shrSliceOf}
 use Rattle.definitions.specs.declared.FaultRecord.{FaultRecord}
@@ -58,7 +58,7 @@ use Rattle.rewriting.proofs.RewriteAnswer.Laws as E′
 use Rattle.clock_pass.specs.declared.RewriteTold.{RewriteTold}
 use Rattle.clock_pass.proofs.RewriteTold as S
 use Rattle.clock_pass.proofs.RewriteTold.Laws as S′
-use Rattle.fault_list.proofs.Lent.{lies-in, lies-out}
+use Rattle.fault_list.proofs.Lent.{lies-in, lies-out, both-said}
 use Rattle.definitions.specs.Answer.{rewriteAnswer}
 use Rattle.runs.specs.Demand.{DemandThreeAt}
 use Rattle.clock_pass.specs.Given.{RewriteGiven, blank}
@@ -152,11 +152,12 @@ module _ {M : Type 1} (𝓤 : URA M) (H : Heap 𝓤) (A : Atoms 𝓤) (W : Given
   is-told : (r : RewriteAnswer) (xs : List FaultRecord) (w : Val) (us : List Val) → Is E.the-row r (w ∷ []) → Is Records xs (arrayVal us ∷ []) → Is S.the-row (told r xs) (mach w us ∷ [])
   is-told r xs w us is is′ = ((w ∷ [], (arrayVal us ∷ [], tt)), (refl, (is, ((is′ .0, ((is′ .1 .0 .0, length-map xs (T.the-field .into) ∙ is′ .1 .0 .1), each-as xs (is′ .0) (is′ .1 .1))), tt))))
 
-  exits : (r : RewriteAnswer) (xs : List FaultRecord) (w : Val) (us : List Val) (out′ : List ℕ) → Is S.the-row (told r xs) (mach w us ∷ []) → length out′ ≡ length out → Told sheet out (replicate 16 blank) out′ xs r
+  exits : (r : RewriteAnswer) (xs : List FaultRecord) (w : Val) (us : List Val) (out′ : List ℕ) → Is S.the-row (told r xs) (mach w us ∷ []) → length out′ ≡ length out → Told sheet out (replicate 16 blank) out′ xs r → Demanded sheet out′ r
       → ent 𝓤 (⋆ 𝓤 H A (‵ (flft κ₀ q₀) ∷ ‵ (flft κ₁ q₁) ∷ ‵ (finally u8 γ₁ out′) ∷ [])) (Post (mach w us))
-  exits r xs w us out′ is l given =
+  exits r xs w us out′ is l given demanded =
       qed W (‵ (flft κ₀ q₀) ∷ ‵ (flft κ₁ q₁) ∷ ‵ (finally u8 γ₁ out′) ∷ []) ∵
-      suffices ! _ (ends-at 𝓤 H A rewrite-told.ended stayed (rewrite-told.clauses 𝓤 H A at-mem run) W (((κ₀, (κ₁, tt)), (q₀, (q₁, tt)), tt, a, at), tt) (mach w us) (told r xs) (tt, (out′, tt)) (tt, (l, tt))) $ says ! given $
+      suffices ! _ (ends-at 𝓤 H A rewrite-told.ended stayed (rewrite-told.clauses 𝓤 H A at-mem run) W (((κ₀, (κ₁, tt)), (q₀, (q₁, tt)), tt, a, at), tt) (mach w us) (told r xs) (tt, (out′, tt)) (tt, (l, tt))) $
+      suffices ! _ (both-said 𝓤 _ (Told sheet out (replicate 16 blank) out′ xs r) (Demanded sheet out′ r) given demanded) $
       nothing ! $ move ! (2 ∷ 0 ∷ []) $ join ! $ move ! (1 ∷ 0 ∷ []) $ join ! $ frame ! $
       nothing ! $ move ! (1 ∷ 0 ∷ []) $ fjoin ! $ nothing ! $ fjoin ! $ owned ! S.the-row (Is S.the-row) (LL.makes S.the-type S′.the-plain 𝓤 H A) (told r xs) (mach w us ∷ []) is $ move ! (1 ∷ 0 ∷ []) $ done !
 
@@ -215,7 +216,7 @@ module _ {M : Type 1} (𝓤 : URA M) (H : Heap 𝓤) (A : Atoms 𝓤) (W : Given
         use1 W (later (some (λ (r : RewriteAnswer). ((‵ (flft κ₀ q₀) ⊛ ‵ (flft κ₁ q₁) ⊛ ‵ (flft (ν ∷ []) fullShare) ⊛ ‵ ftrue) ⊛ ‵ (E.the-row .own r (w ∷ []))) ⊛ raw (ensured 𝓤 H A rewriting.ended (rewriting.clauses 𝓤 H A at-mem run) (κ₀, (κ₁, (ν ∷ [], tt))) (x₀, (x₁, (xl l₃ δ xs, tt))) tt r)))) (id⊢ 𝓤 _) $ await ! tt $ pick ! (λ r.
         split ! $ move ! (1 ∷ []) $ use1 W (some (λ (zs : Unit {0} × (List ℕ × (List FaultRecord × Unit {0}))). ‵ (lasts rewriting.ended (κ₀, (κ₁, (ν ∷ [], tt))) (x₀, (x₁, (xl l₃ δ xs, tt))) zs)
         ⊛ (raw (fact 𝓤 (Told sheet out xs (zs .1 .0) (zs .1 .1 .0) r)) ⊛ raw (fact 𝓤 (Demanded sheet (zs .1 .0) r))))) (id⊢ 𝓤 _) $ pick ! (λ zs.
-        split ! $ move ! (1 ∷ []) $ split ! $ heard ! (Told sheet out xs (zs .1 .0) (zs .1 .1 .0) r) (λ given. drop ! $
+        split ! $ move ! (1 ∷ []) $ split ! $ heard ! (Told sheet out xs (zs .1 .0) (zs .1 .1 .0) r) (λ given. heard ! (Demanded sheet (zs .1 .0) r) (λ demanded.
         fsplit ! $ drop ! $ fsplit ! $ fsplit ! $ move ! (1 ∷ []) $ feqL ! (λ long₁. move ! (1 ∷ []) $ fsplit ! $ fsplit ! $ move ! (1 ∷ []) $ feqL ! (λ long₂.
         -- [the records' last list; true; out's last list; the tokens and the answer; true; true; the lender's part; _9; …]
         move ! (3 ∷ []) $ split ! $ move ! (1 ∷ []) $ peeks ! E.the-row (Is E.the-row) (shows 𝓤 H A E.the-row) r (w ∷ []) (λ is.
@@ -233,7 +234,7 @@ module _ {M : Type 1} (𝓤 : URA M) (H : Heap 𝓤) (A : Atoms 𝓤) (W : Given
         returns ! (look ! 27 refl) $ forget ! 1 refl $ forget ! 10 refl $ forget ! 12 refl $ forget ! 14 refl $ forget ! 16 refl $ forget ! 18 refl $ forget ! 20 refl $ forget ! 23 refl $ forget ! 25 refl $ forget ! 27 refl $
         move ! (27 ∷ 28 ∷ []) $ free1 ! $ move ! (25 ∷ 26 ∷ []) $ free1 ! $ move ! (23 ∷ 24 ∷ []) $ free1 ! $ move ! (1 ∷ 22 ∷ []) $ free1 ! $ move ! (19 ∷ 20 ∷ []) $ free1 ! $ move ! (17 ∷ 18 ∷ []) $ free1 ! $ move ! (15 ∷ 16 ∷ []) $ free1 ! $
         move ! (13 ∷ 14 ∷ []) $ free1 ! $ move ! (11 ∷ 12 ∷ []) $ free1 ! $ move ! (9 ∷ 10 ∷ []) $ free1 ! $ free0 ! $
-        keep ! (3 ∷ 2 ∷ 6 ∷ []) $ by ! (exits r (zs .1 .1 .0) w us (zs .1 .0) (is-told r (zs .1 .1 .0) w us is is′) long₁ (subst (λ (l : List FaultRecord). Told sheet out l (zs .1 .0) (zs .1 .1 .0) r) none given)))))))))))))))))))))))))))
+        keep ! (3 ∷ 2 ∷ 6 ∷ []) $ by ! (exits r (zs .1 .1 .0) w us (zs .1 .0) (is-told r (zs .1 .1 .0) w us is is′) long₁ (subst (λ (l : List FaultRecord). Told sheet out l (zs .1 .0) (zs .1 .1 .0) r) none given) demanded)))))))))))))))))))))))))))
 
 module _ {M : Type 1} (𝓤 : URA M) (H : Heap 𝓤) (A : Atoms 𝓤) (W : Given 𝓤 H A) (mem : Memory → SProp 𝓤) (run : Routine → Fun 𝓤) where
   rewrite-told-walks : (C : Calls 𝓤 H) (Λ : Loops 𝓤 H) → FmC 𝓤 H (W .laws) C → Triple 𝓤 (C #clock-pass·no-records) (NoRecords 𝓤 H A mem run) → Triple 𝓤 (C #clock-pass·rewrite) (Rewriting 𝓤 H A mem run)

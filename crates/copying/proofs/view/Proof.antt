@@ -34,7 +34,7 @@ returns c =
 returns-2 : tie.Need-returns-2
 returns-2 c =
     let g = expr-head-refused _ _ _ (c .before .before .expr-head .ensures) (c .enum-told .given .1) in
-    (unviewed _ _ _ _ _ g, uncopied _ _ _ _ _ g)
+    (unviewed _ _ _ _ _ g refl, uncopied _ _ _ _ _ g)
 
 pub view-spec : {M : Type 1} → statement M
 view-spec =

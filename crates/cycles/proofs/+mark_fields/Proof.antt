@@ -3,6 +3,7 @@
 use mathlib.Core.List.{_++_}
 use Rattle.definitions.specs.Types.{target}
 use Rattle.typedefs.proofs.Laws.{FirstField, field-read, field-not-refused, field-next, field-typed}
+use Rattle.cycles.specs.Edges.{Marked}
 use Rattle.cycles.proofs.Laws.{marks-no-field, marks-fields}
 use borrow.Author.Needs.{needs}
 use Prim.Native.Nat.{ℕ, _<_}
@@ -32,7 +33,7 @@ abbrev mark-fields-uses : ℕ → mark-fields-lts.Claims
 mark-fields-uses t = (read-name-reads.Asked, read-name-reads.Learnt, mark-type-reads.Asked, mark-type-reads.Learnt, read-type-reads.Asked, read-type-reads.Learnt, mark-fields-below t, mark-fields.Post)
 
 mark-fields-returns : (t : ℕ) → mark-fields-lts.Need-returns (mark-fields-uses t) (mark-fields-at t) mark-fields.Post
-mark-fields-returns t c = λ types fs q xs k g h. marks-no-field types _ _ _ _ _ fs q _ xs (c .if1 .taken) g h
+mark-fields-returns t c = λ types fs q xs k g h. marks-no-field (Marked types _ _) xs _ _ _ _ fs q (c .if1 .taken) g h
 
 mark-fields-read-name-requires : (t : ℕ) → mark-fields-lts.Need-read-name-requires (mark-fields-uses t) (mark-fields-at t) mark-fields.Post
 mark-fields-read-name-requires t c κs = search needs
@@ -68,7 +69,7 @@ mark-fields-returns-3 : (t : ℕ) → mark-fields-lts.Need-returns-3 (mark-field
 mark-fields-returns-3 t c = λ types fs q xs k g h. let f = field-read _ _ _ _ fs q (c .before .before .before .before .before .before .before .before .if1 .left) g _ (c .before .before .before .before .before .before .before .read-name .ensures) _ (c .before .before .before .before .before .label .given .1) in absurd (field-typed _ _ _ _ _ fs q f _ (c .before .before .read-type .ensures) _ (c .enum-told2 .given .1))
 
 mark-fields-returns-4 : (t : ℕ) → mark-fields-lts.Need-returns-4 (mark-fields-uses t) (mark-fields-at t) mark-fields.Post
-mark-fields-returns-4 t c = λ types fs q xs k g h. let f = field-read _ _ _ _ fs q (c .before .before .before .before .before .before .before .before .before .before .if1 .left) g _ (c .before .before .before .before .before .before .before .before .before .read-name .ensures) _ (c .before .before .before .before .before .before .before .label .given .1) in marks-fields types _ _ _ _ _ fs q _ f _ xs (c .mark-fields .ensures types (f .rest) q (xs ++ target (f .type)) k (field-next _ _ _ _ _ fs q f _ (c .before .before .before .before .read-type .ensures) _ (c .before .before .rest .given .1)) (c .before .before .before .before .before .mark-type .ensures types (f .type) (f .next) xs k (f .typed) h))
+mark-fields-returns-4 t c = λ types fs q xs k g h. let f = field-read _ _ _ _ fs q (c .before .before .before .before .before .before .before .before .before .before .if1 .left) g _ (c .before .before .before .before .before .before .before .before .before .read-name .ensures) _ (c .before .before .before .before .before .before .before .label .given .1) in marks-fields (Marked types _ _) xs _ _ _ _ fs q _ f (c .mark-fields .ensures types (f .rest) q (xs ++ target (f .type)) k (field-next _ _ _ _ _ fs q f _ (c .before .before .before .before .read-type .ensures) _ (c .before .before .rest .given .1)) (c .before .before .before .before .before .mark-type .ensures types (f .type) (f .next) xs k (f .typed) h))
 
 pub +mark-fields-spec : {M : Type 1} → statement M
 +mark-fields-spec = close μ-mark-fields λ t. mark-fields-lts.spec (mark-fields-uses t)

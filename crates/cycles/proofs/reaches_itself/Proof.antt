@@ -10,7 +10,7 @@ use Rattle.definitions.specs.Lists.{among}
 use Rattle.definitions.specs.Tree.{TypeDef}
 use Rattle.definitions.specs.Types.{goesOn, oneStep, reached}
 use Rattle.typedefs.specs.Table.{nameAt}
-use Rattle.cycles.specs.Edges.{Holds, Edges}
+use Rattle.cycles.specs.Edges.{NamesInSet, Edges}
 use Rattle.cycles.proofs.Laws.{holds-step, reached-step, reached-end, bit-test}
 use borrow.Author.Needs.{needs}
 use Rattle.cycles.proofs.reaches_itself.Statement.{statement}
@@ -18,7 +18,7 @@ use Rattle.cycles.proofs.reaches_itself.Tie as tie
 
 abbrev Inv-loop : tie.InvT-loop
 Inv-loop go n i set₀ k₀ set k =
-    (k ≤ n) × ((types : List TypeDef) → length types ≡ n → Edges types n go → (xs : List ℕ) × Holds types n set xs × (reached types n (goesOn types (nameAt types i)) ≡ reached types (n - k) xs))
+    (k ≤ n) × ((types : List TypeDef) → length types ≡ n → Edges types n go → (xs : List ℕ) × NamesInSet types n set xs × (reached types n (goesOn types (nameAt types i)) ≡ reached types (n - k) xs))
 
 abbrev μ-loop : tie.MeasureT-loop
 μ-loop go n i set₀ k₀ set k = n - k

@@ -6,14 +6,14 @@ use Prim.Native.Nat.{ℕ, _≤_}
 use native.Mathlib.Omega.{arith}
 use lib.ListN.{length}
 use Rattle.definitions.specs.Tree.{TypeDef}
-use Rattle.cycles.specs.Edges.{Edges, Settled}
+use Rattle.cycles.specs.Edges.{Edges, Acyclic}
 use borrow.Author.Needs.{needs}
 use Rattle.cycles.proofs.settle_each.Statement.{statement}
 use Rattle.cycles.proofs.settle_each.Tie as tie
 
 abbrev Inv-loop : tie.InvT-loop
 Inv-loop go n more₀ i₀ more i =
-    (i ≤ n) × ((types : List TypeDef) → length types ≡ n → Edges types n go → Settled types n go more₀ → Settled types n go more)
+    (i ≤ n) × ((types : List TypeDef) → length types ≡ n → Edges types n go → Acyclic types n go more₀ → Acyclic types n go more)
 
 abbrev μ-loop : tie.MeasureT-loop
 μ-loop go n more₀ i₀ more i = i

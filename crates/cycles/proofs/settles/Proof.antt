@@ -6,7 +6,7 @@ use Prim.Native.Nat.{ℕ, _-_, _≤_}
 use native.Mathlib.Omega.{arith}
 use lib.ListN.{length}
 use Rattle.definitions.specs.Tree.{TypeDef}
-use Rattle.cycles.specs.Edges.{Edges, Settled}
+use Rattle.cycles.specs.Edges.{Edges, Acyclic}
 use Rattle.cycles.proofs.Laws.{settled-none, no-cycle}
 use borrow.Author.Needs.{needs}
 use Rattle.cycles.proofs.settles.Statement.{statement}
@@ -14,7 +14,7 @@ use Rattle.cycles.proofs.settles.Tie as tie
 
 abbrev Inv-loop : tie.InvT-loop
 Inv-loop go n set₀ k₀ set k =
-    (k ≤ n) × ((types : List TypeDef) → length types ≡ n → Edges types n go → Settled types n go set)
+    (k ≤ n) × ((types : List TypeDef) → length types ≡ n → Edges types n go → Acyclic types n go set)
 
 abbrev μ-loop : tie.MeasureT-loop
 μ-loop go n set₀ k₀ set k = n - k

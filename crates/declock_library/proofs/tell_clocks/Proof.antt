@@ -28,11 +28,11 @@ element-write-counts-5 c = search needs
 enum-known-a-2 : tie.Need-enum-known-a-2
 enum-known-a-2 c = search needs
 
-refusal-place-requires : tie.Need-refusal-place-requires
-refusal-place-requires c κs = search needs
+place-requires : tie.Need-place-requires
+place-requires c κs = search needs
 
-refusal-number-requires : tie.Need-refusal-number-requires
-refusal-number-requires c κs = search needs
+number-requires : tie.Need-number-requires
+number-requires c κs = search needs
 
 returns : tie.Need-returns
 returns c = stored-counts (c .before .before .before .before .args .a) (c .before .before .a .given .0 .0) _ _ (c .before .before .a .given .1) (c .wide .ensures)
@@ -52,7 +52,7 @@ tell-clocks-spec =
     element-write-counts-4
     element-write-counts-5
     enum-known-a-2
-    refusal-place-requires
-    refusal-number-requires
+    place-requires
+    number-requires
     returns
     returns-2)

@@ -7,7 +7,7 @@ use mathlib.Core.Bool.{false}
 use native.Mathlib.Omega.{arith}
 use Rattle.definitions.specs.Output.{condactId, ClockedNode, namesOut}
 use Rattle.definitions.specs.Answer.{Input}
-use Rattle.fresh.specs.Table.{Holds}
+use Rattle.fresh.specs.Table.{NamesHeld}
 use Rattle.infer_clocks.specs.Clocked.{Sole}
 use Rattle.emit.specs.Out.{out, emits}
 use Rattle.output_names.specs.Faultless.{Faultless}
@@ -19,7 +19,7 @@ use Rattle.declock_sheet.proofs.declock_sheet.Tie as tie
 
 abbrev Inv-loop : tie.InvT-loop
 Inv-loop starts letters tags values names lengths text c env₀ flags₀ firsts₀ otags₀ ovalues₀ n m places type-places condact k w₀ i₀ env flags firsts otags ovalues w i =
-    (i ≤ n) × (n ≤ 1 → env ≡ env₀) × ((bytes : List ℕ) (r : Input) (ns : List ClockedNode) (f : Faultless starts letters tags values names bytes r ns) → Sole env₀ names (r .sheet .nodes) → Holds lengths text c (namesOut (r .names) (r .sheet) ns) → c .full ≡ false → out otags ovalues w ≡ emits (out otags₀ ovalues₀ w₀) (sofar f i))
+    (i ≤ n) × (n ≤ 1 → env ≡ env₀) × ((bytes : List ℕ) (r : Input) (ns : List ClockedNode) (f : Faultless starts letters tags values names bytes r ns) → Sole env₀ names (r .sheet .nodes) → NamesHeld lengths text c (namesOut (r .names) (r .sheet) ns) → c .full ≡ false → out otags ovalues w ≡ emits (out otags₀ ovalues₀ w₀) (sofar f i))
 
 abbrev μ-loop : tie.MeasureT-loop
 μ-loop starts letters tags values names lengths text c env₀ flags₀ firsts₀ otags₀ ovalues₀ n m places type-places condact k w₀ i₀ env flags firsts otags ovalues w i = n - i

@@ -1,5 +1,6 @@
 -- `defaults::type_has` meets its contract: the first token decides, and the depth falls at an element.
 -- Assumes nothing.
+use Rattle.definitions.specs.Types.{defaultNamed}
 use Rattle.typedefs.proofs.Laws.{named, type-not-refused, type-is-basic, type-is-named, type-is-array}
 use Rattle.defaults.proofs.Laws.{has-basic, has-named, has-array}
 use borrow.Author.Needs.{needs}
@@ -55,19 +56,19 @@ type-has-type-has-requires : (t : ℕ) → type-has-lts.Need-type-has-requires (
 type-has-type-has-requires t c κs = search needs
 
 type-has-returns : (t : ℕ) → type-has-lts.Need-returns (type-has-uses t) (type-has-at t) type-has.Post
-type-has-returns t c = λ types G y q s f g. absurd (type-not-refused _ _ _ _ (c .before .before .type-head .ensures) _ y q g _ (c .enum-told .given .1))
+type-has-returns t c = λ types y q s f g. absurd (type-not-refused _ _ _ _ (c .before .before .type-head .ensures) _ y q g _ (c .enum-told .given .1))
 
 type-has-returns-2 : (t : ℕ) → type-has-lts.Need-returns-2 (type-has-uses t) (type-has-at t) type-has.Post
-type-has-returns-2 t c = λ types G y q s f g. has-basic G y _ (type-is-basic _ _ _ _ (c .before .before .before .before .before .type-head .ensures) _ y q g _ _ (c .before .before .before .head .given .1) _ (c .enum-told2 .given .1))
+type-has-returns-2 t c = λ types y q s f g. has-basic (defaultNamed types _) y _ (type-is-basic _ _ _ _ (c .before .before .before .before .before .type-head .ensures) _ y q g _ _ (c .before .before .before .head .given .1) _ (c .enum-told2 .given .1))
 
 type-has-returns-3 : (t : ℕ) → type-has-lts.Need-returns-3 (type-has-uses t) (type-has-at t) type-has.Post
-type-has-returns-3 t c = λ types G y q s f g. has-named G _ y _ (type-is-named _ _ _ _ (c .before .before .before .before .before .before .before .type-head .ensures) _ y q g _ _ (c .before .before .before .before .before .head .given .1) _ (c .before .before .t .given .1)) (c .named-has .ensures types G (named _ _ _ (c .before .before .before .before .before .before .before .before .before .before .pre .1 .0) _ _ types s) f)
+type-has-returns-3 t c = λ types y q s f g. has-named (defaultNamed types _) _ y _ (type-is-named _ _ _ _ (c .before .before .before .before .before .before .before .type-head .ensures) _ y q g _ _ (c .before .before .before .before .before .head .given .1) _ (c .before .before .t .given .1)) (c .named-has .ensures types (named _ _ _ (c .before .before .before .before .before .before .before .before .before .before .pre .1 .0) _ _ types s) f)
 
 type-has-returns-4 : (t : ℕ) → type-has-lts.Need-returns-4 (type-has-uses t) (type-has-at t) type-has.Post
-type-has-returns-4 t c = λ types G y q s f g. absurd (type-is-array _ _ _ _ (c .before .before .before .before .before .before .type-head .ensures) _ y q g _ _ (c .before .before .before .before .head .given .1) _ (c .before .enum-told3 .given .1) .1 (c .if1 .taken))
+type-has-returns-4 t c = λ types y q s f g. absurd (type-is-array _ _ _ _ (c .before .before .before .before .before .before .type-head .ensures) _ y q g _ _ (c .before .before .before .before .head .given .1) _ (c .before .enum-told3 .given .1) .1 (c .if1 .taken))
 
 type-has-returns-5 : (t : ℕ) → type-has-lts.Need-returns-5 (type-has-uses t) (type-has-at t) type-has.Post
-type-has-returns-5 t c = λ types G y q s f g. let a = type-is-array _ _ _ _ (c .before .before .before .before .before .before .before .type-head .ensures) _ y q g _ _ (c .before .before .before .before .before .head .given .1) _ (c .before .before .enum-told3 .given .1) in has-array G _ y (a .0) _ (a .4) (c .type-has .ensures types G (a .0) q s f (a .3))
+type-has-returns-5 t c = λ types y q s f g. let a = type-is-array _ _ _ _ (c .before .before .before .before .before .before .before .type-head .ensures) _ y q g _ _ (c .before .before .before .before .before .head .given .1) _ (c .before .before .enum-told3 .given .1) in has-array (defaultNamed types _) _ y (a .0) _ (a .4) (c .type-has .ensures types (a .0) q s f (a .3))
 
 pub +type-has-spec : {M : Type 1} → statement M
 +type-has-spec = close μ-type-has λ t. type-has-lts.spec (type-has-uses t)

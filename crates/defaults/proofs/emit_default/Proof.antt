@@ -1,4 +1,4 @@
--- `defaults::emit_default` meets its contract: as many definitions down as there are.
+-- `defaults::emit_default` meets its contract: as many definitions down as there are, at most 32, for which the depth is enough.
 -- Assumes nothing.
 use native.Mathlib.Omega.{arith}
 use Rattle.defaults.proofs.Laws.{whole-some}
@@ -6,14 +6,11 @@ use borrow.Author.Needs.{needs}
 use Rattle.defaults.proofs.emit_default.Statement.{statement}
 use Rattle.defaults.proofs.emit_default.Tie as tie
 
-cast-fuel : tie.Need-cast-fuel
-cast-fuel c = omega arith
-
 emit-type-requires : tie.Need-emit-type-requires
 emit-type-requires c κs = search needs
 
 returns : tie.Need-returns
-returns c = λ types y q e s g d. c .emit-type .ensures types y q e s g (whole-some types _ (s .count) y e d)
+returns c = λ types y q e s g d. c .emit-type .ensures types _ 8 y q e s (omega arith) g (whole-some types _ (s .count) y e d)
 
 pub emit-default-spec : {M : Type 1} → statement M
-emit-default-spec = tie.close (tie.spec cast-fuel emit-type-requires returns)
+emit-default-spec = tie.close (tie.spec emit-type-requires returns)

@@ -8,7 +8,7 @@ use native.Mathlib.Numerals.{add-one}
 use Rattle.definitions.specs.Bytes.{tokens}
 use Rattle.definitions.specs.Tree.{TypeDef}
 use Rattle.typedefs.specs.Table.{Table}
-use Rattle.defaults.specs.Has.{Has}
+use Rattle.defaults.specs.Has.{DefaultsKnown}
 use Rattle.defaults.proofs.Laws.{has-start, has-end}
 use Rattle.defaults.proofs.Rounds.{has-more, has-settled}
 use borrow.Author.Needs.{needs}
@@ -17,7 +17,7 @@ use Rattle.defaults.proofs.has_defaults.Tie as tie
 
 abbrev Inv-loop : tie.InvT-loop
 Inv-loop tags values names places n go own has₀ k₀ has k =
-    (k ≤ n) × ((types : List TypeDef) → Table names (tokens tags values) places n types → Has types n k has)
+    (k ≤ n) × ((types : List TypeDef) → Table names (tokens tags values) places n types → DefaultsKnown types n k has)
 
 abbrev μ-loop : tie.MeasureT-loop
 μ-loop tags values names places n go own has₀ k₀ has k = n - k
@@ -25,11 +25,8 @@ abbrev μ-loop : tie.MeasureT-loop
 edges-requires : tie.Need-edges-requires Inv-loop μ-loop
 edges-requires c κs = search needs
 
-own-bytes-requires : tie.Need-own-bytes-requires Inv-loop μ-loop
-own-bytes-requires c κs = search needs
-
 loop-holds : tie.Need-loop-holds Inv-loop μ-loop
-loop-holds c = (omega arith, λ types s. has-start types _ (c .before .before .before .before .pre .1))
+loop-holds c = (omega arith, λ types s. has-start types _ (c .before .before .before .before .before .pre .1))
 
 has-round-requires : tie.Need-has-round-requires Inv-loop μ-loop
 has-round-requires c κs = search needs
@@ -38,7 +35,7 @@ same-bytes-requires : tie.Need-same-bytes-requires Inv-loop μ-loop
 same-bytes-requires c κs = search needs
 
 returns : tie.Need-returns Inv-loop μ-loop
-returns c = λ types s. has-settled types _ (s .count) (c .before .before .before .before .before .before .before .before .before .before .before .edges .result) (c .before .before .before .before .before .before .before .before .before .before .own-bytes .result) (c .before .before .before .before .before .before .before .before .before .loop .has) (c .before .before .before .before .has-round .result) (c .before .before .before .before .before .before .before .before .before .before .before .edges .ensures types s) (c .before .before .before .before .before .before .before .before .before .before .own-bytes .ensures types s) (c .before .before .before .before .has-round .ensures) _ (c .before .same-bytes .ensures) (c .if1 .taken) (c .before .before .before .before .before .before .before .before .before .loop .k) (c .before .before .before .before .before .before .before .before .before .loop .inv .0) (c .before .before .before .before .before .before .before .before .before .loop .inv .1 types s)
+returns c = λ types s. has-settled types _ (s .count) (c .before .before .before .before .before .before .before .before .before .before .before .before .edges .result .go) (c .before .before .before .before .before .before .before .before .before .before .before .before .edges .result .own) (c .before .before .before .before .before .before .before .before .before .loop .has) (c .before .before .before .before .has-round .result) (c .before .before .before .before .before .before .before .before .before .before .before .before .edges .ensures .0 types s) (c .before .before .before .before .before .before .before .before .before .before .before .before .edges .ensures .1 types s) (c .before .before .before .before .has-round .ensures) _ (c .before .same-bytes .ensures) (c .if1 .taken) (c .before .before .before .before .before .before .before .before .before .loop .k) (c .before .before .before .before .before .before .before .before .before .loop .inv .0) (c .before .before .before .before .before .before .before .before .before .loop .inv .1 types s)
 
 add-k : tie.Need-add-k Inv-loop μ-loop
 add-k c = search needs
@@ -47,7 +44,7 @@ loop-less : tie.Need-loop-less Inv-loop μ-loop
 loop-less c = search needs
 
 loop-again : tie.Need-loop-again Inv-loop μ-loop
-loop-again c = (omega arith, λ types s. rw (add-one (c .before .before .before .before .before .before .before .before .before .loop .k)) (has-more types _ (s .count) (c .before .before .before .before .before .before .before .before .before .before .before .edges .result) (c .before .before .before .before .before .before .before .before .before .before .own-bytes .result) (c .before .before .before .before .before .before .before .before .before .loop .has) (c .before .before .before .before .has-round .result) (c .before .before .before .before .before .before .before .before .before .before .before .edges .ensures types s) (c .before .before .before .before .before .before .before .before .before .before .own-bytes .ensures types s) (c .before .before .before .before .has-round .ensures) (c .before .before .before .before .before .before .before .before .before .loop .k) (c .before .before .before .before .before .before .before .before .before .loop .inv .1 types s)))
+loop-again c = (omega arith, λ types s. rw (add-one (c .before .before .before .before .before .before .before .before .before .loop .k)) (has-more types _ (s .count) (c .before .before .before .before .before .before .before .before .before .before .before .before .edges .result .go) (c .before .before .before .before .before .before .before .before .before .before .before .before .edges .result .own) (c .before .before .before .before .before .before .before .before .before .loop .has) (c .before .before .before .before .has-round .result) (c .before .before .before .before .before .before .before .before .before .before .before .before .edges .ensures .0 types s) (c .before .before .before .before .before .before .before .before .before .before .before .before .edges .ensures .1 types s) (c .before .before .before .before .has-round .ensures) (c .before .before .before .before .before .before .before .before .before .loop .k) (c .before .before .before .before .before .before .before .before .before .loop .inv .1 types s)))
 
 returns-2 : tie.Need-returns-2 Inv-loop μ-loop
 returns-2 c = λ types s. has-end types _ _ (c .before .loop .has) (c .loop-test .left) (c .before .loop .inv .0) (c .before .loop .inv .1 types s)
@@ -59,7 +56,6 @@ has-defaults-spec =
     Inv-loop
     μ-loop
     edges-requires
-    own-bytes-requires
     loop-holds
     has-round-requires
     same-bytes-requires

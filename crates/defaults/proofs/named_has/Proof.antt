@@ -9,13 +9,13 @@ find-definition-requires : tie.Need-find-definition-requires
 find-definition-requires c κs = search needs
 
 returns : tie.Need-returns
-returns c = λ types G m f. has-unnamed types _ (m .count) G _ f _ _ (c .before .find-definition .ensures types m) (c .if1 .taken)
+returns c = λ types m f. has-unnamed types _ (m .count) (c .before .before .before .args .has .now) f _ _ (c .before .find-definition .ensures types m) (c .if1 .taken)
 
 element-copy-out-result : tie.Need-element-copy-out-result
 element-copy-out-result c = search needs
 
 returns-2 : tie.Need-returns-2
-returns-2 c = λ types G m f. has-at types _ (m .count) G _ f _ _ (c .before .before .find-definition .ensures types m) (c .before .if1 .left)
+returns-2 c = λ types m f. has-at types _ (m .count) (c .before .before .before .before .args .has .now) f _ _ (c .before .before .find-definition .ensures types m) (c .before .if1 .left)
 
 pub named-has-spec : {M : Type 1} → statement M
 named-has-spec =

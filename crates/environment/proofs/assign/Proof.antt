@@ -22,7 +22,7 @@ same-length : tie.Need-same-length
 same-length c = search needs
 
 returns-2 : tie.Need-returns-2
-returns-2 c = let e = c .before .before .store .ensures in assign-in (now (c .before .before .before .before .before .before .args .table)) _ (c .before .before .before .before .before .before .args .x) (valueOf (c .before .before .before .before .before .before .args .c)) (e .0) (e .1 .0) (e .1 .1 .0) (e .1 .1 .1)
+returns-2 c = let e = c .before .before .store .ensures in assign-in (now (c .before .before .before .before .before .before .args .table)) _ (c .before .before .before .before .before .before .args .x) (valueOf (c .before .before .before .before .before .before .args .c)) (e .0) (e .1 .0) (e .1 .1 .0) (e .1 .1 .1 .0)
 
 pub assign-spec : {M : Type 1} → statement M
 assign-spec = tie.close (tie.spec mul-b add-if1 returns store-requires same-length returns-2)

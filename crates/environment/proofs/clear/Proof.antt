@@ -2,7 +2,6 @@ use Prim.Native.Nat.{_≤_, _-_, _*_}
 use mathlib.Core.Path.{_≡_, refl}
 use native.Mathlib.Omega.{arith}
 use borrow.Author.Needs.{needs}
-use denote.Ref.{now}
 use lib.ListN.{length, length-set}
 use Rattle.environment.proofs.Laws.{Zero, zero-more, cleared-out, cleared-in}
 use Rattle.environment.proofs.clear.Statement.{statement}

@@ -2,14 +2,15 @@
 -- Assumes nothing.
 use mathlib.Core.Path.{_≡_, refl, sym, _∙_, ap, subst}
 use native.Mathlib.Omega.{arith}
-use Prim.Native.Nat.{_-_, _*_, _^_, _+_, _≤_}
+use Prim.Native.Nat.{_-_, _*_, _+_, _≤_}
 use lib.ListN.{length}
 use denote.Ref.{now}
 use Rattle.definitions.specs.Bytes.{tokens}
 use Rattle.definitions.specs.Tree.{Exprs}
 use Rattle.clock.specs.Value.{valueOf}
 use Rattle.operands.specs.Spread.{restAt}
-use Rattle.natural.proofs.Laws.{at-or-past}
+use Rattle.operands.proofs.Laws.{left-there}
+use Rattle.operands.proofs.Apart.{at-or-past}
 use Rattle.emit.specs.Out.{out}
 use Rattle.needs.proofs.Laws.{pre-operand}
 use Rattle.stateless.specs.Yield.{Ids, yields}
@@ -55,16 +56,16 @@ use Rattle.expressions.proofs.+expr+exprs+hold+operand.{statement}
 use Rattle.expressions.proofs.+expr+exprs+hold+operand.Tie.{close}
 
 abbrev μ-expr : Measures 11 expr-kinds.ps ℕ
-μ-expr κs a = 3 * (2 ^ 64 - a .1 .1 .1 .1 .1 .1 .1 .1 .1 .1 .1 .1 .1 .1 .1 .1 .1 .0)
+μ-expr κs a = 3 * (length (a .0 .now) - a .1 .1 .1 .1 .1 .1 .1 .1 .1 .1 .1 .1 .1 .1 .1 .1 .1 .0)
 
 abbrev μ-exprs : Measures 11 exprs-kinds.ps ℕ
-μ-exprs κs a = 3 * (2 ^ 64 - a .1 .1 .1 .1 .1 .1 .1 .1 .1 .1 .1 .1 .1 .1 .1 .1 .1 .1 .1 .1 .0) + 2
+μ-exprs κs a = 3 * (length (a .0 .now) - a .1 .1 .1 .1 .1 .1 .1 .1 .1 .1 .1 .1 .1 .1 .1 .1 .1 .1 .1 .1 .0) + 2
 
 abbrev μ-hold : Measures 11 hold-kinds.ps ℕ
-μ-hold κs a = 3 * (2 ^ 64 - a .1 .1 .1 .1 .1 .1 .1 .1 .1 .1 .1 .1 .1 .1 .1 .1 .1 .1 .0) + 1
+μ-hold κs a = 3 * (length (a .0 .now) - a .1 .1 .1 .1 .1 .1 .1 .1 .1 .1 .1 .1 .1 .1 .1 .1 .1 .1 .0) + 1
 
 abbrev μ-operand : Measures 11 operand-kinds.ps ℕ
-μ-operand κs a = 3 * (2 ^ 64 - a .1 .1 .1 .1 .1 .1 .1 .1 .1 .1 .1 .1 .1 .1 .1 .1 .1 .0) + 1
+μ-operand κs a = 3 * (length (a .0 .now) - a .1 .1 .1 .1 .1 .1 .1 .1 .1 .1 .1 .1 .1 .1 .1 .1 .1 .0) + 1
 
 abbrev expr-at : ℕ → In 11 expr-kinds.ps
 expr-at t = and 11 expr-kinds.ps (is 11 expr-kinds.ps μ-expr t) expr.Pre
@@ -127,7 +128,7 @@ expr-enum-known-p : (t : ℕ) → expr-lts.Need-enum-known-p (expr-uses t) (expr
 expr-enum-known-p t c = search needs
 
 expr-hold-requires : (t : ℕ) → expr-lts.Need-hold-requires (expr-uses t) (expr-at t) expr.Post
-expr-hold-requires t c κs = let l = at-or-past (length (now (c .before .before .before .before .before .before .before .before .before .before .before .before .before .before .before .before .before .before .before .args .tags))) (c .before .before .before .before .before .before .before .before .before .before .before .view .result .gap) (c .before .before .before .before .before .before .before .before .before .before .before .view .result .first) (c .before .before .before .before .before .before .before .operand-at .result) (c .before .before .before .before .before .before .before .operand-at .ensures) in (omega (arith, l, c .before .before .before .before .before .before .before .before .before .before .if1 .left, c .before .before .before .before .before .before .before .before .before .before .before .before .before .before .before .before .before .before .before .pre .0, c .before .before .before .before .before .before .before .before .before .before .before .before .before .before .before .before .before .before .before .fits .at .fits), c .before .before .before .before .before .before .before .before .before .before .before .before .before .before .before .before .before .before .before .pre .1)
+expr-hold-requires t c κs = let l = at-or-past (length (now (c .before .before .before .before .before .before .before .before .before .before .before .before .before .before .before .before .before .before .before .args .tags))) (c .before .before .before .before .before .before .before .before .before .before .before .view .result .gap) (c .before .before .before .before .before .before .before .before .before .before .before .view .result .first) (c .before .before .before .before .before .before .before .operand-at .result) (c .before .before .before .before .before .before .before .operand-at .ensures) in (omega (arith, l, c .before .before .before .before .before .before .before .before .before .before .if1 .left, c .before .before .before .before .before .before .before .before .before .before .before .before .before .before .before .before .before .before .before .pre .0, left-there _ _ _ (c .before .before .before .before .before .before .before .before .before .before .before .before .before .before .before .before .before .before .before .pre .1 .0) _ _ (c .before .before .before .before .before .before .before .before .before .before .before .view .ensures .0) (c .before .before .before .before .before .before .before .before .before .before .if1 .left)), c .before .before .before .before .before .before .before .before .before .before .before .before .before .before .before .before .before .before .before .pre .1)
 
 expr-after-operand-requires : (t : ℕ) → expr-lts.Need-after-operand-requires (expr-uses t) (expr-at t) expr.Post
 expr-after-operand-requires t c κs = search needs
@@ -136,7 +137,7 @@ expr-opening-requires : (t : ℕ) → expr-lts.Need-opening-requires (expr-uses 
 expr-opening-requires t c κs = c .before .before .before .before .before .before .before .before .before .before .before .before .before .before .before .before .before .pre .1 .0
 
 expr-exprs-requires : (t : ℕ) → expr-lts.Need-exprs-requires (expr-uses t) (expr-at t) expr.Post
-expr-exprs-requires t c κs = (omega (arith, c .before .before .before .before .before .before .before .before .before .before .before .if1 .left, c .before .before .before .before .before .before .before .before .before .before .before .before .before .before .before .before .before .before .before .before .pre .0, c .before .before .before .before .before .before .before .before .before .before .before .before .before .before .before .before .before .before .before .before .fits .at .fits), c .before .before .before .before .before .before .before .before .before .before .before .before .before .before .before .before .before .before .before .before .pre .1)
+expr-exprs-requires t c κs = (omega (arith, c .before .before .before .before .before .before .before .before .before .before .before .if1 .left, c .before .before .before .before .before .before .before .before .before .before .before .before .before .before .before .before .before .before .before .before .pre .0, left-there _ _ _ (c .before .before .before .before .before .before .before .before .before .before .before .before .before .before .before .before .before .before .before .before .pre .1 .0) _ _ (c .before .before .before .before .before .before .before .before .before .before .before .before .view .ensures .0) (c .before .before .before .before .before .before .before .before .before .before .before .if1 .left)), c .before .before .before .before .before .before .before .before .before .before .before .before .before .before .before .before .before .before .before .before .pre .1)
 
 expr-closing-requires : (t : ℕ) → expr-lts.Need-closing-requires (expr-uses t) (expr-at t) expr.Post
 expr-closing-requires t c κs = (c .before .before .before .before .before .before .before .before .before .before .before .before .before .before .before .before .before .before .before .before .before .before .before .pre .1 .0, c .before .before .before .before .before .before .before .before .before .before .before .before .before .before .before .before .before .before .before .before .before .before .before .pre .1 .1 .1)
@@ -260,7 +261,7 @@ operand-put-span-requires : (t : ℕ) → operand-lts.Need-put-span-requires (op
 operand-put-span-requires t c κs = c .before .before .before .before .before .before .before .before .before .before .before .pre .1 .0
 
 operand-returns : (t : ℕ) → operand-lts.Need-returns (operand-uses t) (operand-at t) operand.Post
-operand-returns t c = λ g ids e q i f. let a = c .before .before .before .before .leaf-end .ensures _ e q (f .stands) (c .before .before .before .if1 .taken) in leaf-made _ _ (g .types) (g .nodes) (g .node) ids _ _ _ e q f (a .0) _ _ _ _ (c .put-span .ensures) refl (a .1)
+operand-returns t c = λ g ids e q i f. let a = c .before .before .before .before .leaf-end .ensures .0 _ e q (f .stands) (c .before .before .before .if1 .taken) in leaf-made _ _ (g .types) (g .nodes) (g .node) ids _ _ _ e q f (a .0) _ _ _ _ (c .put-span .ensures) refl (a .1)
 
 operand-expr-requires : (t : ℕ) → operand-lts.Need-expr-requires (operand-uses t) (operand-at t) operand.Post
 operand-expr-requires t c κs = (omega (arith, c .before .before .before .before .before .before .before .before .before .before .before .pre .0), c .before .before .before .before .before .before .before .before .before .before .before .pre .1)

@@ -31,7 +31,7 @@ same-length : tie.Need-same-length
 same-length c = search needs
 
 returns-3 : tie.Need-returns-3
-returns-3 c = let e = c .before .before .store .ensures in (e .0, λ cs h. last-stored (now (c .before .before .before .before .before .before .before .args .rows)) (c .before .before .before .before .before .before .before .args .m) (valueOf (c .before .before .before .before .before .before .before .args .c)) cs _ (omega (arith, c .before .before .before .before .if2 .left)) (e .0) (e .1 .1 .0) (e .1 .1 .1) h)
+returns-3 c = let e = c .before .before .store .ensures in (e .0, λ cs h. last-stored (now (c .before .before .before .before .before .before .before .args .rows)) (c .before .before .before .before .before .before .before .args .m) (valueOf (c .before .before .before .before .before .before .before .args .c)) cs _ (omega (arith, c .before .before .before .before .if2 .left)) (e .0) (e .1 .1 .0) (e .1 .1 .1 .0) h)
 
 pub append-spec : {M : Type 1} → statement M
 append-spec =

@@ -8,7 +8,7 @@ use lib.ListN.{length}
 use mathlib.Core.List.{List, _++_}
 use Rattle.definitions.specs.Clock.{Clock}
 use Rattle.definitions.specs.InferClocks.{sites}
-use Rattle.rows.specs.Rows.{Has}
+use Rattle.rows.specs.Rows.{RowsHold}
 use Rattle.findings.specs.Findings.{findingsIn}
 use Rattle.findings.proofs.Laws.{sites-same, sites-base, sites-more, listed-none, listed-same, listed-more, listed-all, base-of}
 use borrow.Author.Needs.{needs}
@@ -17,7 +17,7 @@ use Rattle.findings.proofs.list_sites.Tie as tie
 
 abbrev Inv-loop : tie.InvT-loop
 Inv-loop table n rows₀ m i₀ at₀ rows i at =
-    (i ≤ n) × (length rows ≡ length rows₀) × ((cs : List Clock) → Has rows₀ m cs → Has rows at (cs ++ sites (findingsIn table i)))
+    (i ≤ n) × (length rows ≡ length rows₀) × ((cs : List Clock) → RowsHold rows₀ m cs → RowsHold rows at (cs ++ sites (findingsIn table i)))
 
 abbrev μ-loop : tie.MeasureT-loop
 μ-loop table n rows₀ m i₀ at₀ rows i at = n - i

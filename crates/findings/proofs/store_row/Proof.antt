@@ -59,7 +59,7 @@ same-length : tie.Need-same-length
 same-length c = c .before .before .store2 .ensures .0 ∙ (c .before .before .before .before .before .before .store .ensures .0 ∙ simp length-set)
 
 returns : tie.Need-returns
-returns c = let s = c .before .before .before .before .before .before .store .ensures in let u = c .before .before .store2 .ensures in let r = row-stored (now (c .before .before .before .before .before .before .before .before .before .args .t)) (c .before .before .before .before .before .before .before .before .before .args .b) (c .before .before .before .before .before .before .before .before .before .args .w .kind) (c .before .before .before .before .before .before .before .before .before .args .w .name) (c .before .before .before .before .before .before .before .before .before .args .w .flag) (c .before .before .before .before .before .before .before .before .before .args .w .equation) _ _ (valueOf (c .before .before .before .before .before .before .before .before .before .args .on)) (valueOf (c .before .before .before .before .before .before .before .before .before .args .expected)) (c .before .before .before .before .before .before .before .before .before .pre) (s .1 .1 .0) (s .1 .1 .1) (u .1 .1 .0) (u .1 .1 .1) in (u .0 ∙ (s .0 ∙ simp length-set), (r .0, r .1))
+returns c = let s = c .before .before .before .before .before .before .store .ensures in let u = c .before .before .store2 .ensures in let r = row-stored (now (c .before .before .before .before .before .before .before .before .before .args .t)) (c .before .before .before .before .before .before .before .before .before .args .b) (c .before .before .before .before .before .before .before .before .before .args .w .kind) (c .before .before .before .before .before .before .before .before .before .args .w .name) (c .before .before .before .before .before .before .before .before .before .args .w .flag) (c .before .before .before .before .before .before .before .before .before .args .w .equation) _ _ (valueOf (c .before .before .before .before .before .before .before .before .before .args .on)) (valueOf (c .before .before .before .before .before .before .before .before .before .args .expected)) (c .before .before .before .before .before .before .before .before .before .pre) (s .1 .1 .0) (s .1 .1 .1 .0) (u .1 .1 .0) (u .1 .1 .1 .0) in (u .0 ∙ (s .0 ∙ simp length-set), (r .0, r .1))
 
 pub store-row-spec : {M : Type 1} → statement M
 store-row-spec =

@@ -12,7 +12,7 @@ use Rattle.infer_clocks.specs.Clocked.{Sole}
 use Rattle.infer_clocks.proofs.Laws.{Ahead, ahead-start}
 use Rattle.stateless.specs.Sheets.{firstFaultsFrom}
 use Rattle.query.specs.Standing.{Roomy}
-use Rattle.first_faults.specs.Faults.{Tabled, Recorded}
+use Rattle.first_faults.specs.Faults.{SheetTables, Recorded}
 use Rattle.first_faults.proofs.Laws.{sole-at, sole-else, roomy-still}
 use Rattle.first_faults.proofs.Records.{first-start, first-step, walk-step, walk-deep, walk-end, deep-uncounted, faulty-counted}
 use borrow.Author.Needs.{needs}
@@ -26,9 +26,9 @@ Inv-loop tags values t env₀ table₀ list₀ m₀ k₀ env table list m k =
     × (length list ≡ length list₀)
     × (m ≤ k)
     × (k ≤ t .nodes)
-    × ((i : Input) → Tabled tags values t i → Roomy (t .names) (length tags) env₀ table₀ → Ahead k (drop k (i .sheet .nodes)) (clockings 0 (i .sheet .nodes)))
-    × ((i : Input) (ns : List ClockedNode) → Tabled tags values t i → clockings 0 (i .sheet .nodes) ≡ accepted ns → Roomy (t .names) (length tags) env₀ table₀ → Recorded list₀ (firstFaultsFrom i 0 (take k ns)) m list)
-    × ((i : Input) → Tabled tags values t i → Roomy (t .names) (length tags) env₀ table₀ → 0 < k → Sole env (t .names) (i .sheet .nodes))
+    × ((i : Input) → SheetTables tags values t i → Roomy (t .names) (length tags) env₀ table₀ → Ahead k (drop k (i .sheet .nodes)) (clockings 0 (i .sheet .nodes)))
+    × ((i : Input) (ns : List ClockedNode) → SheetTables tags values t i → clockings 0 (i .sheet .nodes) ≡ accepted ns → Roomy (t .names) (length tags) env₀ table₀ → Recorded list₀ (firstFaultsFrom i 0 (take k ns)) m list)
+    × ((i : Input) → SheetTables tags values t i → Roomy (t .names) (length tags) env₀ table₀ → 0 < k → Sole env (t .names) (i .sheet .nodes))
 
 abbrev μ-loop : tie.MeasureT-loop
 μ-loop tags values t env₀ table₀ list₀ m₀ k₀ env table list m k = t .nodes - k

@@ -4,14 +4,14 @@ use Prim.Native.Nat.{_-_}
 use Rattle.order.specs.Order.{rowOf, picked}
 use Rattle.stateless.specs.Yield.{Ids}
 use Rattle.emit.specs.Out.{out, emits}
-use Rattle.flags.specs.Tabled.{Tabled}
-use Rattle.flags.proofs.Laws.{Left, rows-start, rows-more, rows-all, flagEquation, flagEquations, equation-line}
+use Rattle.flags.specs.Tabled.{FlagIds}
+use Rattle.flags.proofs.Laws.{id-found, Left, rows-start, rows-more, rows-all, flagEquation, flagEquations, equation-line}
 use borrow.Author.Needs.{needs}
 use Rattle.flags.proofs.put_flag_equations.Statement.{statement}
 use Rattle.flags.proofs.put_flag_equations.Tie as tie
 
 abbrev Inv-loop : tie.InvT-loop
-Inv-loop otags₀ ovalues₀ at rows n ids chain m next₀ i₀ otags ovalues next i = (j : Ids) → Tabled rows n ids (j .flag) → Left (rowOf rows) chain (flagEquations j) m (emits (out otags₀ ovalues₀ at) (flagEquations j (picked (rowOf rows) chain 0 m))) (out otags ovalues next) i
+Inv-loop otags₀ ovalues₀ at rows n ids chain m next₀ i₀ otags ovalues next i = (j : Ids) → FlagIds rows n ids (j .flag) → Left (rowOf rows) chain (flagEquations j) m (emits (out otags₀ ovalues₀ at) (flagEquations j (picked (rowOf rows) chain 0 m))) (out otags ovalues next) i
 
 abbrev μ-loop : tie.MeasureT-loop
 μ-loop otags₀ ovalues₀ at rows n ids chain m next₀ i₀ otags ovalues next i = m - i
@@ -22,8 +22,8 @@ loop-holds c = λ j t. rows-start _ _ (flagEquations j) _ _
 row-at-requires : tie.Need-row-at-requires Inv-loop μ-loop
 row-at-requires c κs = search needs
 
-id-of-requires : tie.Need-id-of-requires Inv-loop μ-loop
-id-of-requires c κs = search needs
+flag-id-requires : tie.Need-flag-id-requires Inv-loop μ-loop
+flag-id-requires c κs = search needs
 
 put-left-requires : tie.Need-put-left-requires Inv-loop μ-loop
 put-left-requires c κs = search needs
@@ -38,7 +38,7 @@ loop-less : tie.Need-loop-less Inv-loop μ-loop
 loop-less c = search needs
 
 loop-again : tie.Need-loop-again Inv-loop μ-loop
-loop-again c = λ j t. rows-more _ _ (flagEquations j) _ _ (flagEquation j) (λ k ks. refl) _ _ _ _ (c .before .before .before .before .before .before .before .before .loop-test .taken) (c .before .before .before .before .before .before .before .row-at .ensures) (c .before .before .before .before .before .before .before .before .before .loop .inv j t) (equation-line _ _ _ _ _ _ (c .before .before .before .before .before .before .id-of .ensures (j .flag) t) (c .before .before .before .put-left .ensures) (c .put-activation .ensures j t))
+loop-again c = λ j t. rows-more _ _ (flagEquations j) _ _ (flagEquation j) (λ k ks. refl) _ _ _ _ (c .before .before .before .before .before .before .before .before .loop-test .taken) (c .before .before .before .before .before .before .before .row-at .ensures) (c .before .before .before .before .before .before .before .before .before .loop .inv j t) (equation-line _ _ _ _ _ _ (id-found _ _ _ (j .flag) _ _ t (c .before .before .before .before .before .before .flag-id .ensures)) (c .before .before .before .put-left .ensures) (c .put-activation .ensures j t))
 
 returns : tie.Need-returns Inv-loop μ-loop
 returns c = λ j t. rows-all _ _ (flagEquations j) _ _ refl _ _ (c .loop-test .left) (c .before .loop .inv j t)
@@ -51,7 +51,7 @@ put-flag-equations-spec =
     μ-loop
     loop-holds
     row-at-requires
-    id-of-requires
+    flag-id-requires
     put-left-requires
     put-activation-requires
     add-i

@@ -1,7 +1,7 @@
 -- `flags::put_parent` meets its contract: a clock of two conditions has a parent that is not base. Assumes nothing.
 use native.Mathlib.Omega.{arith}
 use Rattle.clock.specs.Value.{valueOf}
-use Rattle.flags.proofs.Laws.{parent-none, parent-flag}
+use Rattle.flags.proofs.Laws.{id-found, parent-none, parent-flag}
 use borrow.Author.Needs.{needs}
 use Rattle.flags.proofs.put_parent.Statement.{statement}
 use Rattle.flags.proofs.put_parent.Tie as tie
@@ -15,8 +15,8 @@ returns c = λ id t. parent-none _ id (valueOf (c .before .before .before .befor
 parent-requires : tie.Need-parent-requires
 parent-requires c κs = search needs
 
-id-of-requires : tie.Need-id-of-requires
-id-of-requires c κs = search needs
+flag-id-requires : tie.Need-flag-id-requires
+flag-id-requires c κs = search needs
 
 emit-requires : tie.Need-emit-requires
 emit-requires c κs = search needs
@@ -25,7 +25,7 @@ emit-requires-2 : tie.Need-emit-requires-2
 emit-requires-2 c κs = search needs
 
 returns-2 : tie.Need-returns-2
-returns-2 c = λ id t. parent-flag _ _ _ id (valueOf (c .before .before .before .before .before .before .before .before .before .before .before .before .args .c)) _ (c .before .before .before .before .before .before .before .before .before .depth-of .result) _ (c .before .before .before .before .before .before .before .before .before .depth-of .ensures .1 .0) (omega (arith, c .before .before .before .before .before .before .before .before .if1 .left)) (c .before .before .before .before .before .before .before .parent .ensures) (c .before .before .before .before .before .before .id-of .ensures id t) (c .before .before .before .emit .ensures) (c .emit2 .ensures)
+returns-2 c = λ id t. parent-flag _ _ _ id (valueOf (c .before .before .before .before .before .before .before .before .before .before .before .before .args .c)) _ (c .before .before .before .before .before .before .before .before .before .depth-of .result) _ (c .before .before .before .before .before .before .before .before .before .depth-of .ensures .1 .0) (omega (arith, c .before .before .before .before .before .before .before .before .if1 .left)) (c .before .before .before .before .before .before .before .parent .ensures) (id-found _ _ _ id _ _ t (c .before .before .before .before .before .before .flag-id .ensures)) (c .before .before .before .emit .ensures) (c .emit2 .ensures)
 
 pub put-parent-spec : {M : Type 1} → statement M
 put-parent-spec =
@@ -34,7 +34,7 @@ put-parent-spec =
     depth-of-requires
     returns
     parent-requires
-    id-of-requires
+    flag-id-requires
     emit-requires
     emit-requires-2
     returns-2)

@@ -1,19 +1,19 @@
 use Prim.Native.Nat.{_≤_, _<_, _+_, _-_, _*_}
 use mathlib.Core.Path.{_≡_, refl, _∙_}
+use mathlib.Core.Logic.{⊎-elim}
 use native.Mathlib.Omega.{arith}
 use borrow.Author.Needs.{needs}
 use denote.Ref.{now}
 use lib.ListN.{length, set, length-set}
-use Rattle.clock.specs.Value.{at}
-use Rattle.flat.proofs.Laws.{Stored, Within, store-more, within-more, stored}
+use Rattle.flat.proofs.Laws.{kept, kept-here, kept-past, Stored, Within, store-more, within-more, stored}
 use Rattle.flat.proofs.store.Statement.{statement}
 use Rattle.flat.proofs.store.Tie as tie
 
 abbrev Inv-loop : tie.InvT-loop
-Inv-loop t₀ b c d w f i₀ t i = (i ≤ d) × (b + 17 ≤ length t) × (length t ≡ length t₀) × Stored t (b + 1) (c .conditions) i × Within t₀ t (b + 1) 16
+Inv-loop t₀ b c d w f i₀ t i = (i ≤ 8) × (b + 17 ≤ length t) × (length t ≡ length t₀) × Stored t (b + 1) (kept (c .conditions) d) i × Within t₀ t (b + 1) 16
 
 abbrev μ-loop : tie.MeasureT-loop
-μ-loop t₀ b c d w f i₀ t i = d - i
+μ-loop t₀ b c d w f i₀ t i = 8 - i
 
 depth-of-requires : tie.Need-depth-of-requires Inv-loop μ-loop
 depth-of-requires c κs = search needs
@@ -49,7 +49,7 @@ add-p : tie.Need-add-p Inv-loop μ-loop
 add-p c = search needs
 
 store-condition-requires : tie.Need-store-condition-requires Inv-loop μ-loop
-store-condition-requires c κs = omega (arith, c .before .before .before .loop .inv .1, c .before .before .before .loop .inv .0, c .before .before .loop-test .taken, c .before .before .before .before .depth-of .ensures .1 .1)
+store-condition-requires c κs = omega (arith, c .before .before .before .loop .inv .1, c .before .before .loop-test .taken)
 
 add-i : tie.Need-add-i Inv-loop μ-loop
 add-i c = search needs
@@ -59,10 +59,20 @@ loop-less c = search needs
 
 loop-again : tie.Need-loop-again Inv-loop μ-loop
 loop-again c =
+    let s = c .before .before .before .before .before .before .before .before .before .args in
     let v = c .before .before .before .before .before .before .loop .inv in
-    let l : c .before .before .before .before .before .before .loop .i < 8 = omega (arith, c .before .before .before .before .before .before .before .depth-of .ensures .1 .1, c .before .before .before .before .before .loop-test .taken) in
-    let m : c .before .before .before .before .before .before .before .before .before .args .b + 1 + 2 * c .before .before .before .before .before .before .loop .i + 2 ≤ length (c .before .before .before .before .before .before .loop .t) = omega (arith, v .1) in
-    (omega arith, rw (c .before .before .store-condition .ensures) (simp length-set (v .1)), rw (c .before .before .store-condition .ensures) (simp length-set (simp length-set at (v .2))), rw (c .before .before .store-condition .ensures) (store-more (c .before .before .before .before .before .before .loop .t) (c .before .before .before .before .before .before .before .before .before .args .b + 1) (c .before .before .before .before .before .before .loop .i) (c .before .before .before .before .before .before .before .before .before .args .t3 .conditions) m (v .3)), rw (c .before .before .store-condition .ensures) (within-more (set (now (c .before .before .before .before .before .before .before .before .before .args .t)) (c .before .before .before .before .before .before .before .before .before .args .b) (c .before .before .before .before .before .before .before .depth-of .result + 1)) (c .before .before .before .before .before .before .loop .t) (c .before .before .before .before .before .before .before .before .before .args .b + 1) (c .before .before .before .before .before .before .loop .i) (at (c .before .before .before .before .before .before .before .before .before .args .t3 .conditions) (c .before .before .before .before .before .before .loop .i)) l (v .4)))
+    let t = c .before .before .before .before .before .before .loop .t in
+    let i = c .before .before .before .before .before .before .loop .i in
+    let d = c .before .before .before .before .before .before .before .depth-of .result in
+    let l : i < 8 = c .before .before .before .before .before .loop-test .taken in
+    let m : s .b + 1 + 2 * i + 2 ≤ length t = omega (arith, v .1) in
+    let k = ⊎-elim (λ w. w .2 ∙ kept-here (s .t3 .conditions) d i (omega (arith, w .0 .taken))) (λ w. w .1 ∙ kept-past (s .t3 .conditions) d i (omega (arith, w .0 .left))) (c .before .before .before .before .if1 .came) in (
+      omega arith,
+      rw (c .before .before .store-condition .ensures) (simp length-set (v .1)),
+      rw (c .before .before .store-condition .ensures) (simp length-set (simp length-set at (v .2))),
+      rw (c .before .before .store-condition .ensures) (store-more t (s .b + 1) i (kept (s .t3 .conditions) d) (c .before .before .before .before .if1 .k) k m (v .3)),
+      rw (c .before .before .store-condition .ensures) (within-more (set (now (s .t)) (s .b) (d + 1)) t (s .b + 1) i (c .before .before .before .before .if1 .k) l (v .4)),
+    )
 
 same-length : tie.Need-same-length Inv-loop μ-loop
 same-length c = c .before .loop .inv .2 ∙ simp length-set

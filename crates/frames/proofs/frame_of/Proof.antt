@@ -7,7 +7,7 @@ use Rattle.frames.proofs.frame_of.Tie as tie
 use Rattle.frames.proofs.frame_of.Reads as reads
 use Rattle.frames.proofs.frame_of.Lts as lts
 use Rattle.clock.proofs.is_base.Reads as is-base-reads
-use Rattle.openings.proofs.flag_id.Reads as flag-id-reads
+use Rattle.needs.proofs.flag_id.Reads as flag-id-reads
 use Rattle.rewritten_shape.proofs.shape_after.Reads as shape-after-reads
 
 is-base-requires : tie.Need-is-base-requires

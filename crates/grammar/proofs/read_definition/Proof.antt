@@ -1,6 +1,6 @@
 -- `grammar::read_definition` meets its contract: the first token decides.
 -- Assumes nothing.
-use Rattle.grammar.proofs.Parts.{definition-stop, definition-enum, definition-alias, definition-record, definition-no-record}
+use Rattle.grammar.proofs.Parts.{definition-stop, definition-enum, definition-record, definition-alias, items-end}
 use borrow.Author.Needs.{needs}
 use Rattle.grammar.proofs.read_definition.Statement.{statement}
 use Rattle.grammar.proofs.read_definition.Tie as tie
@@ -17,20 +17,20 @@ enum-known-head-2 c = search needs
 enum-told : tie.Need-enum-told
 enum-told c = search needs
 
-read-variants-requires : tie.Need-read-variants-requires
-read-variants-requires c κs = search needs
+read-list-requires : tie.Need-read-list-requires
+read-list-requires c κs = search needs
+
+end-of-requires : tie.Need-end-of-requires
+end-of-requires c κs = search needs
 
 enum-told-2 : tie.Need-enum-told-2
 enum-told-2 c = search needs
 
-read-ports-requires : tie.Need-read-ports-requires
-read-ports-requires c κs = search needs
+read-list-requires-2 : tie.Need-read-list-requires-2
+read-list-requires-2 c κs = search needs
 
-enum-known-ports : tie.Need-enum-known-ports
-enum-known-ports c = search needs
-
-enum-known-ports-2 : tie.Need-enum-known-ports-2
-enum-known-ports-2 c = search needs
+end-of-requires-2 : tie.Need-end-of-requires-2
+end-of-requires-2 c κs = search needs
 
 enum-told-3 : tie.Need-enum-told-3
 enum-told-3 c = search needs
@@ -42,16 +42,13 @@ returns : tie.Need-returns
 returns c = definition-stop _ _ _ _ (c .before .before .before .definition-head .ensures) _ (c .before .head .given .1)
 
 returns-2 : tie.Need-returns-2
-returns-2 c = definition-enum _ _ _ _ (c .before .before .before .before .before .before .definition-head .ensures) _ _ (c .before .before .before .before .head2 .given .1) _ _ (c .before .enum-told .given .1) (c .read-variants .ensures)
+returns-2 c = definition-enum _ _ _ _ (c .before .before .before .before .before .before .before .definition-head .ensures) _ _ (c .before .before .before .before .before .head2 .given .1) _ _ (c .before .before .enum-told .given .1) (items-end _ _ _ _ _ _ _ _ (c .end-of .ensures) (c .before .read-list .ensures))
 
 returns-3 : tie.Need-returns-3
-returns-3 c = definition-record _ _ _ _ (c .before .before .before .before .before .before .before .before .before .definition-head .ensures) _ _ (c .before .before .before .before .before .before .before .head2 .given .1) _ (c .before .before .before .before .enum-told2 .given .1) _ (c .before .before .before .read-ports .ensures) _ _ (c .before .ports .given .1)
+returns-3 c = definition-record _ _ _ _ (c .before .before .before .before .before .before .before .definition-head .ensures) _ _ (c .before .before .before .before .before .head2 .given .1) _ _ (c .before .before .enum-told2 .given .1) (items-end _ _ _ _ _ _ _ _ (c .end-of2 .ensures) (c .before .read-list2 .ensures))
 
 returns-4 : tie.Need-returns-4
-returns-4 c = definition-no-record _ _ _ _ (c .before .before .before .before .before .before .before .before .before .definition-head .ensures) _ _ (c .before .before .before .before .before .before .before .head2 .given .1) _ (c .before .before .before .before .enum-told2 .given .1) _ (c .before .before .before .read-ports .ensures) _ (c .before .ports2 .given .1)
-
-returns-5 : tie.Need-returns-5
-returns-5 c = definition-alias _ _ _ _ (c .before .before .before .before .before .before .definition-head .ensures) _ _ (c .before .before .before .before .head2 .given .1) _ _ (c .before .enum-told3 .given .1) (c .read-type .ensures)
+returns-4 c = definition-alias _ _ _ _ (c .before .before .before .before .before .before .definition-head .ensures) _ _ (c .before .before .before .before .head2 .given .1) _ _ (c .before .enum-told3 .given .1) (c .read-type .ensures)
 
 pub read-definition-spec : {M : Type 1} → statement M
 read-definition-spec =
@@ -61,15 +58,14 @@ read-definition-spec =
     enum-known-head
     enum-known-head-2
     enum-told
-    read-variants-requires
+    read-list-requires
+    end-of-requires
     enum-told-2
-    read-ports-requires
-    enum-known-ports
-    enum-known-ports-2
+    read-list-requires-2
+    end-of-requires-2
     enum-told-3
     read-type-requires
     returns
     returns-2
     returns-3
-    returns-4
-    returns-5)
+    returns-4)

@@ -14,8 +14,8 @@ read-types-requires c κs = search needs
 enum-known-types : tie.Need-enum-known-types
 enum-known-types c = search needs
 
-read-all-nodes-requires : tie.Need-read-all-nodes-requires
-read-all-nodes-requires c κs = search needs
+read-nodes-requires : tie.Need-read-nodes-requires
+read-nodes-requires c κs = search needs
 
 enum-known-nodes : tie.Need-enum-known-nodes
 enum-known-nodes c = search needs
@@ -27,13 +27,13 @@ enum-known-types-2 : tie.Need-enum-known-types-2
 enum-known-types-2 c = search needs
 
 returns : tie.Need-returns
-returns c = sheet-ends _ _ _ _ (c .before .before .before .before .before .before .before .before .read-types .ensures) _ (c .before .before .before .before .before .before .types .given .1) _ (c .before .before .before .before .read-all-nodes .ensures) _ (c .before .before .nodes .given .1) (c .if1 .taken ∙ sym (tokens-length (now (c .before .before .before .before .before .before .before .before .before .before .before .args .tags)) (now (c .before .before .before .before .before .before .before .before .before .before .before .args .values)) (c .before .before .before .before .before .before .before .before .before .before .before .pre)))
+returns c = sheet-ends _ _ _ _ (c .before .before .before .before .before .before .before .before .read-types .ensures) _ (c .before .before .before .before .before .before .types .given .1) _ (c .before .before .before .before .read-nodes .ensures) _ (c .before .before .nodes .given .1) (c .if1 .taken ∙ sym (tokens-length (now (c .before .before .before .before .before .before .before .before .before .before .before .args .tags)) (now (c .before .before .before .before .before .before .before .before .before .before .before .args .values)) (c .before .before .before .before .before .before .before .before .before .before .before .pre)))
 
 returns-2 : tie.Need-returns-2
-returns-2 c = sheet-goes-on _ _ _ _ (c .before .before .before .before .before .before .before .before .read-types .ensures) _ (c .before .before .before .before .before .before .types .given .1) _ (c .before .before .before .before .read-all-nodes .ensures) _ (c .before .before .nodes .given .1) (λ e. c .if1 .left (e ∙ tokens-length (now (c .before .before .before .before .before .before .before .before .before .before .before .args .tags)) (now (c .before .before .before .before .before .before .before .before .before .before .before .args .values)) (c .before .before .before .before .before .before .before .before .before .before .before .pre)))
+returns-2 c = sheet-goes-on _ _ _ _ (c .before .before .before .before .before .before .before .before .read-types .ensures) _ (c .before .before .before .before .before .before .types .given .1) _ (c .before .before .before .before .read-nodes .ensures) _ (c .before .before .nodes .given .1) (λ e. c .if1 .left (e ∙ tokens-length (now (c .before .before .before .before .before .before .before .before .before .before .before .args .tags)) (now (c .before .before .before .before .before .before .before .before .before .before .before .args .values)) (c .before .before .before .before .before .before .before .before .before .before .before .pre)))
 
 returns-3 : tie.Need-returns-3
-returns-3 c = sheet-nodes _ _ _ _ (c .before .before .before .before .before .before .before .read-types .ensures) _ (c .before .before .before .before .before .types .given .1) _ (c .before .before .before .read-all-nodes .ensures) _ (c .before .nodes2 .given .1)
+returns-3 c = sheet-nodes _ _ _ _ (c .before .before .before .before .before .before .before .read-types .ensures) _ (c .before .before .before .before .before .types .given .1) _ (c .before .before .before .read-nodes .ensures) _ (c .before .nodes2 .given .1)
 
 returns-4 : tie.Need-returns-4
 returns-4 c = sheet-types _ _ _ _ (c .before .before .before .read-types .ensures) _ (c .before .types2 .given .1)
@@ -44,7 +44,7 @@ read-sheet-spec =
     (tie.spec
     read-types-requires
     enum-known-types
-    read-all-nodes-requires
+    read-nodes-requires
     enum-known-nodes
     enum-known-nodes-2
     enum-known-types-2

@@ -11,7 +11,7 @@ use Rattle.definitions.specs.Reading.{got, times}
 use Rattle.definitions.specs.Grammar.{equation, node}
 use Rattle.definitions.specs.InferClocks.{Clocks}
 use Rattle.environment.specs.Environment.{Agrees}
-use Rattle.checking.specs.Walk.{Marks}
+use Rattle.checking.specs.Walk.{PortMarks}
 use Rattle.infer_clocks.specs.Clocked.{foundFrom}
 use Rattle.infer_clocks.proofs.Laws.{Going, going-start, going-end, going-step, going-deep}
 use borrow.Author.Needs.{needs}
@@ -20,7 +20,7 @@ use Rattle.infer_clocks.proofs.check_all.Tie as tie
 
 abbrev Inv-loop : tie.InvT-loop
 Inv-loop tags values names env ports table₀ count at k₀ place₀ n₀ table k place n =
-    (length table ≡ length table₀) × ((node : Node) (clocks : Clocks) (es : List Equation) (q : ℕ) → Agrees env names clocks → Marks ports names node → times count (equation names) (tokens tags values) at ≡ got es q → Going names (tokens tags values) node clocks table (count - k) k place n q (foundFrom node clocks 0 es))
+    (length table ≡ length table₀) × ((node : Node) (clocks : Clocks) (es : List Equation) (q : ℕ) → Agrees env names clocks → PortMarks ports names node → times count (equation names) (tokens tags values) at ≡ got es q → Going names (tokens tags values) node clocks table (count - k) k place n q (foundFrom node clocks 0 es))
 
 abbrev μ-loop : tie.MeasureT-loop
 μ-loop tags values names env ports table₀ count at k₀ place₀ n₀ table k place n = count - k

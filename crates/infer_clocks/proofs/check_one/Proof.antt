@@ -12,7 +12,7 @@ is-deep-requires : tie.Need-is-deep-requires
 is-deep-requires c κs = search needs
 
 returns : tie.Need-returns
-returns c = λ node clocks e q fs a b g h w. one-deep node clocks _ fs _ e _ _ (c .before .before .before .natural-clock .ensures (e .right) q clocks h a .clock) (c .before .is-deep .ensures) (c .if1 .taken)
+returns c = λ node clocks e q fs a b g h w. one-deep node clocks _ fs _ e _ _ (c .before .before .natural-clock .ensures (e .right) q clocks h a) (c .before .is-deep .ensures) (c .if1 .taken)
 
 or-base-requires : tie.Need-or-base-requires
 or-base-requires c κs = search needs
@@ -24,7 +24,7 @@ same-length : tie.Need-same-length
 same-length c = search needs
 
 returns-2 : tie.Need-returns-2
-returns-2 c = λ node clocks e q fs a b g h w. one-found node clocks _ fs _ e _ _ _ _ (c .before .before .before .before .before .before .before .before .natural-clock .ensures (e .right) q clocks h a .clock) (c .before .before .before .before .before .before .is-deep .ensures) (c .before .before .before .before .before .if1 .left) (c .before .before .before .before .or-base .ensures) (c .before .before .check-equation .ensures .1 node clocks e q fs a b g w .holds)
+returns-2 c = λ node clocks e q fs a b g h w. one-found node clocks _ fs _ e _ _ _ _ (c .before .before .before .before .before .before .before .natural-clock .ensures (e .right) q clocks h a) (c .before .before .before .before .before .before .is-deep .ensures) (c .before .before .before .before .before .if1 .left) (c .before .before .before .before .or-base .ensures) (c .before .before .check-equation .ensures .1 node clocks e q fs a b g w .holds)
 
 pub check-one-spec : {M : Type 1} → statement M
 check-one-spec =

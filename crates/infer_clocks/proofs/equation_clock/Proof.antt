@@ -11,7 +11,7 @@ or-base-requires : tie.Need-or-base-requires
 or-base-requires c κs = search needs
 
 returns : tie.Need-returns
-returns c = λ e q clocks o g a h. c .or-base .ensures o (c .before .before .natural-clock .ensures e q clocks g a .clock ∙ h)
+returns c = λ e q clocks o g a h. c .or-base .ensures o (c .before .natural-clock .ensures e q clocks g a ∙ h)
 
 pub equation-clock-spec : {M : Type 1} → statement M
 equation-clock-spec = tie.close (tie.spec natural-clock-requires or-base-requires returns)

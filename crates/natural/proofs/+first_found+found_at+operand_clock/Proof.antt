@@ -1,16 +1,24 @@
--- `natural::found_at` and its walk over operands meet their contracts. The measure falls with the place, which goes forward.
+-- `natural::found_at` and its walk over operands meet their contracts. The measure is the tokens left.
 -- Assumes nothing.
 use native.Mathlib.Omega.{arith}
-use mathlib.Core.Path.{refl, sym, _∙_}
+use mathlib.Core.Path.{_≡_, refl, sym, _∙_}
+use mathlib.Core.Logic.{⊎-elim}
 use denote.Ref.{now}
 use lib.ListN.{length}
-use Rattle.operands.proofs.Laws.{spread-nil}
+use Rattle.definitions.specs.Bytes.{tokens}
+use Rattle.definitions.specs.Tree.{Exprs}
+use Rattle.definitions.specs.Reading.{got}
+use Rattle.definitions.specs.InferClocks.{Clocks}
+use Rattle.environment.specs.Environment.{Agrees}
+use Rattle.operands.specs.Spread.{tree, spread}
+use Rattle.operands.proofs.Laws.{left-there}
+use Rattle.operands.proofs.Apart.{at-or-past, spread-end}
 use Rattle.operands.proofs.Roles.{arm}
+use Rattle.natural.specs.Natural.{firstOf}
 use Rattle.natural.proofs.Low.{arm-low}
-use Rattle.natural.proofs.Leaf.{leaf-past, leaf-rest}
-use Rattle.natural.proofs.Laws.{none-found, at-or-past, walk-past, walk-rest, walk-here, name-arm, spread-end, var-ends, sample-arm, join-branches, join-name, rest-arm}
+use Rattle.natural.proofs.Laws.{Remains, remains-all, remains-none, remains-here, remains-past, remains-rest, Passed, passed-leaf, passed-walk, name-arm, var-ends, sample-arm, join-branches, join-name, rest-arm}
 use borrow.Author.Needs.{needs}
-use Prim.Native.Nat.{ℕ, _<_, _+_, _-_, _*_, _^_}
+use Prim.Native.Nat.{ℕ, _<_, _≤_, _+_, _-_, _*_}
 use borrow.Fn.Kinds.{In}
 use borrow.Fn.PlainCycle.{Measures, is, falls, and}
 use Rattle.natural.proofs.first_found.Reads as first-found
@@ -35,13 +43,13 @@ use Rattle.natural.proofs.+first_found+found_at+operand_clock.{statemen
 use Rattle.natural.proofs.+first_found+found_at+operand_clock.Tie.{close}
 
 abbrev μ-first-found : Measures 3 first-found-kinds.ps ℕ
-μ-first-found κs a = 3 * (2 ^ 64 - a .1 .1 .1 .1 .1 .1 .1 .0) + 2
+μ-first-found κs a = 3 * (length (now (a .0)) - a .1 .1 .1 .1 .1 .1 .1 .0) + 2
 
 abbrev μ-found-at : Measures 3 found-at-kinds.ps ℕ
-μ-found-at κs a = 3 * (2 ^ 64 - a .1 .1 .1 .1 .0)
+μ-found-at κs a = 3 * (length (now (a .0)) - a .1 .1 .1 .1 .0)
 
 abbrev μ-operand-clock : Measures 3 operand-clock-kinds.ps ℕ
-μ-operand-clock κs a = 3 * (2 ^ 64 - a .1 .1 .1 .1 .1 .0) + 1
+μ-operand-clock κs a = 3 * (length (now (a .0)) - a .1 .1 .1 .1 .1 .0) + 1
 
 abbrev first-found-at : ℕ → In 3 first-found-kinds.ps
 first-found-at t =
@@ -76,7 +84,7 @@ operand-clock-below t =
     operand-clock.Pre
 
 abbrev first-found-uses : ℕ → first-found-lts.Claims
-first-found-uses t = (nothing-reads.Asked, nothing-reads.Learnt, operand-at-reads.Asked, operand-at-reads.Learnt, free-leaf-reads.Asked, free-leaf-reads.Learnt, after-operand-reads.Asked, after-operand-reads.Learnt, first-found-below t, first-found.Post, operand-clock-below t, operand-clock.Post, is-free-reads.Asked, is-free-reads.Learnt)
+first-found-uses t = (operand-at-reads.Asked, operand-at-reads.Learnt, free-leaf-reads.Asked, free-leaf-reads.Learnt, operand-clock-below t, operand-clock.Post, is-free-reads.Asked, is-free-reads.Learnt, after-operand-reads.Asked, after-operand-reads.Learnt, nothing-reads.Asked, nothing-reads.Learnt)
 
 abbrev found-at-uses : ℕ → found-at-lts.Claims
 found-at-uses t = (view-at-reads.Asked, view-at-reads.Learnt, nothing-reads.Asked, nothing-reads.Learnt, lookup-reads.Asked, lookup-reads.Learnt, first-found-below t, first-found.Post, sampled-reads.Asked, sampled-reads.Learnt, is-free-reads.Asked, is-free-reads.Learnt)
@@ -84,62 +92,61 @@ found-at-uses t = (view-at-reads.Asked, view-at-reads.Learnt, nothing-reads.Aske
 abbrev operand-clock-uses : ℕ → operand-clock-lts.Claims
 operand-clock-uses t = (found-at-below t, found-at.Post, above-reads.Asked, above-reads.Learnt)
 
-first-found-nothing-requires : (t : ℕ) → first-found-lts.Need-nothing-requires (first-found-uses t) (first-found-at t) first-found.Post
-first-found-nothing-requires t c κs = search needs
+abbrev first-found-Inv-loop : first-found-lts.InvT-loop
+first-found-Inv-loop tags values names env up count at left₀ from₀ between₀ left from between = (at ≤ from) × ((es : Exprs) (q : ℕ) (clocks : Clocks) → spread names between₀ count (tree names) (tokens tags values) at ≡ got es q → Agrees env names clocks → Remains names (tokens tags values) clocks up between left from q (firstOf clocks up es))
 
-first-found-returns : (t : ℕ) → first-found-lts.Need-returns (first-found-uses t) (first-found-at t) first-found.Post
-first-found-returns t c = λ es q clocks g a. let i = spread-nil _ _ _ _ _ _ es q (c .before .if1 .taken) g in none-found clocks _ es q _ _ (i .0) (i .1) (c .nothing .ensures)
+abbrev first-found-μ-loop : first-found-lts.MeasureT-loop
+first-found-μ-loop tags values names env up count at left₀ from₀ between₀ left from between = left
 
-first-found-operand-at-requires : (t : ℕ) → first-found-lts.Need-operand-at-requires (first-found-uses t) (first-found-at t) first-found.Post
+first-found-loop-holds : (t : ℕ) → first-found-lts.Need-loop-holds (first-found-uses t) (first-found-at t) first-found.Post first-found-Inv-loop first-found-μ-loop
+first-found-loop-holds t c = (omega arith, λ es q clocks g a. remains-all _ _ clocks _ _ _ _ q es g)
+
+first-found-operand-at-requires : (t : ℕ) → first-found-lts.Need-operand-at-requires (first-found-uses t) (first-found-at t) first-found.Post first-found-Inv-loop first-found-μ-loop
 first-found-operand-at-requires t c κs = search needs
 
-first-found-free-leaf-requires : (t : ℕ) → first-found-lts.Need-free-leaf-requires (first-found-uses t) (first-found-at t) first-found.Post
+first-found-free-leaf-requires : (t : ℕ) → first-found-lts.Need-free-leaf-requires (first-found-uses t) (first-found-at t) first-found.Post first-found-Inv-loop first-found-μ-loop
 first-found-free-leaf-requires t c κs = search needs
 
-first-found-after-operand-requires : (t : ℕ) → first-found-lts.Need-after-operand-requires (first-found-uses t) (first-found-at t) first-found.Post
-first-found-after-operand-requires t c κs = search needs
+first-found-operand-clock-requires : (t : ℕ) → first-found-lts.Need-operand-clock-requires (first-found-uses t) (first-found-at t) first-found.Post first-found-Inv-loop first-found-μ-loop
+first-found-operand-clock-requires t c κs = let l = at-or-past _ (c .before .before .before .before .loop .between) (c .before .before .before .before .loop .from) _ (c .before .before .operand-at .ensures) in (omega (arith, l, c .before .before .before .before .loop .inv .0, c .before .before .before .before .before .before .before .before .pre .0), c .before .before .before .before .before .before .before .before .pre .1)
 
-first-found-nothing-requires-2 : (t : ℕ) → first-found-lts.Need-nothing-requires-2 (first-found-uses t) (first-found-at t) first-found.Post
-first-found-nothing-requires-2 t c κs = search needs
-
-first-found-returns-2 : (t : ℕ) → first-found-lts.Need-returns-2 (first-found-uses t) (first-found-at t) first-found.Post
-first-found-returns-2 t c = λ es q clocks g a. absurd (omega (arith, leaf-past _ (now (c .before .before .before .before .before .before .before .before .before .before .args .tags)) (now (c .before .before .before .before .before .before .before .before .before .before .args .values)) (now (c .before .before .before .before .before .before .before .before .before .before .args .env)) (c .before .before .before .before .before .before .before .before .before .before .pre .1) (c .before .before .before .before .before .before .before .before .before .before .args .up) (c .before .before .before .before .before .before .before .before .before .before .args .gap) (c .before .before .before .before .before .before .before .before .before .before .args .count) (c .before .before .before .before .before .before .before .before .before .before .args .at) (c .before .before .before .before .before .operand-at .result) (c .before .before .before .before .before .before .if1 .left) (c .before .before .before .before .before .operand-at .ensures) _ (c .before .before .before .if2 .taken) (c .before .before .before .before .free-leaf .ensures) es q clocks g a _ (c .before .before .after-operand .ensures .0), c .before .if3 .taken))
-
-first-found-sub-first-found : (t : ℕ) → first-found-lts.Need-sub-first-found (first-found-uses t) (first-found-at t) first-found.Post
-first-found-sub-first-found t c = search needs
-
-first-found-first-found-requires : (t : ℕ) → first-found-lts.Need-first-found-requires (first-found-uses t) (first-found-at t) first-found.Post
-first-found-first-found-requires t c κs = search needs
-
-first-found-returns-3 : (t : ℕ) → first-found-lts.Need-returns-3 (first-found-uses t) (first-found-at t) first-found.Post
-first-found-returns-3 t c = λ es q clocks g a. leaf-rest _ (now (c .before .before .before .before .before .before .before .before .before .before .args .tags)) (now (c .before .before .before .before .before .before .before .before .before .before .args .values)) (now (c .before .before .before .before .before .before .before .before .before .before .args .env)) (c .before .before .before .before .before .before .before .before .before .before .pre .1) (c .before .before .before .before .before .before .before .before .before .before .args .up) (c .before .before .before .before .before .before .before .before .before .before .args .gap) (c .before .before .before .before .before .before .before .before .before .before .args .count) (c .before .before .before .before .before .before .before .before .before .before .args .at) (c .before .before .before .before .before .operand-at .result) (c .before .before .before .before .before .before .if1 .left) (c .before .before .before .before .before .operand-at .ensures) _ (c .before .before .before .if2 .taken) (c .before .before .before .before .free-leaf .ensures) es q clocks g a _ (c .before .before .after-operand .ensures .0) _ _ (c .before .before .after-operand .ensures .1) (c .first-found .ensures)
-
-first-found-operand-clock-requires : (t : ℕ) → first-found-lts.Need-operand-clock-requires (first-found-uses t) (first-found-at t) first-found.Post
-first-found-operand-clock-requires t c κs = let l = at-or-past (length (now (c .before .before .before .before .before .before .before .args .tags))) (c .before .before .before .before .before .before .before .args .gap) (c .before .before .before .before .before .before .before .args .at) (c .before .before .operand-at .result) (c .before .before .operand-at .ensures) in (omega arith, c .before .before .before .before .before .before .before .pre .1)
-
-first-found-is-free-requires : (t : ℕ) → first-found-lts.Need-is-free-requires (first-found-uses t) (first-found-at t) first-found.Post
+first-found-is-free-requires : (t : ℕ) → first-found-lts.Need-is-free-requires (first-found-uses t) (first-found-at t) first-found.Post first-found-Inv-loop first-found-μ-loop
 first-found-is-free-requires t c κs = search needs
 
-first-found-after-operand-requires-2 : (t : ℕ) → first-found-lts.Need-after-operand-requires-2 (first-found-uses t) (first-found-at t) first-found.Post
-first-found-after-operand-requires-2 t c κs = search needs
+first-found-returns : (t : ℕ) → first-found-lts.Need-returns (first-found-uses t) (first-found-at t) first-found.Post first-found-Inv-loop first-found-μ-loop
+first-found-returns t c = let s = c .before .before .before .before .before .before .before .before .before .before .before .before in let l = c .before .before .before .before .before .before .before .before .loop in λ es q clocks g a. remains-here (s .args .names) (now (s .args .tags)) (now (s .args .values)) (now (s .args .env)) (s .pre .1) (s .args .up) (l .between) (l .left) (l .from) _ (c .before .before .before .before .before .before .operand-at .ensures) (λ z. omega (arith, z, c .before .before .before .before .before .before .before .loop-test .taken)) q clocks a _ (l .inv .1 es q clocks g a) _ (sym (c .before .is-free .ensures) ∙ c .if2 .left) (c .before .before .before .operand-clock .ensures)
 
-first-found-nothing-requires-3 : (t : ℕ) → first-found-lts.Need-nothing-requires-3 (first-found-uses t) (first-found-at t) first-found.Post
-first-found-nothing-requires-3 t c κs = search needs
+-- whichever way it came, the operand has no clock and ends there
+first-found-passed : (t : ℕ) (c : first-found-lts.Joined1 (first-found-uses t) (first-found-at t) first-found.Post first-found-Inv-loop first-found-μ-loop) →
+    Passed (c .before .before .before .before .before .before .before .before .args .names) (tokens (now (c .before .before .before .before .before .before .before .before .args .tags)) (now (c .before .before .before .before .before .before .before .before .args .values))) (now (c .before .before .before .before .before .before .before .before .args .env)) (c .before .before .before .before .before .before .before .before .args .up) (c .before .before .operand-at .result) (c .if1 .end)
+first-found-passed t c = ⊎-elim
+    (λ w. rw (w .5) (passed-walk _ _ _ _ _ _ (sym (w .3 .ensures) ∙ w .4 .taken) (w .1 .ensures)))
+    (λ w. rw (w .1) (passed-leaf _ _ _ _ _ _ (w .0 .left) (c .before .free-leaf .ensures)))
+    (c .if1 .came)
 
-first-found-returns-4 : (t : ℕ) → first-found-lts.Need-returns-4 (first-found-uses t) (first-found-at t) first-found.Post
-first-found-returns-4 t c = λ es q clocks g a. absurd (omega (arith, walk-past _ (now (c .before .before .before .before .before .before .before .before .before .before .before .before .before .before .args .tags)) (now (c .before .before .before .before .before .before .before .before .before .before .before .before .before .before .args .values)) (now (c .before .before .before .before .before .before .before .before .before .before .before .before .before .before .args .env)) (c .before .before .before .before .before .before .before .before .before .before .before .before .before .before .pre .1) (c .before .before .before .before .before .before .before .before .before .before .before .before .before .before .args .up) (c .before .before .before .before .before .before .before .before .before .before .before .before .before .before .args .gap) (c .before .before .before .before .before .before .before .before .before .before .before .before .before .before .args .count) (c .before .before .before .before .before .before .before .before .before .before .before .before .before .before .args .at) (c .before .before .before .before .before .before .before .before .before .operand-at .result) (c .before .before .before .before .before .before .before .before .before .before .if1 .left) (c .before .before .before .before .before .before .before .before .before .operand-at .ensures) _ (c .before .before .before .before .before .before .operand-clock .ensures) es q clocks g a (sym (c .before .before .before .before .is-free .ensures) ∙ c .before .before .before .if4 .taken) _ (c .before .before .after-operand2 .ensures .0), c .before .if5 .taken))
+first-found-after-operand-requires : (t : ℕ) → first-found-lts.Need-after-operand-requires (first-found-uses t) (first-found-at t) first-found.Post first-found-Inv-loop first-found-μ-loop
+first-found-after-operand-requires t c κs = search needs
 
-first-found-sub-first-found-2 : (t : ℕ) → first-found-lts.Need-sub-first-found-2 (first-found-uses t) (first-found-at t) first-found.Post
-first-found-sub-first-found-2 t c = search needs
+first-found-nothing-requires : (t : ℕ) → first-found-lts.Need-nothing-requires (first-found-uses t) (first-found-at t) first-found.Post first-found-Inv-loop first-found-μ-loop
+first-found-nothing-requires t c κs = search needs
 
-first-found-first-found-requires-2 : (t : ℕ) → first-found-lts.Need-first-found-requires-2 (first-found-uses t) (first-found-at t) first-found.Post
-first-found-first-found-requires-2 t c κs = search needs
+first-found-returns-2 : (t : ℕ) → first-found-lts.Need-returns-2 (first-found-uses t) (first-found-at t) first-found.Post first-found-Inv-loop first-found-μ-loop
+first-found-returns-2 t c = let s = c .before .before .before .before .before .before .before .before .before .before .before in let l = c .before .before .before .before .before .before .before .loop in λ es q clocks g a. absurd (omega (arith, remains-past (s .args .names) (now (s .args .tags)) (now (s .args .values)) (now (s .args .env)) (s .pre .1) (s .args .up) (l .between) (l .left) (l .from) _ (c .before .before .before .before .before .operand-at .ensures) (λ z. omega (arith, z, c .before .before .before .before .before .before .loop-test .taken)) q clocks a _ (l .inv .1 es q clocks g a) _ (first-found-passed t (c .before .before .before)) _ (c .before .before .after-operand .ensures .0), c .before .if3 .taken))
 
-first-found-returns-5 : (t : ℕ) → first-found-lts.Need-returns-5 (first-found-uses t) (first-found-at t) first-found.Post
-first-found-returns-5 t c = λ es q clocks g a. walk-rest _ (now (c .before .before .before .before .before .before .before .before .before .before .before .before .before .before .args .tags)) (now (c .before .before .before .before .before .before .before .before .before .before .before .before .before .before .args .values)) (now (c .before .before .before .before .before .before .before .before .before .before .before .before .before .before .args .env)) (c .before .before .before .before .before .before .before .before .before .before .before .before .before .before .pre .1) (c .before .before .before .before .before .before .before .before .before .before .before .before .before .before .args .up) (c .before .before .before .before .before .before .before .before .before .before .before .before .before .before .args .gap) (c .before .before .before .before .before .before .before .before .before .before .before .before .before .before .args .count) (c .before .before .before .before .before .before .before .before .before .before .before .before .before .before .args .at) (c .before .before .before .before .before .before .before .before .before .operand-at .result) (c .before .before .before .before .before .before .before .before .before .before .if1 .left) (c .before .before .before .before .before .before .before .before .before .operand-at .ensures) _ (c .before .before .before .before .before .before .operand-clock .ensures) es q clocks g a (sym (c .before .before .before .before .is-free .ensures) ∙ c .before .before .before .if4 .taken) _ (c .before .before .after-operand2 .ensures .0) _ _ (c .before .before .after-operand2 .ensures .1) (c .first-found2 .ensures)
+first-found-sub-left : (t : ℕ) → first-found-lts.Need-sub-left (first-found-uses t) (first-found-at t) first-found.Post first-found-Inv-loop first-found-μ-loop
+first-found-sub-left t c = search needs
 
-first-found-returns-6 : (t : ℕ) → first-found-lts.Need-returns-6 (first-found-uses t) (first-found-at t) first-found.Post
-first-found-returns-6 t c = λ es q clocks g a. walk-here _ (now (c .before .before .before .before .before .before .before .before .before .before .before .args .tags)) (now (c .before .before .before .before .before .before .before .before .before .before .before .args .values)) (now (c .before .before .before .before .before .before .before .before .before .before .before .args .env)) (c .before .before .before .before .before .before .before .before .before .before .before .pre .1) (c .before .before .before .before .before .before .before .before .before .before .before .args .up) (c .before .before .before .before .before .before .before .before .before .before .before .args .gap) (c .before .before .before .before .before .before .before .before .before .before .before .args .count) (c .before .before .before .before .before .before .before .before .before .before .before .args .at) (c .before .before .before .before .before .before .operand-at .result) (c .before .before .before .before .before .before .before .if1 .left) (c .before .before .before .before .before .before .operand-at .ensures) _ (c .before .before .before .operand-clock .ensures) es q clocks g a (sym (c .before .is-free .ensures) ∙ c .if4 .left)
+first-found-loop-less : (t : ℕ) → first-found-lts.Need-loop-less (first-found-uses t) (first-found-at t) first-found.Post first-found-Inv-loop first-found-μ-loop
+first-found-loop-less t c = search needs
+
+first-found-loop-again : (t : ℕ) → first-found-lts.Need-loop-again (first-found-uses t) (first-found-at t) first-found.Post first-found-Inv-loop first-found-μ-loop
+first-found-loop-again t c = let s = c .before .before .before .before .before .before .before .before .before .before in let l = c .before .before .before .before .before .before .loop in (omega (arith, l .inv .0, c .if3 .left), λ es q clocks g a. remains-rest (s .args .names) (now (s .args .tags)) (now (s .args .values)) (now (s .args .env)) (s .pre .1) (s .args .up) (l .between) (l .left) (l .from) _ (c .before .before .before .before .operand-at .ensures) (λ z. omega (arith, z, c .before .before .before .before .before .loop-test .taken)) q clocks a _ (l .inv .1 es q clocks g a) _ (first-found-passed t (c .before .before)) _ (c .before .after-operand .ensures .0) _ (c .before .after-operand .ensures .1))
+
+first-found-nothing-requires-2 : (t : ℕ) → first-found-lts.Need-nothing-requires-2 (first-found-uses t) (first-found-at t) first-found.Post first-found-Inv-loop first-found-μ-loop
+first-found-nothing-requires-2 t c κs = search needs
+
+first-found-returns-3 : (t : ℕ) → first-found-lts.Need-returns-3 (first-found-uses t) (first-found-at t) first-found.Post first-found-Inv-loop first-found-μ-loop
+first-found-returns-3 t c = λ es q clocks g a. remains-none _ _ clocks _ _ _ _ q _ (c .before .before .loop .inv .1 es q clocks g a) (omega (arith, c .before .loop-test .left)) _ (c .nothing2 .ensures)
 
 found-at-view-at-requires : (t : ℕ) → found-at-lts.Need-view-at-requires (found-at-uses t) (found-at-at t) found-at.Post
 found-at-view-at-requires t c κs = search needs
@@ -149,6 +156,10 @@ found-at-nothing-requires t c κs = search needs
 
 found-at-returns : (t : ℕ) → found-at-lts.Need-returns (found-at-uses t) (found-at-at t) found-at.Post
 found-at-returns t c = λ e q clocks g a. absurd (omega (arith, c .before .before .view-at .ensures .past e q g, c .before .if1 .taken))
+
+-- where operands begin behind it, the place is among the tokens
+found-at-inside : (t : ℕ) (c : found-at-lts.Else1 (found-at-uses t) (found-at-at t) found-at.Post) → c .before .before .before .before .before .args .at < length (now (c .before .before .before .before .before .args .tags))
+found-at-inside t c = left-there _ _ _ (c .before .before .before .before .before .pre .1) _ _ (c .before .view-at .ensures) (c .if1 .left)
 
 found-at-enum-known-role : (t : ℕ) → found-at-lts.Need-enum-known-role (found-at-uses t) (found-at-at t) found-at.Post
 found-at-enum-known-role t c = search needs
@@ -160,7 +171,7 @@ found-at-enum-known-role-2 : (t : ℕ) → found-at-lts.Need-enum-known-role-2 (
 found-at-enum-known-role-2 t c = search needs
 
 found-at-first-found-requires : (t : ℕ) → found-at-lts.Need-first-found-requires (found-at-uses t) (found-at-at t) found-at.Post
-found-at-first-found-requires t c κs = search needs
+found-at-first-found-requires t c κs = let i = found-at-inside t (c .before .before .before) in (omega (arith, c .before .before .before .if1 .left), c .before .before .before .before .before .before .before .before .pre .1)
 
 found-at-sampled-requires : (t : ℕ) → found-at-lts.Need-sampled-requires (found-at-uses t) (found-at-at t) found-at.Post
 found-at-sampled-requires t c κs = search needs
@@ -175,13 +186,13 @@ found-at-is-free-requires : (t : ℕ) → found-at-lts.Need-is-free-requires (fo
 found-at-is-free-requires t c κs = search needs
 
 found-at-first-found-requires-2 : (t : ℕ) → found-at-lts.Need-first-found-requires-2 (found-at-uses t) (found-at-at t) found-at.Post
-found-at-first-found-requires-2 t c κs = search needs
+found-at-first-found-requires-2 t c κs = let i = found-at-inside t (c .before .before .before .before .before .before) in (omega (arith, c .before .before .before .before .before .before .if1 .left), c .before .before .before .before .before .before .before .before .before .before .before .pre .1)
 
 found-at-returns-2 : (t : ℕ) → found-at-lts.Need-returns-2 (found-at-uses t) (found-at-at t) found-at.Post
 found-at-returns-2 t c = λ e q clocks g a. let i = arm e _ _ (c .before .before .before .before .before .before .before .before .view-at .ensures .role e q g) (c .before .before .before .before .before .role3 .given .1) in let l = arm-low _ _ _ e q _ _ g (c .before .before .before .before .before .before .before .before .view-at .ensures .role e q g) (c .before .before .before .before .before .role3 .given .1) in join-branches _ _ clocks a e q _ (i .0) (i .1) _ _ (i .2) l (c .before .before .before .lookup2 .ensures) (sym (c .before .before .is-free .ensures) ∙ c .before .if2 .taken) (c .first-found2 .ensures _ q clocks (c .before .before .before .before .before .before .before .before .view-at .ensures .operands e q g) a)
 
 found-at-first-found-requires-3 : (t : ℕ) → found-at-lts.Need-first-found-requires-3 (found-at-uses t) (found-at-at t) found-at.Post
-found-at-first-found-requires-3 t c κs = search needs
+found-at-first-found-requires-3 t c κs = let i = found-at-inside t (c .before) in (omega (arith, c .before .if1 .left), c .before .before .before .before .before .before .pre .1)
 
 found-at-returns-3 : (t : ℕ) → found-at-lts.Need-returns-3 (found-at-uses t) (found-at-at t) found-at.Post
 found-at-returns-3 t c = λ e q clocks g a. let i = arm e _ _ (c .before .before .before .before .before .view-at .ensures .role e q g) (c .before .before .role .given .1) in let l = arm-low _ _ _ e q _ _ g (c .before .before .before .before .before .view-at .ensures .role e q g) (c .before .before .role .given .1) in name-arm _ _ clocks a e q _ _ _ i l (c .lookup .ensures) (spread-end _ _ _ _ _ _ q (var-ends e _ i) (c .before .before .before .before .before .view-at .ensures .operands e q g)) refl
@@ -212,25 +223,22 @@ pub +first-found+found-at+operand-clock-spec : {M : Type 1} → statement M
     close μ-first-found μ-found-at μ-operand-clock (λ t. first-found-lts.spec (first-found-uses t)
     (first-found-at t)
     first-found.Post
-    (first-found-nothing-requires t)
-    (first-found-returns t)
+    first-found-Inv-loop
+    first-found-μ-loop
+    (first-found-loop-holds t)
     (first-found-operand-at-requires t)
     (first-found-free-leaf-requires t)
-    (first-found-after-operand-requires t)
-    (first-found-nothing-requires-2 t)
-    (first-found-returns-2 t)
-    (first-found-sub-first-found t)
-    (first-found-first-found-requires t)
-    (first-found-returns-3 t)
     (first-found-operand-clock-requires t)
     (first-found-is-free-requires t)
-    (first-found-after-operand-requires-2 t)
-    (first-found-nothing-requires-3 t)
-    (first-found-returns-4 t)
-    (first-found-sub-first-found-2 t)
-    (first-found-first-found-requires-2 t)
-    (first-found-returns-5 t)
-    (first-found-returns-6 t))
+    (first-found-returns t)
+    (first-found-after-operand-requires t)
+    (first-found-nothing-requires t)
+    (first-found-returns-2 t)
+    (first-found-sub-left t)
+    (first-found-loop-less t)
+    (first-found-loop-again t)
+    (first-found-nothing-requires-2 t)
+    (first-found-returns-3 t))
     (λ t. found-at-lts.spec (found-at-uses t)
     (found-at-at t)
     found-at.Post

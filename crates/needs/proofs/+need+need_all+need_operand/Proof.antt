@@ -4,7 +4,7 @@ use mathlib.Core.Path.{_≡_, refl, _∙_}
 use mathlib.Core.List.{List}
 use mathlib.Core.Bool.{true}
 use native.Mathlib.Omega.{arith}
-use Prim.Native.Nat.{_-_, _*_, _^_, _+_, _≤_}
+use Prim.Native.Nat.{_-_, _*_, _+_, _≤_}
 use lib.ListN.{length}
 use denote.Ref.{now}
 use Rattle.definitions.specs.Bytes.{tokens}
@@ -13,8 +13,9 @@ use Rattle.definitions.specs.Reading.{got}
 use Rattle.clock.specs.Value.{valueOf}
 use Rattle.operands.specs.Role.{operandsOf}
 use Rattle.operands.specs.Spread.{tree, spread}
-use Rattle.natural.proofs.Laws.{at-or-past}
-use Rattle.callees.specs.Callees.{Standing}
+use Rattle.operands.proofs.Laws.{left-there}
+use Rattle.operands.proofs.Apart.{at-or-past}
+use Rattle.callees.specs.Callees.{NodesStand}
 use Rattle.needs.specs.Need.{Needs, withins, neededAll, Counted}
 use Rattle.needs.proofs.Laws.{parts-within, parts-counted, pre-operand, not-past, leaf-counted, Remains, remains-all, remains-none, remains-past, remains-rest}
 use borrow.Author.Needs.{needs}
@@ -42,13 +43,13 @@ use Rattle.needs.proofs.+need+need_all+need_operand.{statement}
 use Rattle.needs.proofs.+need+need_all+need_operand.Tie.{close}
 
 abbrev μ-need : Measures 5 need-kinds.ps ℕ
-μ-need κs a = 3 * (2 ^ 64 - a .1 .1 .1 .1 .1 .1 .1 .1 .1 .0)
+μ-need κs a = 3 * (length (a .0 .now) - a .1 .1 .1 .1 .1 .1 .1 .1 .1 .0)
 
 abbrev μ-need-all : Measures 5 need-all-kinds.ps ℕ
-μ-need-all κs a = 3 * (2 ^ 64 - a .1 .1 .1 .1 .1 .1 .1 .1 .1 .1 .1 .1 .0) + 2
+μ-need-all κs a = 3 * (length (a .0 .now) - a .1 .1 .1 .1 .1 .1 .1 .1 .1 .1 .1 .1 .0) + 2
 
 abbrev μ-need-operand : Measures 5 need-operand-kinds.ps ℕ
-μ-need-operand κs a = 3 * (2 ^ 64 - a .1 .1 .1 .1 .1 .1 .1 .1 .1 .0) + 1
+μ-need-operand κs a = 3 * (length (a .0 .now) - a .1 .1 .1 .1 .1 .1 .1 .1 .1 .0) + 1
 
 abbrev need-at : ℕ → In 5 need-kinds.ps
 need-at t = and 5 need-kinds.ps (is 5 need-kinds.ps μ-need t) need.Pre
@@ -103,7 +104,7 @@ need-turn-of-requires : (t : ℕ) → need-lts.Need-turn-of-requires (need-uses 
 need-turn-of-requires t c κs = search needs
 
 need-need-all-requires : (t : ℕ) → need-lts.Need-need-all-requires (need-uses t) (need-at t) need.Post
-need-need-all-requires t c κs = search needs
+need-need-all-requires t c κs = let s = c .before .before .before .before .before .before .before .before .before .before .before .before in (omega (arith, s .pre .0, left-there _ _ _ (s .pre .1 .0) _ _ (c .before .before .before .before .before .before .before .view-at .ensures) (c .before .before .before .before .before .before .if1 .left), c .before .before .before .before .before .before .if1 .left), s .pre .1)
 
 need-settle-requires : (t : ℕ) → need-lts.Need-settle-requires (need-uses t) (need-at t) need.Post
 need-settle-requires t c κs = search needs
@@ -118,7 +119,7 @@ need-returns-2 : (t : ℕ) → need-lts.Need-returns-2 (need-uses t) (need-at t)
 need-returns-2 t c = (c .before .before .before .before .settle .ensures .0 ∙ c .before .before .before .before .before .before .before .before .before .before .before .before .need-all .ensures .0, (c .before .before .before .before .settle .ensures .1 .0 ∙ c .before .before .before .before .before .before .before .before .before .before .before .before .need-all .ensures .1 .0, λ e q l y g w s k. let i = c .before .before .before .before .before .before .before .before .before .before .before .before .before .before .before .before .before .before .before .before .view-at .ensures .role e q g in let o = c .before .before .before .before .before .before .before .before .before .before .before .before .before .before .before .before .before .before .before .before .view-at .ensures .operands e q g in let h = parts-within l _ _ _ _ e i w (c .before .before .before .before .before .before .before .before .before .before .before .before .before .before .before .before .before .before .here-on .ensures) (c .before .before .before .before .before .before .before .before .before .before .before .before .before .before .before .before .before .rest-on .ensures) in let d = c .before .before .before .before .before .before .before .before .before .before .before .before .need-all .ensures .1 .1 (operandsOf e) q l y o h s k in let t = c .before .before .before .before .before .before .before .before .before .before .before .before .before .before .before .turn-of .ensures e l i s (λ a j. pre-operand (c .before .before .before .before .before .before .before .before .before .before .before .before .before .before .before .before .before .before .before .before .before .before .before .before .before .args .names) (now (c .before .before .before .before .before .before .before .before .before .before .before .before .before .before .before .before .before .before .before .before .before .before .before .before .before .args .tags)) (now (c .before .before .before .before .before .before .before .before .before .before .before .before .before .before .before .before .before .before .before .before .before .before .before .before .before .args .values)) (c .before .before .before .before .before .before .before .before .before .before .before .before .before .before .before .before .before .before .before .before .before .before .before .before .before .pre .1 .0) _ _ _ _ (c .before .before .before .before .before .before .before .before .before .before .before .before .before .before .before .before .operand-at .ensures) e q o a j) in (parts-counted l _ _ _ _ e i w (c .before .before .before .before .before .before .before .before .before .before .before .before .before .before .before .before .before .before .here-on .ensures) (c .before .before .before .before .before .before .before .before .before .before .before .before .before .before .before .before .before .rest-on .ensures) _ y _ _ _ t (c .before .before .before .before .settle .ensures .1 .1 _ (d .0)), d .1)))
 
 abbrev need-all-Inv-loop : need-all-lts.InvT-loop
-need-all-Inv-loop tags values names places nodes flags₀ firsts₀ rest count at left₀ from₀ between₀ on₀ counts₀ flags firsts left from between on counts = (at ≤ from) × (length flags ≡ length flags₀) × (length firsts ≡ length firsts₀) × ((es : Exprs) (q : ℕ) (l : List Node) (y : Needs) → spread names between₀ count (tree names) (tokens tags values) at ≡ got es q → withins (valueOf on₀) (valueOf rest) es ≡ true → Standing names tags values places nodes l → Counted flags₀ firsts₀ counts₀ y → Remains names (tokens tags values) l (valueOf on) (valueOf rest) between left from flags firsts counts q (neededAll l (valueOf on₀) (valueOf rest) es y))
+need-all-Inv-loop tags values names places nodes flags₀ firsts₀ rest count at left₀ from₀ between₀ on₀ counts₀ flags firsts left from between on counts = (at ≤ from) × (length flags ≡ length flags₀) × (length firsts ≡ length firsts₀) × ((es : Exprs) (q : ℕ) (l : List Node) (y : Needs) → spread names between₀ count (tree names) (tokens tags values) at ≡ got es q → withins (valueOf on₀) (valueOf rest) es ≡ true → NodesStand names tags values places nodes l → Counted flags₀ firsts₀ counts₀ y → Remains names (tokens tags values) l (valueOf on) (valueOf rest) between left from flags firsts counts q (neededAll l (valueOf on₀) (valueOf rest) es y))
 
 abbrev need-all-μ-loop : need-all-lts.MeasureT-loop
 need-all-μ-loop tags values names places nodes flags₀ firsts₀ rest count at left₀ from₀ between₀ on₀ counts₀ flags firsts left from between on counts = left
@@ -166,7 +167,7 @@ need-operand-leaf-end-requires : (t : ℕ) → need-operand-lts.Need-leaf-end-re
 need-operand-leaf-end-requires t c κs = search needs
 
 need-operand-returns : (t : ℕ) → need-operand-lts.Need-returns (need-operand-uses t) (need-operand-at t) need-operand.Post
-need-operand-returns t c = (refl, (refl, λ e q l y g w n k. let a = c .before .leaf-end .ensures _ e q g (c .if1 .taken) in (leaf-counted l _ e _ _ _ y (a .0) k, a .1)))
+need-operand-returns t c = (refl, (refl, λ e q l y g w n k. let a = c .before .leaf-end .ensures .0 _ e q g (c .if1 .taken) in (leaf-counted l _ e _ _ _ y (a .0) k, a .1)))
 
 need-operand-need-requires : (t : ℕ) → need-operand-lts.Need-need-requires (need-operand-uses t) (need-operand-at t) need-operand.Post
 need-operand-need-requires t c κs = search needs

@@ -8,7 +8,7 @@ use lib.ListN.{length}
 use Rattle.definitions.specs.Lists.{Letters, decimal}
 use Rattle.definitions.specs.Output.{addName, addNames, stemLetters}
 use Rattle.spelling.specs.Stems.{stemOf}
-use Rattle.fresh.specs.Table.{Sound, Holds}
+use Rattle.fresh.specs.Table.{Sound, NamesHeld}
 use Rattle.new_names.specs.Names.{numberedName, countedNames}
 use Rattle.new_names.proofs.Added.{still-sound, adding-more, adding-end}
 use borrow.Author.Needs.{needs}
@@ -17,7 +17,7 @@ use Rattle.new_names.proofs.add_counted.Tie as tie
 
 abbrev Inv-loop : tie.InvT-loop
 Inv-loop lengths₀ text₀ stem numbers n table₀ j₀ lengths text table j =
-    (j ≤ n) × Sound lengths text table × (length lengths ≡ length lengths₀) × (length text ≡ length text₀) × ((all : List Letters) → Holds lengths₀ text₀ table₀ all → Holds lengths text table (addNames all (countedNames (stemOf stem) numbers j)))
+    (j ≤ n) × Sound lengths text table × (length lengths ≡ length lengths₀) × (length text ≡ length text₀) × ((all : List Letters) → NamesHeld lengths₀ text₀ table₀ all → NamesHeld lengths text table (addNames all (countedNames (stemOf stem) numbers j)))
 
 abbrev μ-loop : tie.MeasureT-loop
 μ-loop lengths₀ text₀ stem numbers n table₀ j₀ lengths text table j =

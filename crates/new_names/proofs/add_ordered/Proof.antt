@@ -8,7 +8,7 @@ use lib.ListN.{length, getD}
 use Rattle.definitions.specs.Lists.{Letters, decimal}
 use Rattle.definitions.specs.Output.{addName, addNames, stemLetters}
 use Rattle.spelling.specs.Stems.{stemOf}
-use Rattle.fresh.specs.Table.{Sound, Holds}
+use Rattle.fresh.specs.Table.{Sound, NamesHeld}
 use Rattle.new_names.specs.Names.{numberedName, orderedNames}
 use Rattle.new_names.proofs.Added.{still-sound, ordered-name, adding-more, adding-end}
 use borrow.Author.Needs.{needs}
@@ -17,7 +17,7 @@ use Rattle.new_names.proofs.add_ordered.Tie as tie
 
 abbrev Inv-loop : tie.InvT-loop
 Inv-loop lengths₀ text₀ stem numbers order n table₀ i₀ lengths text table i =
-    (i ≤ n) × Sound lengths text table × (length lengths ≡ length lengths₀) × (length text ≡ length text₀) × ((all : List Letters) → Holds lengths₀ text₀ table₀ all → Holds lengths text table (addNames all (orderedNames (stemOf stem) numbers order i)))
+    (i ≤ n) × Sound lengths text table × (length lengths ≡ length lengths₀) × (length text ≡ length text₀) × ((all : List Letters) → NamesHeld lengths₀ text₀ table₀ all → NamesHeld lengths text table (addNames all (orderedNames (stemOf stem) numbers order i)))
 
 abbrev μ-loop : tie.MeasureT-loop
 μ-loop lengths₀ text₀ stem numbers order n table₀ i₀ lengths text table i =

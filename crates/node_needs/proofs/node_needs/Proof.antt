@@ -12,7 +12,7 @@ use Rattle.definitions.specs.Reading.{got, times}
 use Rattle.definitions.specs.Grammar.{equation}
 use Rattle.definitions.specs.InferClocks.{Clocks, Clocked, formed, clockedBy}
 use Rattle.environment.specs.Environment.{Agrees}
-use Rattle.callees.specs.Callees.{Standing}
+use Rattle.callees.specs.Callees.{NodesStand}
 use Rattle.stateless.specs.Whole.{noNeeds, oldNeeds}
 use Rattle.stateless.specs.Sheets.{withinAll}
 use Rattle.node_needs.proofs.Laws.{Needing, needing-start, needing-step, needing-end}
@@ -22,7 +22,7 @@ use Rattle.node_needs.proofs.node_needs.Tie as tie
 
 abbrev Inv-loop : tie.InvT-loop
 Inv-loop tags values names places nodes env condact flags₀ firsts₀ left₀ place₀ s₀ flags firsts left place s =
-    (length flags ≡ length flags₀) × (length firsts ≡ length firsts₀) × ((node : Node) (es : List Equation) (q : ℕ) (clocks : Clocks) (cs : List Clocked) (types : List TypeDef) (ns : List Node) → times left₀ (equation names) (tokens tags values) place₀ ≡ got es q → Agrees env names clocks → clockedBy clocks es ≡ formed cs → withinAll cs ≡ true → Standing names tags values places nodes ns → Needing names (tokens tags values) clocks types ns node condact flags firsts s left place q (oldNeeds types ns node condact cs noNeeds))
+    (length flags ≡ length flags₀) × (length firsts ≡ length firsts₀) × ((node : Node) (es : List Equation) (q : ℕ) (clocks : Clocks) (cs : List Clocked) (types : List TypeDef) (ns : List Node) → times left₀ (equation names) (tokens tags values) place₀ ≡ got es q → Agrees env names clocks → clockedBy clocks es ≡ formed cs → withinAll cs ≡ true → NodesStand names tags values places nodes ns → Needing names (tokens tags values) clocks types ns node condact flags firsts s left place q (oldNeeds types ns node condact cs noNeeds))
 
 abbrev μ-loop : tie.MeasureT-loop
 μ-loop tags values names places nodes env condact flags₀ firsts₀ left₀ place₀ s₀ flags firsts left place s =

@@ -1,8 +1,10 @@
 -- `openings::put_type_at` meets its contract: the first token is written, and an element's tokens follow an array's.
 -- Assumes nothing.
-use Prim.Native.Nat.{_-_, _^_}
+use native.Mathlib.Omega.{arith}
+use Prim.Native.Nat.{_-_}
+use lib.ListN.{length}
 use Rattle.typedefs.proofs.Laws.{type-not-refused, type-is-basic, type-is-named, type-is-array}
-use Rattle.openings.proofs.Laws.{wrote-basic, wrote-named, wrote-array, array-past}
+use Rattle.openings.proofs.Laws.{wrote-basic, wrote-named, wrote-array, array-past, type-there}
 use borrow.Author.Needs.{needs}
 use Prim.Native.Nat.{ℕ, _<_}
 use borrow.Fn.Kinds.{In}
@@ -16,7 +18,7 @@ use Rattle.openings.proofs.+put_type_at.{statement}
 use Rattle.openings.proofs.+put_type_at.Tie.{close}
 
 abbrev μ-put-type-at : Measures 4 put-type-at-kinds.ps ℕ
-μ-put-type-at κs a = 2 ^ 64 - a .1 .1 .1 .0
+μ-put-type-at κs a = length (a .0 .now) - a .1 .1 .1 .0
 
 abbrev put-type-at-at : ℕ → In 4 put-type-at-kinds.ps
 put-type-at-at t =
@@ -54,7 +56,7 @@ put-type-at-returns : (t : ℕ) → put-type-at-lts.Need-returns (put-type-at-us
 put-type-at-returns t c = λ d y q g. absurd (array-past _ _ _ _ (c .before .before .before .before .before .before .before .before .before .type-head .ensures) d y q g _ _ (c .before .before .before .before .before .before .before .head .given .1) (c .if1 .taken))
 
 put-type-at-put-type-at-requires : (t : ℕ) → put-type-at-lts.Need-put-type-at-requires (put-type-at-uses t) (put-type-at-at t) put-type-at.Post
-put-type-at-put-type-at-requires t c κs = search needs
+put-type-at-put-type-at-requires t c κs = let s = c .before .before .before .before .before .before .before .before .before .before .before .before .before .before in (omega (arith, s .pre .0, type-there _ _ _ (s .pre .1) _ _ (c .before .before .before .before .before .before .before .before .before .before .before .type-head .ensures) _ _ (c .before .before .before .before .before .before .before .before .before .head .given .1), c .before .before .if1 .left), s .pre .1)
 
 put-type-at-returns-2 : (t : ℕ) → put-type-at-lts.Need-returns-2 (put-type-at-uses t) (put-type-at-at t) put-type-at.Post
 put-type-at-returns-2 t c = λ d y q g. absurd (type-not-refused _ _ _ _ (c .before .before .type-head .ensures) d y q g _ (c .enum-told .given .1))

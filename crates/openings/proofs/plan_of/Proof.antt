@@ -8,7 +8,7 @@ use Rattle.openings.proofs.plan_of.Statement.{statement}
 use Rattle.openings.proofs.plan_of.Tie as tie
 use Rattle.openings.proofs.plan_of.Reads as reads
 use Rattle.openings.proofs.plan_of.Lts as lts
-use Rattle.openings.proofs.flag_id.Reads as flag-id-reads
+use Rattle.needs.proofs.flag_id.Reads as flag-id-reads
 use Rattle.openings.proofs.gate.Reads as gate-reads
 use Rattle.openings.proofs.stay.Reads as stay-reads
 

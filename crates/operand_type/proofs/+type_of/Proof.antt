@@ -1,14 +1,15 @@
 -- `operand_type::type_of` meets its contract.
 -- Assumes nothing.
 use mathlib.Core.Path.{refl, sym, _∙_, ap}
-use Prim.Native.Nat.{_-_, _^_}
+use native.Mathlib.Omega.{arith}
+use Prim.Native.Nat.{_-_}
 use lib.ListN.{length}
 use denote.Ref.{now}
 use Rattle.definitions.specs.Tree.{Expr, Exprs}
 use Rattle.definitions.specs.Reading.{got}
-use Rattle.operands.proofs.Laws.{spread-nil}
+use Rattle.operands.proofs.Laws.{spread-nil, left-there}
 use Rattle.operands.proofs.Roles.{arm}
-use Rattle.natural.proofs.Laws.{at-or-past}
+use Rattle.operands.proofs.Apart.{at-or-past}
 use Rattle.operand_type.proofs.Laws.{not-past, not-back, not-before, split-of, first-of, ops-one, ops-when, ops-two, ops-index, const-found, name-found, sample-found, pre-found, arrow-found, index-found, index-none, rest-found}
 use borrow.Author.Needs.{needs}
 use Prim.Native.Nat.{ℕ, _<_}
@@ -28,7 +29,7 @@ use Rattle.operand_type.proofs.+type_of.{statement}
 use Rattle.operand_type.proofs.+type_of.Tie.{close}
 
 abbrev μ-type-of : Measures 2 type-of-kinds.ps ℕ
-μ-type-of κs a = 2 ^ 64 - a .1 .1 .1 .1 .0
+μ-type-of κs a = length (a .0 .now) - a .1 .1 .1 .1 .0
 
 abbrev type-of-at : ℕ → In 2 type-of-kinds.ps
 type-of-at t = and 2 type-of-kinds.ps (is 2 type-of-kinds.ps μ-type-of t) type-of.Pre
@@ -67,19 +68,19 @@ type-of-enum-told-2 : (t : ℕ) → type-of-lts.Need-enum-told-2 (type-of-uses t
 type-of-enum-told-2 t c = search needs
 
 type-of-type-of-requires : (t : ℕ) → type-of-lts.Need-type-of-requires (type-of-uses t) (type-of-at t) type-of.Post
-type-of-type-of-requires t c κs = search needs
+type-of-type-of-requires t c κs = let s = c .before .before .before .before .before .before .before .before in (omega (arith, s .pre .0, left-there _ _ _ (s .pre .1) _ _ (c .before .before .before .before .before .view-at .ensures) (c .before .before .before .before .if1 .left), c .before .before .if2 .left), s .pre .1)
 
 type-of-enum-told-3 : (t : ℕ) → type-of-lts.Need-enum-told-3 (type-of-uses t) (type-of-at t) type-of.Post
 type-of-enum-told-3 t c = search needs
 
 type-of-type-of-requires-2 : (t : ℕ) → type-of-lts.Need-type-of-requires-2 (type-of-uses t) (type-of-at t) type-of.Post
-type-of-type-of-requires-2 t c κs = search needs
+type-of-type-of-requires-2 t c κs = let s = c .before .before .before .before .before .before .before .before in (omega (arith, s .pre .0, left-there _ _ _ (s .pre .1) _ _ (c .before .before .before .before .before .view-at .ensures) (c .before .before .before .before .if1 .left), c .before .before .if2 .left), s .pre .1)
 
 type-of-enum-told-4 : (t : ℕ) → type-of-lts.Need-enum-told-4 (type-of-uses t) (type-of-at t) type-of.Post
 type-of-enum-told-4 t c = search needs
 
 type-of-type-of-requires-3 : (t : ℕ) → type-of-lts.Need-type-of-requires-3 (type-of-uses t) (type-of-at t) type-of.Post
-type-of-type-of-requires-3 t c κs = search needs
+type-of-type-of-requires-3 t c κs = let s = c .before .before .before .before .before .before .before .before in (omega (arith, s .pre .0, left-there _ _ _ (s .pre .1) _ _ (c .before .before .before .before .before .view-at .ensures) (c .before .before .before .before .if1 .left), c .before .before .if2 .left), s .pre .1)
 
 type-of-operand-at-requires : (t : ℕ) → type-of-lts.Need-operand-at-requires (type-of-uses t) (type-of-at t) type-of.Post
 type-of-operand-at-requires t c κs = search needs
@@ -88,7 +89,7 @@ type-of-returns-3 : (t : ℕ) → type-of-lts.Need-returns-3 (type-of-uses t) (t
 type-of-returns-3 t c = λ e q n u g d. let i = arm e _ _ (c .before .before .before .before .before .before .before .before .view-at .ensures .role e q g) (c .before .before .before .enum-told4 .given .1) in let x = split-of _ _ _ _ _ _ (c .before .before .before .before .before .before .first-operand .ensures) _ q (c .before .before .before .before .before .before .before .before .view-at .ensures .operands e q g) (i .0) (Exprs.and (i .1) Exprs.end) (ops-two e (i .0) (i .1) (i .2)) in absurd (not-back _ _ _ _ (c .before .before .before .before .before .before .before .if1 .left) (x .3) (at-or-past (length (now (c .before .before .before .before .before .before .before .before .before .before .before .args .tags))) (c .before .before .before .before .before .before .first-operand .result .gap) (c .before .before .before .before .before .before .first-operand .result .next) (c .before .operand-at .result) (c .before .operand-at .ensures)) (c .if3 .taken))
 
 type-of-type-of-requires-4 : (t : ℕ) → type-of-lts.Need-type-of-requires-4 (type-of-uses t) (type-of-at t) type-of.Post
-type-of-type-of-requires-4 t c κs = search needs
+type-of-type-of-requires-4 t c κs = let s = c .before .before .before .before .before .before .before .before .before .before .before in (omega (arith, s .pre .0, left-there _ _ _ (s .pre .1) _ _ (c .before .before .before .before .before .before .before .before .view-at .ensures) (c .before .before .before .before .before .before .before .if1 .left), c .if3 .left), s .pre .1)
 
 type-of-or-found-requires : (t : ℕ) → type-of-lts.Need-or-found-requires (type-of-uses t) (type-of-at t) type-of.Post
 type-of-or-found-requires t c κs = search needs
@@ -100,7 +101,7 @@ type-of-returns-4 : (t : ℕ) → type-of-lts.Need-returns-4 (type-of-uses t) (t
 type-of-returns-4 t c = λ e q n u g d. let i = arm e _ _ (c .before .before .before .before .before .before .view-at .ensures .role e q g) (c .before .enum-told5 .given .1) in index-none _ _ _ e (i .0) (i .1) (sym (ops-index e (i .0) (i .1)) ∙ spread-nil _ _ _ _ _ _ _ q (c .if4 .taken) (c .before .before .before .before .before .before .view-at .ensures .operands e q g) .0)
 
 type-of-type-of-requires-5 : (t : ℕ) → type-of-lts.Need-type-of-requires-5 (type-of-uses t) (type-of-at t) type-of.Post
-type-of-type-of-requires-5 t c κs = search needs
+type-of-type-of-requires-5 t c κs = let s = c .before .before .before .before .before .before .before .before .before in (omega (arith, s .pre .0, left-there _ _ _ (s .pre .1) _ _ (c .before .before .before .before .before .before .view-at .ensures) (c .before .before .before .before .before .if1 .left), c .before .before .before .if2 .left), s .pre .1)
 
 type-of-element-of-requires : (t : ℕ) → type-of-lts.Need-element-of-requires (type-of-uses t) (type-of-at t) type-of.Post
 type-of-element-of-requires t c κs = search needs

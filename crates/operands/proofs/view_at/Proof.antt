@@ -1,7 +1,7 @@
 -- `operands::view_at` meets its contract: an arm for each tag that tells all.
 -- Assumes nothing.
 use Rattle.operands.proofs.Simple.{is-unary, is-binary, is-if, is-pre, is-arrow, is-field, is-index, is-when, is-when-not, is-merge}
-use borrow.Author.Needs.{needs}
+use native.Mathlib.Omega.{arith}
 use borrow.Author.Needs.{needs}
 use Rattle.operands.proofs.view_at.Statement.{statement}
 use Rattle.operands.proofs.view_at.Tie as tie
@@ -97,34 +97,34 @@ whole-view-requires-2 : tie.Need-whole-view-requires-2
 whole-view-requires-2 c κs = search needs
 
 returns-2 : tie.Need-returns-2
-returns-2 c = is-unary _ _ _ (c .before .before .before .before .before .before .pre) _ _ (c .before .match .keys1) (c .simple-view .ensures)
+returns-2 c = is-unary _ _ _ (c .before .before .before .before .before .before .pre) _ (omega (arith, c .before .before .before .if1 .left)) _ (c .before .match .keys1) (c .simple-view .ensures)
 
 returns-3 : tie.Need-returns-3
-returns-3 c = is-binary _ _ _ (c .before .before .before .before .before .before .pre) _ _ (c .before .match .keys2) (c .simple-view2 .ensures)
+returns-3 c = is-binary _ _ _ (c .before .before .before .before .before .before .pre) _ (omega (arith, c .before .before .before .if1 .left)) _ (c .before .match .keys2) (c .simple-view2 .ensures)
 
 returns-4 : tie.Need-returns-4
-returns-4 c = is-if _ _ _ (c .before .before .before .before .before .before .pre) _ _ (c .before .match .keys3) (c .simple-view3 .ensures)
+returns-4 c = is-if _ _ _ (c .before .before .before .before .before .before .pre) _ (omega (arith, c .before .before .before .if1 .left)) _ (c .before .match .keys3) (c .simple-view3 .ensures)
 
 returns-5 : tie.Need-returns-5
-returns-5 c = is-pre _ _ _ (c .before .before .before .before .before .before .pre) _ _ (c .before .match .keys4) (c .simple-view4 .ensures)
+returns-5 c = is-pre _ _ _ (c .before .before .before .before .before .before .pre) _ (omega (arith, c .before .before .before .if1 .left)) _ (c .before .match .keys4) (c .simple-view4 .ensures)
 
 returns-6 : tie.Need-returns-6
-returns-6 c = is-arrow _ _ _ (c .before .before .before .before .before .before .pre) _ _ (c .before .match .keys5) (c .simple-view5 .ensures)
+returns-6 c = is-arrow _ _ _ (c .before .before .before .before .before .before .pre) _ (omega (arith, c .before .before .before .if1 .left)) _ (c .before .match .keys5) (c .simple-view5 .ensures)
 
 returns-7 : tie.Need-returns-7
-returns-7 c = is-field _ _ _ (c .before .before .before .before .before .before .pre) _ _ (c .before .match .keys6) (c .simple-view6 .ensures)
+returns-7 c = is-field _ _ _ (c .before .before .before .before .before .before .pre) _ (omega (arith, c .before .before .before .if1 .left)) _ (c .before .match .keys6) (c .simple-view6 .ensures)
 
 returns-8 : tie.Need-returns-8
-returns-8 c = is-index _ _ _ (c .before .before .before .before .before .before .pre) _ _ (c .before .match .keys7) (c .simple-view7 .ensures)
+returns-8 c = is-index _ _ _ (c .before .before .before .before .before .before .pre) _ (omega (arith, c .before .before .before .if1 .left)) _ (c .before .match .keys7) (c .simple-view7 .ensures)
 
 returns-9 : tie.Need-returns-9
-returns-9 c = is-when _ _ _ (c .before .before .before .before .before .before .before .pre) _ _ (c .before .before .match .keys8) (c .sample-view .ensures)
+returns-9 c = is-when _ _ _ (c .before .before .before .before .before .before .before .pre) _ (omega (arith, c .before .before .before .before .if1 .left)) _ (c .before .before .match .keys8) (c .sample-view .ensures)
 
 returns-10 : tie.Need-returns-10
-returns-10 c = is-when-not _ _ _ (c .before .before .before .before .before .before .before .pre) _ _ (c .before .before .match .keys9) (c .sample-view2 .ensures)
+returns-10 c = is-when-not _ _ _ (c .before .before .before .before .before .before .before .pre) _ (omega (arith, c .before .before .before .before .if1 .left)) _ (c .before .before .match .keys9) (c .sample-view2 .ensures)
 
 returns-11 : tie.Need-returns-11
-returns-11 c = is-merge _ _ _ (c .before .before .before .before .before .before .before .pre) _ _ (c .before .before .match .keys10) (c .simple-view8 .ensures)
+returns-11 c = is-merge _ _ _ (c .before .before .before .before .before .before .before .pre) _ (omega (arith, c .before .before .before .before .if1 .left)) _ (c .before .before .match .keys10) (c .simple-view8 .ensures)
 
 returns-12 : tie.Need-returns-12
 returns-12 c = search needs

@@ -26,7 +26,7 @@ returns : tie.Need-returns
 returns c = viewed _ _ _ _ _ _ _ (expr-head-got _ _ _ _ (c .before .before .before .before .before .expr-head .ensures) (c .before .before .before .head .given .1)) (c .before .role-of .ensures) (c .operands-of .ensures) refl
 
 returns-2 : tie.Need-returns-2
-returns-2 c = unviewed _ _ _ _ _ (expr-head-refused _ _ _ (c .before .before .expr-head .ensures) (c .enum-told .given .1))
+returns-2 c = unviewed _ _ _ _ _ (expr-head-refused _ _ _ (c .before .before .expr-head .ensures) (c .enum-told .given .1)) refl
 
 pub whole-view-spec : {M : Type 1} → statement M
 whole-view-spec =

@@ -7,14 +7,14 @@ use lib.ListN.{length}
 use Rattle.definitions.specs.Clock.{insert, inChainOrder}
 use Rattle.rows.specs.Rows.{clocksFrom}
 use Rattle.fresh.specs.Places.{lettersAt}
-use Rattle.order.specs.Order.{rowOf, picked, Below}
+use Rattle.order.specs.Order.{rowOf, picked, FirstBelow}
 use Rattle.order.proofs.Laws.{sort-none, sort-more, sort-all}
 use Rattle.order.proofs.Total.{ordered}
 use Rattle.order.proofs.sort_rows.Statement.{statement}
 use Rattle.order.proofs.sort_rows.Tie as tie
 
 abbrev Inv-loop : tie.InvT-loop
-Inv-loop starts letters rows order₀ n i₀ k₀ order i k = (i ≤ n) × (k ≤ n - i) × (length order ≡ length order₀) × (picked (rowOf rows) order 0 k ≡ inChainOrder (lettersAt starts letters) (clocksFrom rows i (n - i))) × Below order k n
+Inv-loop starts letters rows order₀ n i₀ k₀ order i k = (i ≤ n) × (k ≤ n - i) × (length order ≡ length order₀) × (picked (rowOf rows) order 0 k ≡ inChainOrder (lettersAt starts letters) (clocksFrom rows i (n - i))) × FirstBelow order k n
 
 abbrev μ-loop : tie.MeasureT-loop
 μ-loop starts letters rows order₀ n i₀ k₀ order i k = i

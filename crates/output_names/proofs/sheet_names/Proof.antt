@@ -8,7 +8,7 @@ use lib.ListN.{take}
 use Rattle.definitions.specs.Bytes.{cut}
 use Rattle.definitions.specs.Output.{condactId, ClockedNode, outputNames}
 use Rattle.definitions.specs.Answer.{Input}
-use Rattle.fresh.specs.Table.{Sound, Holds}
+use Rattle.fresh.specs.Table.{Sound, NamesHeld}
 use Rattle.infer_clocks.specs.Clocked.{Sole}
 use Rattle.output_names.specs.Faultless.{Faultless}
 use Rattle.output_names.proofs.Laws.{condact-few, sole-still, names-start, names-all, nodes-stand, names-more}
@@ -18,7 +18,7 @@ use Rattle.output_names.proofs.sheet_names.Tie as tie
 
 abbrev Inv-loop : tie.InvT-loop
 Inv-loop given starts letters tags values names lengths₀ text₀ env₀ flags₀ firsts₀ c₀ condact n places i₀ lengths text env flags firsts c i =
-    (i ≤ n) × Sound lengths text c × (n ≤ 1 → env ≡ env₀) × ((bytes : List ℕ) (r : Input) (ns : List ClockedNode) → Faultless starts letters tags values names bytes r ns → r .names ≡ cut given letters → Sole env₀ names (r .sheet .nodes) → Holds lengths text c (outputNames (r .names) (r .sheet) (r .names) (take i ns)))
+    (i ≤ n) × Sound lengths text c × (n ≤ 1 → env ≡ env₀) × ((bytes : List ℕ) (r : Input) (ns : List ClockedNode) → Faultless starts letters tags values names bytes r ns → r .names ≡ cut given letters → Sole env₀ names (r .sheet .nodes) → NamesHeld lengths text c (outputNames (r .names) (r .sheet) (r .names) (take i ns)))
 
 abbrev μ-loop : tie.MeasureT-loop
 μ-loop given starts letters tags values names lengths₀ text₀ env₀ flags₀ firsts₀ c₀ condact n places i₀ lengths text env flags firsts c i = n - i

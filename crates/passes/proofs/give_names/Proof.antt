@@ -12,7 +12,7 @@ use Rattle.definitions.specs.Reading.{got, times}
 use Rattle.definitions.specs.Grammar.{name}
 use Rattle.definitions.specs.InferClocks.{Pass, ports, give}
 use Rattle.clock.specs.Value.{valueOf}
-use Rattle.passes.specs.Passes.{Marked, Stands}
+use Rattle.passes.specs.Passes.{Marked, PassSoFar}
 use Rattle.passes.specs.Settled.{dates}
 use Rattle.passes.proofs.Laws.{Giving, giving-start, giving-step, giving-end}
 use borrow.Author.Needs.{needs}
@@ -21,7 +21,7 @@ use Rattle.passes.proofs.give_names.Tie as tie
 
 abbrev Inv-loop : tie.InvT-loop
 Inv-loop tags values names count at env₀ marks since₀ present c changed made₀ left₀ place₀ env since made left place =
-    (length env ≡ length env₀) × (length since ≡ length since₀) × ((n : Node) (p : Pass) (xs : List ℕ) (q : ℕ) → Marked marks names (ports n) → times count (name names) (tokens tags values) at ≡ got xs q → Stands env₀ names changed p → Giving names (tokens tags values) n (valueOf c) present env since made left place q (give n (valueOf c) xs p) (dates n (valueOf c) present xs p since₀))
+    (length env ≡ length env₀) × (length since ≡ length since₀) × ((n : Node) (p : Pass) (xs : List ℕ) (q : ℕ) → Marked marks names (ports n) → times count (name names) (tokens tags values) at ≡ got xs q → PassSoFar env₀ names changed p → Giving names (tokens tags values) n (valueOf c) present env since made left place q (give n (valueOf c) xs p) (dates n (valueOf c) present xs p since₀))
 
 abbrev μ-loop : tie.MeasureT-loop
 μ-loop tags values names count at env₀ marks since₀ present c changed made₀ left₀ place₀ env since made left place = left

@@ -29,8 +29,8 @@ same-length c = search needs
 
 returns : tie.Need-returns
 returns c = λ n p e q m g s.
-    let l = lies (c .before .before .before .before .before .before .before .before .before .before .before .args .names) (now (c .before .before .before .before .before .before .before .before .before .before .before .args .tags)) (now (c .before .before .before .before .before .before .before .before .before .before .before .args .values)) (c .before .before .before .before .before .before .before .before .before .before .before .pre) (c .before .before .before .before .before .before .before .before .before .before .before .args .at) _ (c .before .before .before .before .before .names-at .ensures) e q g in
-    equation-free n e p (c .before .before .before .before .before .before .before .before .before .before .before .args .present) _ _ q (c .before .before .before .natural-clock .ensures (e .right) q (p .clocks) (l .right) (s .agrees)) _ _ _ (c .enum-told .given .1) s
+    let l = lies (c .before .before .before .before .before .before .before .before .before .before .args .names) (now (c .before .before .before .before .before .before .before .before .before .before .args .tags)) (now (c .before .before .before .before .before .before .before .before .before .before .args .values)) (c .before .before .before .before .before .before .before .before .before .before .pre) (c .before .before .before .before .before .before .before .before .before .before .args .at) _ (c .before .before .before .before .names-at .ensures) e q g in
+    equation-free n e p (c .before .before .before .before .before .before .before .before .before .before .args .present) _ _ (c .before .before .natural-clock .ensures (e .right) q (p .clocks) (l .right) (s .agrees)) _ _ _ (c .enum-told .given .1) s
 
 same-length-2 : tie.Need-same-length-2
 same-length-2 c = search needs
@@ -40,16 +40,16 @@ same-length-3 c = search needs
 
 returns-2 : tie.Need-returns-2
 returns-2 c = λ n p e q m g s.
-    let l = lies (c .before .before .before .before .before .before .before .before .before .before .before .before .before .before .before .before .before .before .before .args .names) (now (c .before .before .before .before .before .before .before .before .before .before .before .before .before .before .before .before .before .before .before .args .tags)) (now (c .before .before .before .before .before .before .before .before .before .before .before .before .before .before .before .before .before .before .before .args .values)) (c .before .before .before .before .before .before .before .before .before .before .before .before .before .before .before .before .before .before .before .pre) (c .before .before .before .before .before .before .before .before .before .before .before .before .before .before .before .before .before .before .before .args .at) _ (c .before .before .before .before .before .before .before .before .before .before .before .before .before .names-at .ensures) e q g in
-    equation-on n e p (c .before .before .before .before .before .before .before .before .before .before .before .before .before .before .before .before .before .before .before .args .present) _ _ q (c .before .before .before .before .before .before .before .before .before .before .before .natural-clock .ensures (e .right) q (p .clocks) (l .right) (s .agrees)) _ _ _ _ (c .before .before .before .before .before .before .before .before .enum-told2 .given .1) (c .before .before .before .before .give-names .ensures n p (e .left) _ m (l .left .items) s)
+    let l = lies (c .before .before .before .before .before .before .before .before .before .before .before .before .before .before .before .before .before .before .args .names) (now (c .before .before .before .before .before .before .before .before .before .before .before .before .before .before .before .before .before .before .args .tags)) (now (c .before .before .before .before .before .before .before .before .before .before .before .before .before .before .before .before .before .before .args .values)) (c .before .before .before .before .before .before .before .before .before .before .before .before .before .before .before .before .before .before .pre) (c .before .before .before .before .before .before .before .before .before .before .before .before .before .before .before .before .before .before .args .at) _ (c .before .before .before .before .before .before .before .before .before .before .before .before .names-at .ensures) e q g in
+    equation-on n e p (c .before .before .before .before .before .before .before .before .before .before .before .before .before .before .before .before .before .before .args .present) _ _ (c .before .before .before .before .before .before .before .before .before .before .natural-clock .ensures (e .right) q (p .clocks) (l .right) (s .agrees)) _ _ _ _ (c .before .before .before .before .before .before .before .before .enum-told2 .given .1) (c .before .before .before .before .give-names .ensures n p (e .left) _ m (l .left .items) s)
 
 same-length-4 : tie.Need-same-length-4
 same-length-4 c = search needs
 
 returns-3 : tie.Need-returns-3
 returns-3 c = λ n p e q m g s.
-    let l = lies (c .before .before .before .before .before .before .before .before .before .before .before .args .names) (now (c .before .before .before .before .before .before .before .before .before .before .before .args .tags)) (now (c .before .before .before .before .before .before .before .before .before .before .before .args .values)) (c .before .before .before .before .before .before .before .before .before .before .before .pre) (c .before .before .before .before .before .before .before .before .before .before .before .args .at) _ (c .before .before .before .before .before .names-at .ensures) e q g in
-    equation-deep n e p (c .before .before .before .before .before .before .before .before .before .before .before .args .present) (now (c .before .before .before .before .before .before .before .before .before .before .before .args .since)) _ q (c .before .before .before .natural-clock .ensures (e .right) q (p .clocks) (l .right) (s .agrees)) _ _ _ (c .enum-told3 .given .1)
+    let l = lies (c .before .before .before .before .before .before .before .before .before .before .args .names) (now (c .before .before .before .before .before .before .before .before .before .before .args .tags)) (now (c .before .before .before .before .before .before .before .before .before .before .args .values)) (c .before .before .before .before .before .before .before .before .before .before .pre) (c .before .before .before .before .before .before .before .before .before .before .args .at) _ (c .before .before .before .before .names-at .ensures) e q g in
+    equation-deep n e p (c .before .before .before .before .before .before .before .before .before .before .args .present) (now (c .before .before .before .before .before .before .before .before .before .before .args .since)) _ (c .before .before .natural-clock .ensures (e .right) q (p .clocks) (l .right) (s .agrees)) _ _ _ (c .enum-told3 .given .1)
 
 pub read-equation-spec : {M : Type 1} → statement M
 read-equation-spec =

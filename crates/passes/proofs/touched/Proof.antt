@@ -6,7 +6,7 @@ use denote.Ref.{now}
 use Prim.Native.Nat.{ℕ, _-_, _≤_, _<_}
 use native.Mathlib.Omega.{arith}
 use lib.ListN.{length, getD}
-use Rattle.passes.specs.Settled.{named, Settled}
+use Rattle.passes.specs.Settled.{named, Unchanged}
 use Rattle.passes.proofs.Laws.{quiet-start, quiet-more}
 use borrow.Author.Needs.{needs}
 use Rattle.passes.proofs.touched.Statement.{statement}
@@ -14,7 +14,7 @@ use Rattle.passes.proofs.touched.Tie as tie
 
 abbrev Inv-loop : tie.InvT-loop
 Inv-loop tags values since made from to end i₀ i =
-    (k : ℕ) → from ≤ k → k < i → k < length tags → named (getD tags k 0) ≡ true → Settled since made (getD values k 0)
+    (k : ℕ) → from ≤ k → k < i → k < length tags → named (getD tags k 0) ≡ true → Unchanged since made (getD values k 0)
 
 abbrev μ-loop : tie.MeasureT-loop
 μ-loop tags values since made from to end i₀ i = end - i

@@ -4,7 +4,8 @@ use mathlib.Core.Path.{_≡_}
 use mathlib.Core.List.{List}
 use mathlib.Core.Bool.{true}
 use native.Mathlib.Omega.{arith}
-use Prim.Native.Nat.{_-_, _*_, _^_, _+_, _≤_}
+use Prim.Native.Nat.{_-_, _*_, _+_, _≤_}
+use lib.ListN.{length}
 use denote.Ref.{now}
 use Rattle.definitions.specs.Bytes.{tokens}
 use Rattle.definitions.specs.Tree.{TypeDef, Exprs, Node}
@@ -12,7 +13,8 @@ use Rattle.definitions.specs.Reading.{got}
 use Rattle.clock.specs.Value.{valueOf}
 use Rattle.operands.specs.Role.{operandsOf}
 use Rattle.operands.specs.Spread.{tree, spread}
-use Rattle.natural.proofs.Laws.{at-or-past}
+use Rattle.operands.proofs.Laws.{left-there}
+use Rattle.operands.proofs.Apart.{at-or-past}
 use Rattle.needs.specs.Need.{withins}
 use Rattle.needs.proofs.Laws.{parts-within, pre-operand}
 use Rattle.stateless.specs.Faults.{faultAmong}
@@ -43,13 +45,13 @@ use Rattle.rewriting_faults.proofs.+expr_fault+exprs_fault+operand_faul
 use Rattle.rewriting_faults.proofs.+expr_fault+exprs_fault+operand_fault.Tie.{close}
 
 abbrev μ-expr-fault : Measures 5 expr-fault-kinds.ps ℕ
-μ-expr-fault κs a = 3 * (2 ^ 64 - a .1 .1 .1 .1 .1 .1 .1 .0)
+μ-expr-fault κs a = 3 * (length (a .0 .now) - a .1 .1 .1 .1 .1 .1 .1 .0)
 
 abbrev μ-exprs-fault : Measures 5 exprs-fault-kinds.ps ℕ
-μ-exprs-fault κs a = 3 * (2 ^ 64 - a .1 .1 .1 .1 .1 .1 .1 .1 .1 .1 .0) + 2
+μ-exprs-fault κs a = 3 * (length (a .0 .now) - a .1 .1 .1 .1 .1 .1 .1 .1 .1 .1 .0) + 2
 
 abbrev μ-operand-fault : Measures 5 operand-fault-kinds.ps ℕ
-μ-operand-fault κs a = 3 * (2 ^ 64 - a .1 .1 .1 .1 .1 .1 .1 .0) + 1
+μ-operand-fault κs a = 3 * (length (a .0 .now) - a .1 .1 .1 .1 .1 .1 .1 .0) + 1
 
 abbrev expr-fault-at : ℕ → In 5 expr-fault-kinds.ps
 expr-fault-at t =
@@ -104,7 +106,7 @@ expr-fault-operand-at-requires : (t : ℕ) → expr-fault-lts.Need-operand-at-re
 expr-fault-operand-at-requires t c κs = search needs
 
 expr-fault-exprs-fault-requires : (t : ℕ) → expr-fault-lts.Need-exprs-fault-requires (expr-fault-uses t) (expr-fault-at t) expr-fault.Post
-expr-fault-exprs-fault-requires t c κs = search needs
+expr-fault-exprs-fault-requires t c κs = let s = c .before .before .before .before .before .before .before in (omega (arith, s .pre .0, left-there _ _ _ (s .pre .1 .0) _ _ (c .before .before .before .before .view-at .ensures) (c .before .before .before .if1 .left), c .before .before .before .if1 .left), s .pre .1)
 
 expr-fault-own-fault-requires : (t : ℕ) → expr-fault-lts.Need-own-fault-requires (expr-fault-uses t) (expr-fault-at t) expr-fault.Post
 expr-fault-own-fault-requires t c κs = search needs
@@ -162,7 +164,7 @@ operand-fault-leaf-end-requires : (t : ℕ) → operand-fault-lts.Need-leaf-end-
 operand-fault-leaf-end-requires t c κs = search needs
 
 operand-fault-returns : (t : ℕ) → operand-fault-lts.Need-returns (operand-fault-uses t) (operand-fault-at t) operand-fault.Post
-operand-fault-returns t c = λ e q types l node g w k. let a = c .before .leaf-end .ensures _ e q g (c .if1 .taken) in (leaf-fault types l node _ e (a .0), a .1)
+operand-fault-returns t c = λ e q types l node g w k. let a = c .before .leaf-end .ensures .0 _ e q g (c .if1 .taken) in (leaf-fault types l node _ e (a .0), a .1)
 
 operand-fault-expr-fault-requires : (t : ℕ) → operand-fault-lts.Need-expr-fault-requires (operand-fault-uses t) (operand-fault-at t) operand-fault.Post
 operand-fault-expr-fault-requires t c κs = search needs

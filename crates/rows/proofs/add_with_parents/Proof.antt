@@ -7,13 +7,13 @@ use lib.ListN.{length}
 use Rattle.definitions.specs.Clock.{Clock}
 use Rattle.definitions.specs.Declock.{addWithParents}
 use Rattle.clock.specs.Value.{clockAt, capped}
-use Rattle.rows.specs.Rows.{Has}
+use Rattle.rows.specs.Rows.{RowsHold}
 use Rattle.rows.proofs.Laws.{parents-none, parents-more}
 use Rattle.rows.proofs.add_with_parents.Statement.{statement}
 use Rattle.rows.proofs.add_with_parents.Tie as tie
 
 abbrev Inv-loop : tie.InvT-loop
-Inv-loop rows₀ n c d m₀ i₀ rows m i = (i ≤ d) × (length rows ≡ length rows₀) × ((cs : List Clock) → Has rows₀ n cs → Has rows m (addWithParents (clockAt (c .conditions) i) cs))
+Inv-loop rows₀ n c d m₀ i₀ rows m i = (i ≤ d) × (length rows ≡ length rows₀) × ((cs : List Clock) → RowsHold rows₀ n cs → RowsHold rows m (addWithParents (clockAt (c .conditions) i) cs))
 
 abbrev μ-loop : tie.MeasureT-loop
 μ-loop rows₀ n c d m₀ i₀ rows m i = d - i

@@ -51,7 +51,7 @@ returns-4 : tie.Need-returns-4
 returns-4 c =
     let r : 17 * c .before .before .before .before .before .before .before .before .before .before .args .n + 17 ≤ length (now (c .before .before .before .before .before .before .before .before .before .before .args .rows)) = omega (arith, c .before .before .before .before .if3 .left) in
     let e = c .before .before .store .ensures in
-    (e .0, λ cs h. has-stored (now (c .before .before .before .before .before .before .before .before .before .before .args .rows)) (c .before .before .before .before .before .before .before .before .before .before .args .n) (valueOf (c .before .before .before .before .before .before .before .before .before .before .args .c)) cs _ r (e .0) (e .1 .1 .0) (e .1 .1 .1) (absent (now (c .before .before .before .before .before .before .before .before .before .before .args .rows)) (c .before .before .before .before .before .before .before .before .before .before .args .n) (valueOf (c .before .before .before .before .before .before .before .before .before .before .args .c)) _ (c .before .before .before .before .before .before .place .ensures) (c .before .before .before .before .before .if2 .left)) h)
+    (e .0, λ cs h. has-stored (now (c .before .before .before .before .before .before .before .before .before .before .args .rows)) (c .before .before .before .before .before .before .before .before .before .before .args .n) (valueOf (c .before .before .before .before .before .before .before .before .before .before .args .c)) cs _ r (e .0) (e .1 .1 .0) (e .1 .1 .1 .0) (absent (now (c .before .before .before .before .before .before .before .before .before .before .args .rows)) (c .before .before .before .before .before .before .before .before .before .before .args .n) (valueOf (c .before .before .before .before .before .before .before .before .before .before .args .c)) _ (c .before .before .before .before .before .before .place .ensures) (c .before .before .before .before .before .if2 .left)) h)
 
 pub find-or-add-spec : {M : Type 1} → statement M
 find-or-add-spec =

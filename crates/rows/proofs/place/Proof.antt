@@ -17,14 +17,14 @@ abbrev μ-loop : tie.MeasureT-loop
 loop-holds : tie.Need-loop-holds Inv-loop μ-loop
 loop-holds c = (omega arith, place-start (now (c .before .args .rows)) (valueOf (c .before .args .c)) (c .before .args .n))
 
-mul-same-at : tie.Need-mul-same-at Inv-loop μ-loop
-mul-same-at c = search needs
+mul-is-at : tie.Need-mul-is-at Inv-loop μ-loop
+mul-is-at c = search needs
 
-same-at-requires : tie.Need-same-at-requires Inv-loop μ-loop
-same-at-requires c κs = search needs
+is-at-requires : tie.Need-is-at-requires Inv-loop μ-loop
+is-at-requires c κs = search needs
 
 returns : tie.Need-returns Inv-loop μ-loop
-returns c = sym (place-here (now (c .before .before .before .before .before .args .rows)) (valueOf (c .before .before .before .before .before .args .c)) (c .before .before .before .before .before .args .n) (c .before .before .before .loop .i) (c .before .before .loop-test .taken) _ (c .before .same-at .ensures) (c .before .before .before .loop .inv .1) (c .if1 .taken))
+returns c = sym (place-here (now (c .before .before .before .before .before .args .rows)) (valueOf (c .before .before .before .before .before .args .c)) (c .before .before .before .before .before .args .n) (c .before .before .before .loop .i) (c .before .before .loop-test .taken) _ (c .before .is-at .ensures) (c .before .before .before .loop .inv .1) (c .if1 .taken))
 
 add-i : tie.Need-add-i Inv-loop μ-loop
 add-i c = search needs
@@ -33,7 +33,7 @@ loop-less : tie.Need-loop-less Inv-loop μ-loop
 loop-less c = search needs
 
 loop-again : tie.Need-loop-again Inv-loop μ-loop
-loop-again c = (omega arith, place-next (now (c .before .before .before .before .before .args .rows)) (valueOf (c .before .before .before .before .before .args .c)) (c .before .before .before .before .before .args .n) (c .before .before .before .loop .i) (c .before .before .loop-test .taken) _ (c .before .same-at .ensures) (c .before .before .before .loop .inv .1) (c .if1 .left))
+loop-again c = (omega arith, place-next (now (c .before .before .before .before .before .args .rows)) (valueOf (c .before .before .before .before .before .args .c)) (c .before .before .before .before .before .args .n) (c .before .before .before .loop .i) (c .before .before .loop-test .taken) _ (c .before .is-at .ensures) (c .before .before .before .loop .inv .1) (c .if1 .left))
 
 returns-2 : tie.Need-returns-2 Inv-loop μ-loop
 returns-2 c = sym (place-none (now (c .before .before .before .args .rows)) (valueOf (c .before .before .before .args .c)) (c .before .before .before .args .n) (c .before .loop .i) (c .loop-test .left) (c .before .loop .inv .0) (c .before .loop .inv .1))
@@ -45,8 +45,8 @@ place-spec =
     Inv-loop
     μ-loop
     loop-holds
-    mul-same-at
-    same-at-requires
+    mul-is-at
+    is-at-requires
     returns
     add-i
     loop-less

@@ -1,7 +1,9 @@
--- `tokens::expr_token` meets its contract: an arm for each tag.
+-- `tokens::expr_token` meets its contract: an arm for each tag, and the last for the last.
 -- Assumes nothing.
-use borrow.Author.Tests.{ne-eqb}
+use mathlib.Core.Path.{_≡_}
+use native.Mathlib.Omega.{arith}
 use Rattle.definitions.specs.Tokens.{exprTokenOf}
+use Rattle.tokens.proofs.Outside.{past-all}
 use borrow.Author.Needs.{needs}
 use Rattle.tokens.proofs.expr_token.Statement.{statement}
 use Rattle.tokens.proofs.expr_token.Tie as tie
@@ -152,11 +154,7 @@ returns-21 c = rw (c .before .match .keys21) (c .below10 .ensures)
 
 returns-22 : tie.Need-returns-22
 unfolding exprTokenOf
-returns-22 c = rw (c .before .match .keys22) (c .below11 .ensures)
-
-returns-23 : tie.Need-returns-23
-unfolding exprTokenOf
-returns-23 c = let r = c .match .rest in simp (ne-eqb _ _ (r .1), ne-eqb _ _ (r .0 .1), ne-eqb _ _ (r .0 .0 .1), ne-eqb _ _ (r .0 .0 .0 .1), ne-eqb _ _ (r .0 .0 .0 .0 .1), ne-eqb _ _ (r .0 .0 .0 .0 .0 .1), ne-eqb _ _ (r .0 .0 .0 .0 .0 .0 .1), ne-eqb _ _ (r .0 .0 .0 .0 .0 .0 .0 .1), ne-eqb _ _ (r .0 .0 .0 .0 .0 .0 .0 .0 .1), ne-eqb _ _ (r .0 .0 .0 .0 .0 .0 .0 .0 .0 .1), ne-eqb _ _ (r .0 .0 .0 .0 .0 .0 .0 .0 .0 .0 .1), ne-eqb _ _ (r .0 .0 .0 .0 .0 .0 .0 .0 .0 .0 .0 .1), ne-eqb _ _ (r .0 .0 .0 .0 .0 .0 .0 .0 .0 .0 .0 .0 .1), ne-eqb _ _ (r .0 .0 .0 .0 .0 .0 .0 .0 .0 .0 .0 .0 .0 .1), ne-eqb _ _ (r .0 .0 .0 .0 .0 .0 .0 .0 .0 .0 .0 .0 .0 .0 .1), ne-eqb _ _ (r .0 .0 .0 .0 .0 .0 .0 .0 .0 .0 .0 .0 .0 .0 .0 .1), ne-eqb _ _ (r .0 .0 .0 .0 .0 .0 .0 .0 .0 .0 .0 .0 .0 .0 .0 .0 .1), ne-eqb _ _ (r .0 .0 .0 .0 .0 .0 .0 .0 .0 .0 .0 .0 .0 .0 .0 .0 .0 .1), ne-eqb _ _ (r .0 .0 .0 .0 .0 .0 .0 .0 .0 .0 .0 .0 .0 .0 .0 .0 .0 .0 .1), ne-eqb _ _ (r .0 .0 .0 .0 .0 .0 .0 .0 .0 .0 .0 .0 .0 .0 .0 .0 .0 .0 .0 .1), ne-eqb _ _ (r .0 .0 .0 .0 .0 .0 .0 .0 .0 .0 .0 .0 .0 .0 .0 .0 .0 .0 .0 .0 .1), ne-eqb _ _ (r .0 .0 .0 .0 .0 .0 .0 .0 .0 .0 .0 .0 .0 .0 .0 .0 .0 .0 .0 .0 .0 .1))
+returns-22 c = let l = past-all 50 21 _ (c .before .before .pre .0) (c .before .match .rest) in let e : c .before .before .args .tag ≡ 71 = omega (arith, l, c .before .before .pre .1) in rw e (c .below11 .ensures)
 
 pub expr-token-spec : {M : Type 1} → statement M
 expr-token-spec =
@@ -203,5 +201,4 @@ expr-token-spec =
     returns-19
     returns-20
     returns-21
-    returns-22
-    returns-23)
+    returns-22)

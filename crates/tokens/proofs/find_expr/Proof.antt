@@ -1,16 +1,11 @@
--- `tokens::find_expr` meets its contract: a tag of another class is none of its own.
+-- `tokens::find_expr` meets its contract: a tag outside the range is none of its own.
 -- Assumes nothing.
 use mathlib.Core.Path.{sym}
+use native.Mathlib.Omega.{arith}
+use Rattle.tokens.proofs.Outside.{no-expr}
 use borrow.Author.Needs.{needs}
-use Rattle.tokens.proofs.Classes.{no-expr}
 use Rattle.tokens.proofs.find_expr.Statement.{statement}
 use Rattle.tokens.proofs.find_expr.Tie as tie
-
-class-of-requires : tie.Need-class-of-requires
-class-of-requires c κs = search needs
-
-enum-told : tie.Need-enum-told
-enum-told c = search needs
 
 expr-token-requires : tie.Need-expr-token-requires
 expr-token-requires c κs = search needs
@@ -19,7 +14,10 @@ returns : tie.Need-returns
 returns c = search needs
 
 returns-2 : tie.Need-returns-2
-returns-2 c = let a = c .before .before .args in sym (no-expr (a .tag) (a .names) (a .value) _ (c .before .class-of .ensures) (c .match .keys2))
+returns-2 c = let a = c .before .args in sym (no-expr (a .tag) (a .names) (a .value) (λ l h. omega arith))
+
+returns-3 : tie.Need-returns-3
+returns-3 c = let a = c .before .before .args in sym (no-expr (a .tag) (a .names) (a .value) (λ l h. omega arith))
 
 pub find-expr-spec : {M : Type 1} → statement M
-find-expr-spec = tie.close (tie.spec class-of-requires enum-told expr-token-requires returns returns-2)
+find-expr-spec = tie.close (tie.spec expr-token-requires returns returns-2 returns-3)

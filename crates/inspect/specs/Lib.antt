@@ -1,0 +1,2 @@
+-- What is said of a sheet.
+pub mod Summary

@@ -1,0 +1,2 @@
+-- The lines that tell a refusal.
+pub mod Reasons

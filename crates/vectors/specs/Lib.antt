@@ -1,0 +1,2 @@
+-- What a listed line says.
+pub mod Fields

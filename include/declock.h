@@ -39,7 +39,7 @@ extern "C" {
 
 /* Stack that is enough for any call. A usual sheet takes 1.1 MB (declock_text 0.8 MB). What calls itself goes down the levels of an
  * expression, of which there are at most 32, and in reading the operands of each, at most 65 and 128 bytes a call. The most that we
- * measured, on 109 sheets built for it: declock_rewrite 1.1 MB, declock_text 1.0 MB, declock_listing and declock_listings 1.3 MB,
+ * measured, on 48 sheets built for it: declock_rewrite 1.1 MB, declock_text 1.0 MB, declock_listing and declock_listings 1.3 MB,
  * declock_clocks 1.4 MB. */
 #define DECLOCK_STACK_BYTES 2097152
 

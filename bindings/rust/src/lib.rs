@@ -4,7 +4,7 @@
 //! of `out`; else a [`Refusal`], and no byte of `out` is written then.
 //!
 //! Nothing is allocated and nothing is kept between calls. What a call takes of the stack is in `include/declock.h`; [`STACK_BYTES`] are
-//! enough for any. A thread that is handed sheets of others needs so much, as Rust gives a thread unless
+//! enough for any. A thread that is handed sheets of others needs so much: Rust gives a thread 2 MB unless
 //! [`std::thread::Builder::stack_size`](https://doc.rust-lang.org/std/thread/struct.Builder.html#method.stack_size) says otherwise.
 #![deny(missing_docs)]
 #![no_std]
@@ -26,7 +26,7 @@ pub const TEXT_BYTES: usize = 1_024;
 pub const FAULTS: usize = 16;
 
 /// Stack that is enough for any call, in bytes: `DECLOCK_STACK_BYTES` of `include/declock.h`.
-pub const STACK_BYTES: usize = 2 * 1024 * 1024;
+pub const STACK_BYTES: usize = 4 * 1024 * 1024;
 
 /// A fault of a node.
 #[repr(C)]

@@ -4,6 +4,7 @@ use clock::Clock;
 use clock::Natural;
 use clock::Presence;
 use definitions::Condition;
+use definitions::MOST_LEFT;
 use definitions::Test;
 use grammar::Counted;
 use operands::Gap;
@@ -430,7 +431,7 @@ pub fn check_equation(
     ensures { λ r. ⌜ length (now (table .exit)) ≡ length (now (table .entry)) ⌝ }
     ensures { λ r. ⌜ ((node : Node) (clocks : Clocks) (e : Equation) (q : ℕ) (fs : List Finding) → Agrees (now (env .entry)) names clocks → PortMarks (now (ports .entry)) names node → grammar.equation names (tokens (now (tags .entry)) (now (values .entry))) at ≡ got e q → FindingsHeld (now (table .entry)) n fs → Checked (now (table .exit)) r q (fs ++ checkEquation node clocks equation (record { clock = valueOf c; equation = e }))) ⌝ }
 {
-    let left = grammar::read_count(tags, values, 3, 1, 8, at);
+    let left = grammar::read_count(tags, values, 3, 1, MOST_LEFT, at);
     match left {
         Counted::Count(k, first) => {
             let w = check_left(

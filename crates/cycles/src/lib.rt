@@ -1,6 +1,8 @@
 // Refusal 7, a type that reaches itself: document 01, "Checking".
 // At most 32 definitions; a set of them is a byte for each, 1 for those in it. Byte 32 * i + j of the table `go` is 1 where
 // the name of definition i goes on to that of definition j.
+use definitions::ARRAY_LEVELS;
+use definitions::MOST_TYPES;
 use definitions::TypeToken;
 use grammar::Read;
 use grammar::TypeHead;
@@ -20,16 +22,19 @@ ghost use Rattle.definitions.specs.Types.{target, goesOn, reached, firstCycle};
 ghost use Rattle.typedefs.specs.Table.{Table, Named, nameAt};
 ghost use Rattle.cycles.specs.Edges.{bit, Marked, MarkedBody, MarkedName, Edges, Own, joined, inside, Acyclic};
 
+// The bytes of a table with one for each two definitions.
+pub const TYPE_PAIRS: usize = MOST_TYPES * MOST_TYPES;
+
 // A set of definitions, and whether each name that was marked is that of one.
 struct Marks {
-    set: [u8; 32],
+    set: [u8; MOST_TYPES],
     known: bool,
 }
 
 // The table `go`, and a byte for each definition's name: 1 where it has a default as soon as all that it goes on to have one.
 pub struct Graph {
-    pub go: [u8; 1024],
-    pub own: [u8; 32],
+    pub go: [u8; TYPE_PAIRS],
+    pub own: [u8; MOST_TYPES],
 }
 
 // A byte of a set to which the definitions of a name are added: for one that is called so.
@@ -40,11 +45,17 @@ fn marked(called: u32, byte: u8, x: u32) -> u8
 }
 
 // A set and the definitions of one more name.
-fn mark_name(values: &[u32], places: &[usize; 32], n: usize, set: &[u8; 32], x: u32) -> [u8; 32]
+fn mark_name(
+    values: &[u32],
+    places: &[usize; MOST_TYPES],
+    n: usize,
+    set: &[u8; MOST_TYPES],
+    x: u32,
+) -> [u8; MOST_TYPES]
     requires { ⌜ n ≤ 32 ⌝ }
     ensures { λ r. ⌜ ((j : ℕ) → j < n → getD r j 0 ≡ choose (eqb (getD (now (values .entry)) (getD (now (places .entry)) j 0) 0) x) 1 (getD (now (set .entry)) j 0)) ⌝ }
 {
-    let mut more = [0u8; 32];
+    let mut more = [0u8; MOST_TYPES];
     let mut j: usize = 0;
     while j < n {
         let called = typedefs::value_at(values, places[j]);
@@ -55,7 +66,7 @@ fn mark_name(values: &[u32], places: &[usize; 32], n: usize, set: &[u8; 32], x: 
 }
 
 // Marks and one more name.
-fn add_name(values: &[u32], places: &[usize; 32], n: usize, marks: Marks, x: u32) -> Marks
+fn add_name(values: &[u32], places: &[usize; MOST_TYPES], n: usize, marks: Marks, x: u32) -> Marks
     requires { ⌜ n ≤ 32 ⌝ }
     ensures { λ r. ⌜ ((types : List TypeDef) (xs : List ℕ) → Named (now (values .entry)) (now (places .entry)) n types → Marked types n marks xs → Marked types n r (xs ++ (x ∷ []))) ⌝ }
 {
@@ -80,7 +91,7 @@ fn mark_type(
     tags: &[u8],
     values: &[u32],
     names: u32,
-    places: &[usize; 32],
+    places: &[usize; MOST_TYPES],
     n: usize,
     marks: Marks,
     depth: u32,
@@ -110,7 +121,7 @@ fn mark_fields(
     tags: &[u8],
     values: &[u32],
     names: u32,
-    places: &[usize; 32],
+    places: &[usize; MOST_TYPES],
     n: usize,
     marks: Marks,
     left: u32,
@@ -127,8 +138,8 @@ fn mark_fields(
     match label {
         Read::Refused(_) => marks,
         Read::Next(first) => {
-            let more = mark_type(tags, values, names, places, n, marks, 8, first);
-            let rest = grammar::read_type(tags, values, names, 8, first);
+            let more = mark_type(tags, values, names, places, n, marks, ARRAY_LEVELS, first);
+            let rest = grammar::read_type(tags, values, names, ARRAY_LEVELS, first);
             match rest {
                 Read::Refused(_) => more,
                 Read::Next(next) => mark_fields(
@@ -151,7 +162,7 @@ fn mark_definition(
     tags: &[u8],
     values: &[u32],
     names: u32,
-    places: &[usize; 32],
+    places: &[usize; MOST_TYPES],
     n: usize,
     at: usize,
 ) -> Marks
@@ -159,7 +170,7 @@ fn mark_definition(
     requires { ⌜ n ≤ 32 ⌝ }
     ensures { λ r. ⌜ ((types : List TypeDef) (d : TypeDef) (q : ℕ) → Named (now (values .entry)) (now (places .entry)) n types → typeDef names (tokens (now (tags .entry)) (now (values .entry))) at ≡ got d q → MarkedBody types n r (d .body)) ⌝ }
 {
-    let none = [0u8; 32];
+    let none = [0u8; MOST_TYPES];
     let start = Marks {
         set: none,
         known: true,
@@ -176,7 +187,16 @@ fn mark_definition(
         Defined::Record(_, count, first) => {
             mark_fields(tags, values, names, places, n, start, count, first)
         }
-        Defined::Alias(_, first) => mark_type(tags, values, names, places, n, start, 8, first),
+        Defined::Alias(_, first) => mark_type(
+            tags,
+            values,
+            names,
+            places,
+            n,
+            start,
+            ARRAY_LEVELS,
+            first,
+        ),
         Defined::Nothing => start,
     }
 }
@@ -186,7 +206,7 @@ fn goes_on(
     tags: &[u8],
     values: &[u32],
     names: u32,
-    places: &[usize; 32],
+    places: &[usize; MOST_TYPES],
     n: usize,
     i: usize,
 ) -> Marks
@@ -194,7 +214,7 @@ fn goes_on(
     requires { ⌜ (n ≤ 32) × (i < n) ⌝ }
     ensures { λ r. ⌜ ((types : List TypeDef) → Table names (tokens (now (tags .entry)) (now (values .entry))) (now (places .entry)) n types → MarkedName types n r (nameAt types i)) ⌝ }
 {
-    let none = [0u8; 32];
+    let none = [0u8; MOST_TYPES];
     let x = typedefs::value_at(values, places[i]);
     let k = typedefs::find_definition(values, places, n, x);
     if n <= k {
@@ -214,27 +234,33 @@ fn byte_of(b: bool) -> u8
 }
 
 // Row i of the table becomes this set of n definitions; the rows before it stay.
-fn put_row(go: &mut [u8], set: &[u8; 32], n: usize, i: usize)
+fn put_row(go: &mut [u8], set: &[u8; MOST_TYPES], n: usize, i: usize)
     requires { ⌜ (n ≤ 32) × (32 * i + 32 ≤ length (now go)) ⌝ }
     ensures { λ _. ⌜ length (now (go .exit)) ≡ length (now (go .entry)) ⌝ }
     ensures { λ _. ⌜ ((m : ℕ) → m < 32 * i → getD (now (go .exit)) m 0 ≡ getD (now (go .entry)) m 0) × ((j : ℕ) → j < n → getD (now (go .exit)) (32 * i + j) 0 ≡ getD (now (set .entry)) j 0) ⌝ }
 {
     let mut j: usize = 0;
     while j < n {
-        go[32 * i + j] = set[j];
+        go[MOST_TYPES * i + j] = set[j];
         j += 1;
     }
 }
 
 // Which definition's name goes on to which, and which have a default as soon as all these have one.
-pub fn edges(tags: &[u8], values: &[u32], names: u32, places: &[usize; 32], n: usize) -> Graph
+pub fn edges(
+    tags: &[u8],
+    values: &[u32],
+    names: u32,
+    places: &[usize; MOST_TYPES],
+    n: usize,
+) -> Graph
     requires { ⌜ length (now values) ≡ length (now tags) ⌝ }
     requires { ⌜ n ≤ 32 ⌝ }
     ensures { λ r. ⌜ ((types : List TypeDef) → Table names (tokens (now (tags .entry)) (now (values .entry))) (now (places .entry)) n types → Edges types n (r .go)) ⌝ }
     ensures { λ r. ⌜ ((types : List TypeDef) → Table names (tokens (now (tags .entry)) (now (values .entry))) (now (places .entry)) n types → Own types n (r .own)) ⌝ }
 {
-    let mut go = [0u8; 1024];
-    let mut own = [0u8; 32];
+    let mut go = [0u8; TYPE_PAIRS];
+    let mut own = [0u8; MOST_TYPES];
     let mut i: usize = 0;
     while i < n {
         let marks = goes_on(tags, values, names, places, n, i);
@@ -248,14 +274,14 @@ pub fn edges(tags: &[u8], values: &[u32], names: u32, places: &[usize; 32], n: u
 }
 
 // Does one of the first n of a set go on to j?
-fn joins(go: &[u8; 1024], set: &[u8; 32], n: usize, j: usize) -> bool
+fn joins(go: &[u8; TYPE_PAIRS], set: &[u8; MOST_TYPES], n: usize, j: usize) -> bool
     requires { ⌜ (n ≤ 32) × (j < 32) ⌝ }
     ensures { λ r. ⌜ r ≡ joined (now (go .entry)) (now (set .entry)) j n ⌝ }
 {
     let mut i: usize = 0;
     while i < n {
         if set[i] == 1 {
-            if go[32 * i + j] == 1 {
+            if go[MOST_TYPES * i + j] == 1 {
                 return true;
             }
         }
@@ -265,7 +291,7 @@ fn joins(go: &[u8; 1024], set: &[u8; 32], n: usize, j: usize) -> bool
 }
 
 // Is j in a set, or does one of the set go on to it? A byte.
-fn reached_byte(go: &[u8; 1024], set: &[u8; 32], n: usize, j: usize) -> u8
+fn reached_byte(go: &[u8; TYPE_PAIRS], set: &[u8; MOST_TYPES], n: usize, j: usize) -> u8
     requires { ⌜ (n ≤ 32) × (j < 32) ⌝ }
     ensures { λ r. ⌜ r ≡ bit (eqb (getD (now (set .entry)) j 0) 1 || joined (now (go .entry)) (now (set .entry)) j n) ⌝ }
 {
@@ -276,11 +302,11 @@ fn reached_byte(go: &[u8; 1024], set: &[u8; 32], n: usize, j: usize) -> u8
 }
 
 // Of n definitions, those in a set, and those that these go on to.
-fn step(go: &[u8; 1024], set: &[u8; 32], n: usize) -> [u8; 32]
+fn step(go: &[u8; TYPE_PAIRS], set: &[u8; MOST_TYPES], n: usize) -> [u8; MOST_TYPES]
     requires { ⌜ n ≤ 32 ⌝ }
     ensures { λ r. ⌜ ((j : ℕ) → j < n → getD r j 0 ≡ bit (eqb (getD (now (set .entry)) j 0) 1 || joined (now (go .entry)) (now (set .entry)) j n)) ⌝ }
 {
-    let mut more = [0u8; 32];
+    let mut more = [0u8; MOST_TYPES];
     let mut j: usize = 0;
     while j < n {
         more[j] = reached_byte(go, set, n, j);
@@ -290,21 +316,21 @@ fn step(go: &[u8; 1024], set: &[u8; 32], n: usize) -> [u8; 32]
 }
 
 // The definitions that definition i goes on to.
-fn row(go: &[u8; 1024], n: usize, i: usize) -> [u8; 32]
+fn row(go: &[u8; TYPE_PAIRS], n: usize, i: usize) -> [u8; MOST_TYPES]
     requires { ⌜ (n ≤ 32) × (i < n) ⌝ }
     ensures { λ r. ⌜ ((j : ℕ) → j < n → getD r j 0 ≡ getD (now (go .entry)) (32 * i + j) 0) ⌝ }
 {
-    let mut set = [0u8; 32];
+    let mut set = [0u8; MOST_TYPES];
     let mut j: usize = 0;
     while j < n {
-        set[j] = go[32 * i + j];
+        set[j] = go[MOST_TYPES * i + j];
         j += 1;
     }
     set
 }
 
 // Does definition i reach its own name in as many steps as there are definitions?
-fn reaches_itself(go: &[u8; 1024], n: usize, i: usize) -> bool
+fn reaches_itself(go: &[u8; TYPE_PAIRS], n: usize, i: usize) -> bool
     requires { ⌜ (n ≤ 32) × (i < n) ⌝ }
     ensures { λ r. ⌜ ((types : List TypeDef) → length types ≡ n → Edges types n (now (go .entry)) → r ≡ among (nameAt types i) (reached types n (goesOn types (nameAt types i)))) ⌝ }
 {
@@ -319,13 +345,13 @@ fn reaches_itself(go: &[u8; 1024], n: usize, i: usize) -> bool
 }
 
 // Are all that definition i goes on to in a set?
-pub fn within(go: &[u8; 1024], set: &[u8; 32], n: usize, i: usize) -> bool
+pub fn within(go: &[u8; TYPE_PAIRS], set: &[u8; MOST_TYPES], n: usize, i: usize) -> bool
     requires { ⌜ (n ≤ 32) × (i < 32) ⌝ }
     ensures { λ r. ⌜ r ≡ inside (now (go .entry)) (now (set .entry)) i n ⌝ }
 {
     let mut j: usize = 0;
     while j < n {
-        if go[32 * i + j] == 1 {
+        if go[MOST_TYPES * i + j] == 1 {
             if set[j] != 1 {
                 return false;
             }
@@ -336,7 +362,7 @@ pub fn within(go: &[u8; 1024], set: &[u8; 32], n: usize, i: usize) -> bool
 }
 
 // A set, and definition i too if all that it goes on to are in the set.
-fn settle_one(go: &[u8; 1024], set: [u8; 32], n: usize, i: usize) -> [u8; 32]
+fn settle_one(go: &[u8; TYPE_PAIRS], set: [u8; MOST_TYPES], n: usize, i: usize) -> [u8; MOST_TYPES]
     requires { ⌜ (n ≤ 32) × (i < n) ⌝ }
     ensures { λ r. ⌜ ((types : List TypeDef) → length types ≡ n → Edges types n (now (go .entry)) → Acyclic types n (now (go .entry)) set → Acyclic types n (now (go .entry)) r) ⌝ }
 {
@@ -348,7 +374,7 @@ fn settle_one(go: &[u8; 1024], set: [u8; 32], n: usize, i: usize) -> [u8; 32]
 }
 
 // The same of each definition, the last first: mostly a type is defined before those that it is made of.
-fn settle_each(go: &[u8; 1024], set: [u8; 32], n: usize) -> [u8; 32]
+fn settle_each(go: &[u8; TYPE_PAIRS], set: [u8; MOST_TYPES], n: usize) -> [u8; MOST_TYPES]
     requires { ⌜ n ≤ 32 ⌝ }
     ensures { λ r. ⌜ ((types : List TypeDef) → length types ≡ n → Edges types n (now (go .entry)) → Acyclic types n (now (go .entry)) set → Acyclic types n (now (go .entry)) r) ⌝ }
 {
@@ -363,7 +389,7 @@ fn settle_each(go: &[u8; 1024], set: [u8; 32], n: usize) -> [u8; 32]
 }
 
 // Are all n definitions in a set?
-fn all_in(set: &[u8; 32], n: usize) -> bool
+fn all_in(set: &[u8; MOST_TYPES], n: usize) -> bool
     requires { ⌜ n ≤ 32 ⌝ }
     ensures { λ r. ⌜ (r ≡ true → (i : ℕ) → i < n → getD (now (set .entry)) i 0 ≡ 1) ⌝ }
 {
@@ -378,11 +404,11 @@ fn all_in(set: &[u8; 32], n: usize) -> bool
 }
 
 // Can all definitions be put in an order in which each goes on to earlier ones alone? Then none reaches itself.
-fn settles(go: &[u8; 1024], n: usize) -> bool
+fn settles(go: &[u8; TYPE_PAIRS], n: usize) -> bool
     requires { ⌜ n ≤ 32 ⌝ }
     ensures { λ r. ⌜ (r ≡ true → (types : List TypeDef) → length types ≡ n → Edges types n (now (go .entry)) → n ≡ firstCycle types [] types) ⌝ }
 {
-    let mut set = [0u8; 32];
+    let mut set = [0u8; MOST_TYPES];
     let mut k: usize = 0;
     while k < n {
         let more = settle_each(go, set, n);
@@ -396,7 +422,12 @@ fn settles(go: &[u8; 1024], n: usize) -> bool
 }
 
 // The first definition from this table that reaches itself, found definition by definition; n, where none does.
-fn search_cycle(values: &[u32], places: &[usize; 32], n: usize, go: &[u8; 1024]) -> usize
+fn search_cycle(
+    values: &[u32],
+    places: &[usize; MOST_TYPES],
+    n: usize,
+    go: &[u8; TYPE_PAIRS],
+) -> usize
     requires { ⌜ n ≤ 32 ⌝ }
     ensures { λ r. ⌜ ((types : List TypeDef) → Named (now (values .entry)) (now (places .entry)) n types → Edges types n (now (go .entry)) → r ≡ firstCycle types [] types) ⌝ }
 {
@@ -415,7 +446,13 @@ fn search_cycle(values: &[u32], places: &[usize; 32], n: usize, go: &[u8; 1024])
 }
 
 // The place of the first definition that reaches itself; n, where none does. One that is not the first of its name is passed over.
-pub fn first_cycle(tags: &[u8], values: &[u32], names: u32, places: &[usize; 32], n: usize) -> usize
+pub fn first_cycle(
+    tags: &[u8],
+    values: &[u32],
+    names: u32,
+    places: &[usize; MOST_TYPES],
+    n: usize,
+) -> usize
     requires { ⌜ length (now values) ≡ length (now tags) ⌝ }
     requires { ⌜ n ≤ 32 ⌝ }
     ensures { λ r. ⌜ ((types : List TypeDef) → Table names (tokens (now (tags .entry)) (now (values .entry))) (now (places .entry)) n types → r ≡ firstCycle types [] types) ⌝ }

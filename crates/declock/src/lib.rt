@@ -5,6 +5,7 @@
 // `otags` and `ovalues` are the output's tokens, of which w are written.
 use definitions::MOST_NAMES;
 use definitions::MOST_NODES;
+use definitions::MOST_TYPES;
 use definitions::Token;
 use definitions::WORKING_TOKENS;
 use layout::NodeLayout;
@@ -26,12 +27,8 @@ ghost use Rattle.openings.specs.Shown.{isTree, told};
 ghost use Rattle.declock.specs.Parts.{frontTokens, bodyTokens};
 ghost use Rattle.declock.specs.Ready.{NodeReady, needsIn, yieldIn};
 
-fn narrow(x: usize) -> u32
-    requires { ⌜ x ≤ 65535 ⌝ }
-    ensures { λ r. ⌜ r ≡ x ⌝ }
-{
-    x as u32
-}
+// The most names, as a word.
+const NAMES: u32 = MOST_NAMES as u32;
 
 // How many new locals there are, and so many more.
 fn count_of(l: Locals, more: u32) -> u32
@@ -46,10 +43,10 @@ fn count_of(l: Locals, more: u32) -> u32
     if MOST_NAMES < l.holds {
         return 0;
     }
-    if 1024 < more {
+    if NAMES < more {
         return 0;
     }
-    narrow(l.flags + l.firsts + l.holds) + more
+    widths::narrow(l.flags + l.firsts + l.holds) + more
 }
 
 // The declarations of the holds, or their equations; where there are none, no equation is gone over.
@@ -57,7 +54,7 @@ fn put_holds(
     tags: &[u8],
     values: &[u32],
     places: &[usize; MOST_NODES],
-    type_places: &[usize; 32],
+    type_places: &[usize; MOST_TYPES],
     flags: &[u32],
     firsts: &[u32],
     flag_ids: &[u32],
@@ -106,7 +103,7 @@ fn put_declared(
     tags: &[u8],
     values: &[u32],
     places: &[usize; MOST_NODES],
-    type_places: &[usize; 32],
+    type_places: &[usize; MOST_TYPES],
     flags: &[u32],
     firsts: &[u32],
     flag_order: &[u32],
@@ -161,7 +158,7 @@ fn put_body(
     tags: &[u8],
     values: &[u32],
     places: &[usize; MOST_NODES],
-    type_places: &[usize; 32],
+    type_places: &[usize; MOST_TYPES],
     flags: &[u32],
     firsts: &[u32],
     flag_order: &[u32],
@@ -249,7 +246,7 @@ pub fn declock_node(
     tags: &[u8],
     values: &[u32],
     places: &[usize; MOST_NODES],
-    type_places: &[usize; 32],
+    type_places: &[usize; MOST_TYPES],
     flags: &[u32],
     firsts: &[u32],
     flag_order: &[u32],

@@ -12,12 +12,6 @@ ghost use Rattle.definitions.specs.Answer.{rewriteAnswer, clocksAnswer, textAns
 ghost use Rattle.runs.specs.Demand.{DemandThreeAt};
 ghost use Rattle.declock_library.specs.Numbers.{BytesTold, RewritingTold, ClocksTold, listingNumber, listingPlace, rewriteNumber, rewritePlace, rewriteCount, clocksNumber, clocksPlace, clocksCounts};
 
-fn wide(x: u32) -> usize
-    ensures { λ r. ⌜ r ≡ x ⌝ }
-{
-    x as usize
-}
-
 // The number of a listing's answer; its place is stored.
 fn tell_listing(a: ListingAnswer, place: &mut usize) -> u32
     ensures { λ n. ⌜ (n ≡ listingNumber a) × (now (place .exit) ≡ listingPlace a) ⌝ }
@@ -58,7 +52,7 @@ fn tell_clocks(a: ClocksAnswer, counts: &mut [usize; 5], place: &mut usize) -> u
 {
     match a {
         ClocksAnswer::Clocks(c) => {
-            counts[0] = wide(c.name);
+            counts[0] = widths::wide(c.name);
             counts[1] = c.passes;
             counts[2] = c.equations;
             counts[3] = c.chains;

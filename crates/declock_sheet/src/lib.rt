@@ -3,8 +3,10 @@
 // where the sheet's nodes and type definitions stand. `otags` and `ovalues` are the output's tokens, of which w are written.
 // `env`, `flags` and `firsts` are working tables, lent so that they are made once.
 use definitions::CLOCK_TABLE;
+use definitions::MOST_LETTERS;
 use definitions::MOST_NAMES;
 use definitions::MOST_NODES;
+use definitions::MOST_TYPES;
 use definitions::WORKING_TOKENS;
 use fresh::Counts;
 use layout::NodeLayout;
@@ -34,20 +36,14 @@ ghost use Rattle.node_tables.specs.Filled.{Filled};
 ghost use Rattle.output_names.specs.Faultless.{Faultless};
 ghost use Rattle.declock_sheet.specs.Clocked.{FaultlessNode};
 
-fn wide(x: u32) -> usize
-    ensures { λ r. ⌜ r ≡ x ⌝ }
-{
-    x as usize
-}
-
 // A node whose tables are filled, rewritten: its new names have their ids among the output's.
 fn put_filled(
     tags: &[u8],
     values: &[u32],
     places: &[usize; MOST_NODES],
-    type_places: &[usize; 32],
+    type_places: &[usize; MOST_TYPES],
     lengths: &[u8; MOST_NAMES],
-    text: &[u8; 16384],
+    text: &[u8; MOST_LETTERS],
     c: Counts,
     env: &[u32; CLOCK_TABLE],
     flags: &[u32; CLOCK_TABLE],
@@ -140,9 +136,9 @@ fn put_clocked(
     tags: &[u8],
     values: &[u32],
     places: &[usize; MOST_NODES],
-    type_places: &[usize; 32],
+    type_places: &[usize; MOST_TYPES],
     lengths: &[u8; MOST_NAMES],
-    text: &[u8; 16384],
+    text: &[u8; MOST_LETTERS],
     c: Counts,
     env: &[u32; CLOCK_TABLE],
     flags: &mut [u32; CLOCK_TABLE],
@@ -217,9 +213,9 @@ fn put_node(
     tags: &[u8],
     values: &[u32],
     places: &[usize; MOST_NODES],
-    type_places: &[usize; 32],
+    type_places: &[usize; MOST_TYPES],
     lengths: &[u8; MOST_NAMES],
-    text: &[u8; 16384],
+    text: &[u8; MOST_LETTERS],
     c: Counts,
     env: &mut [u32; CLOCK_TABLE],
     flags: &mut [u32; CLOCK_TABLE],
@@ -275,7 +271,7 @@ pub fn declock_sheet(
     values: &[u32],
     names: u32,
     lengths: &[u8; MOST_NAMES],
-    text: &[u8; 16384],
+    text: &[u8; MOST_LETTERS],
     c: Counts,
     env: &mut [u32; CLOCK_TABLE],
     flags: &mut [u32; CLOCK_TABLE],
@@ -290,8 +286,8 @@ pub fn declock_sheet(
     let whole = layout::sheet_at(tags, values, names);
     let types = whole.types;
     let span = whole.nodes;
-    let n = wide(span.count);
-    let m = wide(types.count);
+    let n = widths::wide(span.count);
+    let m = widths::wide(types.count);
     if MOST_NODES < n {
         return 0;
     }

@@ -1,8 +1,11 @@
 // Defaults of types: document 01, "A default is built by going down the type." Whether a type has one is found once for each definition; then it is written.
 // `tags` and `values` are a sheet's tokens, `names` the number of its names; `places` are those of its n definitions;
 // byte i of `has` says whether definition i has a default; `go` and `own` are the tables of crate `cycles`.
+use cycles::TYPE_PAIRS;
+use definitions::ARRAY_LEVELS;
 use definitions::ExprToken;
 use definitions::Literal;
+use definitions::MOST_TYPES;
 use definitions::Primitive;
 use definitions::Token;
 use definitions::TypeToken;
@@ -41,7 +44,13 @@ enum Plain {
 }
 
 // Has the type of this name a default?
-fn named_has(values: &[u32], places: &[usize; 32], n: usize, has: &[u8; 32], x: u32) -> bool
+fn named_has(
+    values: &[u32],
+    places: &[usize; MOST_TYPES],
+    n: usize,
+    has: &[u8; MOST_TYPES],
+    x: u32,
+) -> bool
     requires { ⌜ n ≤ 32 ⌝ }
     ensures { λ r. ⌜ ((types : List TypeDef) → Named (now (values .entry)) (now (places .entry)) n types → DefaultsKnown types n n (now (has .entry)) → r ≡ isSome (defaultNamed types n x)) ⌝ }
 {
@@ -57,9 +66,9 @@ fn type_has(
     tags: &[u8],
     values: &[u32],
     names: u32,
-    places: &[usize; 32],
+    places: &[usize; MOST_TYPES],
     n: usize,
-    has: &[u8; 32],
+    has: &[u8; MOST_TYPES],
     depth: u32,
     at: usize,
 ) -> bool
@@ -83,7 +92,13 @@ fn type_has(
 }
 
 // Has the name of definition i a default, one definition further down? A byte.
-fn has_byte(go: &[u8; 1024], own: &[u8; 32], n: usize, has: &[u8; 32], i: usize) -> u8
+fn has_byte(
+    go: &[u8; TYPE_PAIRS],
+    own: &[u8; MOST_TYPES],
+    n: usize,
+    has: &[u8; MOST_TYPES],
+    i: usize,
+) -> u8
     requires { ⌜ (n ≤ 32) × (i < 32) ⌝ }
     ensures { λ r. ⌜ r ≡ bit (eqb (getD (now (own .entry)) i 0) 1 && inside (now (go .entry)) (now (has .entry)) i n) ⌝ }
 {
@@ -94,11 +109,16 @@ fn has_byte(go: &[u8; 1024], own: &[u8; 32], n: usize, has: &[u8; 32], i: usize)
 }
 
 // Which definitions have a default, one definition further down.
-fn has_round(go: &[u8; 1024], own: &[u8; 32], n: usize, has: &[u8; 32]) -> [u8; 32]
+fn has_round(
+    go: &[u8; TYPE_PAIRS],
+    own: &[u8; MOST_TYPES],
+    n: usize,
+    has: &[u8; MOST_TYPES],
+) -> [u8; MOST_TYPES]
     requires { ⌜ n ≤ 32 ⌝ }
     ensures { λ r. ⌜ ((i : ℕ) → i < n → getD r i 0 ≡ bit (eqb (getD (now (own .entry)) i 0) 1 && inside (now (go .entry)) (now (has .entry)) i n)) ⌝ }
 {
-    let mut more = [0u8; 32];
+    let mut more = [0u8; MOST_TYPES];
     let mut i: usize = 0;
     while i < n {
         more[i] = has_byte(go, own, n, has, i);
@@ -108,7 +128,7 @@ fn has_round(go: &[u8; 1024], own: &[u8; 32], n: usize, has: &[u8; 32]) -> [u8; 
 }
 
 // Are the first n bytes the same?
-fn same_bytes(has: &[u8; 32], more: &[u8; 32], n: usize) -> bool
+fn same_bytes(has: &[u8; MOST_TYPES], more: &[u8; MOST_TYPES], n: usize) -> bool
     requires { ⌜ n ≤ 32 ⌝ }
     ensures { λ r. ⌜ r ≡ alike (now (has .entry)) (now (more .entry)) n ⌝ }
 {
@@ -127,9 +147,9 @@ pub fn has_defaults(
     tags: &[u8],
     values: &[u32],
     names: u32,
-    places: &[usize; 32],
+    places: &[usize; MOST_TYPES],
     n: usize,
-) -> [u8; 32]
+) -> [u8; MOST_TYPES]
     requires { ⌜ length (now values) ≡ length (now tags) ⌝ }
     requires { ⌜ n ≤ 32 ⌝ }
     ensures { λ r. ⌜ ((types : List TypeDef) → Table names (tokens (now (tags .entry)) (now (values .entry))) (now (places .entry)) n types → DefaultsKnown types n n r) ⌝ }
@@ -137,7 +157,7 @@ pub fn has_defaults(
     let graph = cycles::edges(tags, values, names, places, n);
     let go = graph.go;
     let own = graph.own;
-    let mut has = [0u8; 32];
+    let mut has = [0u8; MOST_TYPES];
     let mut k: usize = 0;
     while k < n {
         let more = has_round(&go, &own, n, &has);
@@ -246,7 +266,7 @@ fn emit_type(
     tags: &[u8],
     values: &[u32],
     names: u32,
-    places: &[usize; 32],
+    places: &[usize; MOST_TYPES],
     n: usize,
     depth: u32,
     at: usize,
@@ -298,7 +318,7 @@ fn emit_array(
     tags: &[u8],
     values: &[u32],
     names: u32,
-    places: &[usize; 32],
+    places: &[usize; MOST_TYPES],
     n: usize,
     depth: u32,
     at: usize,
@@ -342,7 +362,7 @@ fn emit_copies(
     tags: &[u8],
     values: &[u32],
     names: u32,
-    places: &[usize; 32],
+    places: &[usize; MOST_TYPES],
     n: usize,
     depth: u32,
     at: usize,
@@ -398,7 +418,7 @@ fn emit_named(
     tags: &[u8],
     values: &[u32],
     names: u32,
-    places: &[usize; 32],
+    places: &[usize; MOST_TYPES],
     n: usize,
     depth: u32,
     x: u32,
@@ -423,7 +443,7 @@ fn emit_definition(
     tags: &[u8],
     values: &[u32],
     names: u32,
-    places: &[usize; 32],
+    places: &[usize; MOST_TYPES],
     n: usize,
     depth: u32,
     at: usize,
@@ -475,7 +495,7 @@ fn emit_fields(
     tags: &[u8],
     values: &[u32],
     names: u32,
-    places: &[usize; 32],
+    places: &[usize; MOST_TYPES],
     n: usize,
     depth: u32,
     left: u32,
@@ -498,7 +518,7 @@ fn emit_fields(
     match label {
         Read::Refused(_) => w,
         Read::Next(first) => {
-            let rest = grammar::read_type(tags, values, names, 8, first);
+            let rest = grammar::read_type(tags, values, names, ARRAY_LEVELS, first);
             match rest {
                 Read::Refused(_) => w,
                 Read::Next(next) => {
@@ -540,7 +560,7 @@ pub fn emit_default(
     tags: &[u8],
     values: &[u32],
     names: u32,
-    places: &[usize; 32],
+    places: &[usize; MOST_TYPES],
     n: usize,
     at: usize,
     otags: &mut [u8; WORKING_TOKENS],
@@ -570,14 +590,14 @@ pub fn type_has_default(
     tags: &[u8],
     values: &[u32],
     names: u32,
-    places: &[usize; 32],
+    places: &[usize; MOST_TYPES],
     n: usize,
-    has: &[u8; 32],
+    has: &[u8; MOST_TYPES],
     at: usize,
 ) -> bool
     requires { ⌜ length (now values) ≡ length (now tags) ⌝ }
     requires { ⌜ n ≤ 32 ⌝ }
     ensures { λ r. ⌜ ((types : List TypeDef) (t : Ty) (q : ℕ) → Table names (tokens (now (tags .entry)) (now (values .entry))) (now (places .entry)) n types → DefaultsKnown types n n (now (has .entry)) → ty names 8 (tokens (now (tags .entry)) (now (values .entry))) at ≡ got t q → r ≡ isSome (default types t)) ⌝ }
 {
-    type_has(tags, values, names, places, n, has, 8, at)
+    type_has(tags, values, names, places, n, has, ARRAY_LEVELS, at)
 }

@@ -4,8 +4,30 @@
 // Limits of document 01, and the sizes of the tables that follow from them.
 // "Limits: M 1,024"
 pub const MOST_NAMES: usize = 1024;
-// "16 nodes"
+// "a name 1 to 32 letters"
+pub const NAME_LETTERS: usize = 32;
+// "L 16,384"
+pub const MOST_LETTERS: usize = 16384;
+// "T 2 to 4,096"
+pub const MOST_TOKENS: usize = 4096;
+// "32 types, 16 nodes"
+pub const MOST_TYPES: usize = 32;
+
 pub const MOST_NODES: usize = 16;
+// "a node 64 equations and 128 declared names in all"
+pub const MOST_EQUATIONS: usize = 64;
+
+pub const MOST_DECLARED: usize = 128;
+// "1 to 8 left names; other counts 64"
+pub const MOST_LEFT: u32 = 8;
+
+pub const MOST_ITEMS: u32 = 64;
+// "array length 256; array types nested 8; expressions 32 deep"
+pub const ARRAY_LENGTH: u32 = 256;
+
+pub const ARRAY_LEVELS: u32 = 8;
+
+pub const EXPRESSION_LEVELS: u32 = 32;
 // "tokens go into working arrays of 8,192"
 pub const WORKING_TOKENS: usize = 8192;
 // A table of a clock for each name: seventeen words a clock (crate `flat`).
@@ -16,7 +38,9 @@ pub const FINDING_TABLE: usize = 155648;
 pub const CHAIN_TABLE: usize = 69632;
 // A table of a fault record for each token: three words a record.
 pub const FAULT_TABLE: usize = 12288;
-// The same tables for sheets of at most 256 names and tokens.
+// A small sheet has at most so many names and tokens, and smaller tables.
+pub const SMALL_TOKENS: usize = 256;
+
 pub const SMALL_CLOCK_TABLE: usize = 4352;
 
 pub const SMALL_FINDING_TABLE: usize = 9728;

@@ -22,7 +22,7 @@ fn put(
 ) -> usize
     ensures { λ r. ⌜ out (now (otags .exit)) (now (ovalues .exit)) r ≡ puts (out (now (otags .entry)) (now (ovalues .entry)) at) (tagValue tag value ∷ []) ⌝ }
 {
-    if at < 8192 {
+    if at < WORKING_TOKENS {
         otags[at] = tag;
         ovalues[at] = value;
         at + 1

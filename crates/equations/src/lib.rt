@@ -5,6 +5,7 @@
 // `ovalues` are the output's tokens, of which w are written.
 use clock::Clock;
 use definitions::MOST_NODES;
+use definitions::MOST_TYPES;
 use definitions::WORKING_TOKENS;
 use expressions::WrittenTo;
 use layout::NodeLayout;
@@ -58,7 +59,7 @@ fn right(
     tags: &[u8],
     values: &[u32],
     places: &[usize; MOST_NODES],
-    type_places: &[usize; 32],
+    type_places: &[usize; MOST_TYPES],
     flags: &[u32],
     firsts: &[u32],
     flag_ids: &[u32],
@@ -131,7 +132,7 @@ fn one_equation(
     tags: &[u8],
     values: &[u32],
     places: &[usize; MOST_NODES],
-    type_places: &[usize; 32],
+    type_places: &[usize; MOST_TYPES],
     flags: &[u32],
     firsts: &[u32],
     flag_ids: &[u32],
@@ -184,7 +185,7 @@ pub fn old_equations(
     tags: &[u8],
     values: &[u32],
     places: &[usize; MOST_NODES],
-    type_places: &[usize; 32],
+    type_places: &[usize; MOST_TYPES],
     flags: &[u32],
     firsts: &[u32],
     flag_ids: &[u32],

@@ -6,6 +6,7 @@
 use clock::Clock;
 use definitions::ExprToken;
 use definitions::MOST_NODES;
+use definitions::MOST_TYPES;
 use definitions::Token;
 use definitions::WORKING_TOKENS;
 use layout::NodeLayout;
@@ -38,7 +39,7 @@ pub fn expr(
     tags: &[u8],
     values: &[u32],
     places: &[usize; MOST_NODES],
-    type_places: &[usize; 32],
+    type_places: &[usize; MOST_TYPES],
     flags: &[u32],
     firsts: &[u32],
     flag_ids: &[u32],
@@ -185,7 +186,7 @@ fn operand(
     tags: &[u8],
     values: &[u32],
     places: &[usize; MOST_NODES],
-    type_places: &[usize; 32],
+    type_places: &[usize; MOST_TYPES],
     flags: &[u32],
     firsts: &[u32],
     flag_ids: &[u32],
@@ -241,7 +242,7 @@ fn exprs(
     tags: &[u8],
     values: &[u32],
     places: &[usize; MOST_NODES],
-    type_places: &[usize; 32],
+    type_places: &[usize; MOST_TYPES],
     flags: &[u32],
     firsts: &[u32],
     flag_ids: &[u32],
@@ -323,7 +324,7 @@ fn hold(
     tags: &[u8],
     values: &[u32],
     places: &[usize; MOST_NODES],
-    type_places: &[usize; 32],
+    type_places: &[usize; MOST_TYPES],
     flags: &[u32],
     firsts: &[u32],
     flag_ids: &[u32],

@@ -2,6 +2,7 @@
 // words, three for each record, with room for 4,096 records. No fault has the number 0, which ends the records.
 use definitions::FAULT_TABLE;
 use definitions::FaultRecord;
+use definitions::MOST_TOKENS;
 ghost use mathlib.Core.Path.{_≡_};
 ghost use Prim.Native.Nat.{_<_};
 ghost use lib.ListN.{length, replicate, getD};
@@ -26,7 +27,7 @@ fn counted(words: &[u32; FAULT_TABLE]) -> usize
     ensures { λ r. ⌜ r ≡ count (now (words .entry)) ⌝ }
 {
     let mut i: usize = 0;
-    while i < 4096 {
+    while i < MOST_TOKENS {
         if words[3 * i + 1] == 0 {
             return i;
         }

@@ -3,6 +3,7 @@
 // `tags` and `values` are as long as each other. `env` and `table` are the tables that clocks and findings stand in.
 use definitions::MOST_NAMES;
 use definitions::MOST_NODES;
+use definitions::MOST_TYPES;
 use fault::Fault;
 use infer_clocks::NodeClocked;
 use layout::NodeLayout;
@@ -33,6 +34,9 @@ ghost use Rattle.rewriting_faults.specs.Met.{firstFaultOf};
 ghost use Rattle.query.specs.Standing.{Roomy};
 ghost use Rattle.first_faults.specs.Faults.{SheetTables, foundOf, faultIn, Recorded, Walks};
 
+// The most nodes, as a word.
+const NODES: u32 = MOST_NODES as u32;
+
 // A sheet: how many names it has and the id of `condact` among them, how many nodes and types' definitions; where each of these
 // stands, and for each definition 1 if it has a default.
 pub struct Tables {
@@ -41,8 +45,8 @@ pub struct Tables {
     pub nodes: usize,
     pub types: usize,
     pub places: [usize; MOST_NODES],
-    pub defs: [usize; 32],
-    pub has: [u8; 32],
+    pub defs: [usize; MOST_TYPES],
+    pub has: [u8; MOST_TYPES],
 }
 
 // Whether there is such a fault, in which equation, and which it is.
@@ -64,12 +68,6 @@ pub enum NodesWalked {
     Faulty(usize),
 }
 
-fn wide(x: u32) -> usize
-    ensures { λ r. ⌜ r ≡ x ⌝ }
-{
-    x as usize
-}
-
 // A number up to the most that there can be.
 fn at_most(x: usize, most: usize) -> usize
     ensures { λ r. ⌜ (r ≤ most) × (x ≤ most → r ≡ x) ⌝ }
@@ -82,7 +80,7 @@ fn at_most(x: usize, most: usize) -> usize
 fn word_below(x: usize, n: u32) -> u32
     ensures { λ r. ⌜ (x < n → r ≡ x) ⌝ }
 {
-    if x < wide(n) {
+    if x < widths::wide(n) {
         return x as u32;
     }
     0
@@ -97,8 +95,8 @@ pub fn tables_of(tags: &[u8], values: &[u32], names: u32, condact: u32) -> Table
     let whole = layout::sheet_at(tags, values, names);
     let t = whole.types;
     let n = whole.nodes;
-    let types = at_most(wide(t.count), 32);
-    let nodes = at_most(wide(n.count), 16);
+    let types = at_most(widths::wide(t.count), MOST_TYPES);
+    let nodes = at_most(widths::wide(n.count), MOST_NODES);
     let defs = layout::definition_places(tags, values, names, types, t.at);
     let has = defaults::has_defaults(tags, values, names, &defs, types);
     let places = layout::node_places(tags, values, names, nodes, n.at);
@@ -349,7 +347,7 @@ fn walk_nodes(
             return NodesWalked::Deep(k);
         }
         let fault = f.fault;
-        let node = word_below(k, 16);
+        let node = word_below(k, NODES);
         m = add_fault(list, m, node, fault);
         k += 1;
     }

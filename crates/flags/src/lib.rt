@@ -27,18 +27,12 @@ ghost use Rattle.stateless.specs.Locals.{activationBy, firstTickBy, flagLocals,
 ghost use Rattle.emit.specs.Out.{out, emits};
 ghost use Rattle.flags.specs.Tabled.{FlagIds};
 
-fn wide(x: u32) -> usize
-    ensures { λ r. ⌜ r ≡ x ⌝ }
-{
-    x as usize
-}
-
 // The clock in the row that `chain` names at i.
 fn row_at(rows: &[u32], chain: &[u32], i: usize) -> Clock
     ensures { λ r. ⌜ valueOf r ≡ rowOf (now (rows .entry)) (getD (now (chain .entry)) i 0) ⌝ }
 {
     let x = flat::word_at(chain, i);
-    let row = wide(x);
+    let row = widths::wide(x);
     rows::get(rows, row)
 }
 

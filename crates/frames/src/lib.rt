@@ -4,6 +4,7 @@
 use clock::Clock;
 use definitions::ExprToken;
 use definitions::MOST_NODES;
+use definitions::MOST_TYPES;
 use definitions::Token;
 use definitions::WORKING_TOKENS;
 use layout::NodeLayout;
@@ -110,7 +111,7 @@ fn put_kept(
     tags: &[u8],
     values: &[u32],
     names: u32,
-    type_places: &[usize; 32],
+    type_places: &[usize; MOST_TYPES],
     types: usize,
     node: NodeLayout,
     left: Span,
@@ -150,7 +151,7 @@ pub fn put_behind(
     tags: &[u8],
     values: &[u32],
     names: u32,
-    type_places: &[usize; 32],
+    type_places: &[usize; MOST_TYPES],
     types: usize,
     node: NodeLayout,
     mode: Mode,

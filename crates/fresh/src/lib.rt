@@ -11,6 +11,7 @@ ghost use Rattle.spelling.specs.Stems.{stemOf};
 ghost use Rattle.fresh.specs.Places.{startsFrom, lettersAt, NameSpans};
 ghost use Rattle.fresh.specs.Table.{Sound, NamesHeld, namesOf};
 ghost use Rattle.fresh.specs.Free.{isFree, nextFree, newNumbers};
+use definitions::NAME_LETTERS;
 use spelling::StemName;
 
 // Where a name's letters stand.
@@ -32,17 +33,11 @@ fn wide(x: u8) -> usize
     x as usize
 }
 
-fn wide_word(x: u32) -> usize
-    ensures { λ r. ⌜ r ≡ x ⌝ }
-{
-    x as usize
-}
-
 fn word_at(ws: &[u32], i: usize) -> usize
     ensures { λ r. ⌜ r ≡ getD (now (ws .entry)) i 0 ⌝ }
 {
     if i < ws.len() {
-        return wide_word(ws[i]);
+        return widths::wide(ws[i]);
     }
     0
 }
@@ -67,7 +62,7 @@ pub fn fill_starts(lengths: &[u8], starts: &mut [u32])
 pub fn span_of(starts: &[u32], letters: &[u8], x: u32) -> Span
     ensures { λ r. ⌜ NameSpans (now (letters .entry)) r (lettersAt (now (starts .entry)) (now (letters .entry)) x) ⌝ }
 {
-    let i = wide_word(x);
+    let i = widths::wide(x);
     let from = word_at(starts, i);
     let to = word_at(starts, i + 1);
     if from <= to {
@@ -110,7 +105,7 @@ fn is_among(starts: &[u32], letters: &[u8], ids: &[u32], name: &[u8]) -> bool
 fn is_free(starts: &[u32], letters: &[u8], ids: &[u32], stem: StemName, number: u32) -> bool
     ensures { λ r. ⌜ r ≡ isFree (map (lettersAt (now (starts .entry)) (now (letters .entry))) (now (ids .entry))) (stemOf stem) number ⌝ }
 {
-    let mut name = [0u8; 32];
+    let mut name = [0u8; NAME_LETTERS];
     let n = spelling::put_new_name(&mut name, 0, stem, number);
     !is_among(starts, letters, ids, &name[..n])
 }
@@ -170,7 +165,7 @@ pub fn find_new(lengths: &[u8], letters: &[u8], stem: StemName, number: u32) -> 
     requires { ⌜ sum (now lengths) ≤ length (now letters) ⌝ }
     ensures { λ r. ⌜ r ≡ idOf (cut (now (lengths .entry)) (now (letters .entry))) (stemLetters (stemOf stem) ++ decimal number) ⌝ }
 {
-    let mut name = [0u8; 32];
+    let mut name = [0u8; NAME_LETTERS];
     let n = spelling::put_new_name(&mut name, 0, stem, number);
     find_name(lengths, letters, &name[..n])
 }
@@ -237,7 +232,7 @@ pub fn add_new(
     requires { ⌜ Sound (now lengths) (now letters) c ⌝ }
     ensures { λ r. ⌜ ((names : List Letters) → NamesHeld (now (lengths .entry)) (now (letters .entry)) c names → NamesHeld (now (lengths .exit)) (now (letters .exit)) r (addName names (stemLetters (stemOf stem) ++ decimal number))) ⌝ }
 {
-    let mut name = [0u8; 32];
+    let mut name = [0u8; NAME_LETTERS];
     let n = spelling::put_new_name(&mut name, 0, stem, number);
     add_name(lengths, letters, c, &name[..n])
 }

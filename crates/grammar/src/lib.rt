@@ -1,8 +1,16 @@
 // Reading a sheet's tokens in their order: document 01, "The sheet", and refusals 5 and 6.
 // `tags` and `values` are as long as each other; `names` is the number of names; a reading starts at `at`.
+use definitions::ARRAY_LENGTH;
+use definitions::ARRAY_LEVELS;
 use definitions::DefinitionToken;
+use definitions::EXPRESSION_LEVELS;
 use definitions::ExprToken;
 use definitions::Literal;
+use definitions::MOST_DECLARED;
+use definitions::MOST_ITEMS;
+use definitions::MOST_LEFT;
+use definitions::MOST_NODES;
+use definitions::MOST_TYPES;
 use definitions::Refusal;
 use definitions::TypeToken;
 use reader::Step;
@@ -20,6 +28,13 @@ ghost use Rattle.definitions.specs.Grammar.{tagged, counted, high, kindAt, ty, 
 ghost use Rattle.grammar.specs.Outcome.{outcome, counts, listed, ended, exprHead, typeHead, definitionHead};
 ghost use Rattle.grammar.specs.Shape.{shapeOf, literalShape, following};
 ghost use Rattle.grammar.specs.Parts.{part, items, equations, ports, body, sheetTypes, sheetNodes};
+
+// Limits of counts.
+const TYPES: u32 = MOST_TYPES as u32;
+
+const NODES: u32 = MOST_NODES as u32;
+
+const DECLARED: u32 = MOST_DECLARED as u32;
 
 // What a reading says: the next place, or a refusal.
 pub enum Read {
@@ -239,7 +254,7 @@ pub fn read_type(tags: &[u8], values: &[u32], names: u32, depth: u32, at: usize)
             TypeToken::Array(n) => if depth == 0 {
                 Read::Refused(Refusal::Limit(at))
             } else {
-                if n <= 256 {
+                if n <= ARRAY_LENGTH {
                     read_type(tags, values, names, depth - 1, next)
                 } else {
                     Read::Refused(Refusal::Limit(at))
@@ -356,7 +371,7 @@ fn read_items(tags: &[u8], values: &[u32], names: u32, depth: u32, at: usize) ->
     requires { ⌜ length (now values) ≡ length (now tags) ⌝ }
     ensures { λ r. ⌜ r ≡ outcome (following names Shape.Items (expr names depth) (tokens (now (tags .entry)) (now (values .entry))) at) ⌝ }
 {
-    let count = read_count(tags, values, 3, 0, 64, at);
+    let count = read_count(tags, values, 3, 0, MOST_ITEMS, at);
     match count {
         Counted::Count(n, next) => read_exprs(tags, values, names, depth, n, next),
         Counted::Refused(r) => Read::Refused(r),
@@ -368,7 +383,7 @@ fn read_record(tags: &[u8], values: &[u32], names: u32, depth: u32, at: usize) -
     requires { ⌜ length (now values) ≡ length (now tags) ⌝ }
     ensures { λ r. ⌜ r ≡ outcome (following names Shape.Fields (expr names depth) (tokens (now (tags .entry)) (now (values .entry))) at) ⌝ }
 {
-    let count = read_count(tags, values, 3, 0, 64, at);
+    let count = read_count(tags, values, 3, 0, MOST_ITEMS, at);
     match count {
         Counted::Count(n, next) => read_fields(tags, values, names, depth, n, next),
         Counted::Refused(r) => Read::Refused(r),
@@ -380,7 +395,7 @@ fn read_cast(tags: &[u8], values: &[u32], names: u32, depth: u32, at: usize) -> 
     requires { ⌜ length (now values) ≡ length (now tags) ⌝ }
     ensures { λ r. ⌜ r ≡ outcome (following names Shape.Cast (expr names depth) (tokens (now (tags .entry)) (now (values .entry))) at) ⌝ }
 {
-    let first = read_type(tags, values, names, 8, at);
+    let first = read_type(tags, values, names, ARRAY_LEVELS, at);
     match first {
         Read::Next(next) => read_exprs(tags, values, names, depth, 1, next),
         Read::Refused(r) => Read::Refused(r),
@@ -448,7 +463,7 @@ pub fn read_declaration(tags: &[u8], values: &[u32], names: u32, at: usize) -> R
 {
     let first = read_name(tags, values, names, at);
     match first {
-        Read::Next(next) => read_type(tags, values, names, 8, next),
+        Read::Next(next) => read_type(tags, values, names, ARRAY_LEVELS, next),
         Read::Refused(r) => Read::Refused(r),
     }
 }
@@ -528,7 +543,7 @@ fn read_definition(tags: &[u8], values: &[u32], names: u32, at: usize) -> Read
                 names,
                 Item::Name,
                 0,
-                64,
+                MOST_ITEMS,
                 next,
             )),
             DefinitionToken::Record(_) => end_of(read_list(
@@ -537,10 +552,10 @@ fn read_definition(tags: &[u8], values: &[u32], names: u32, at: usize) -> Read
                 names,
                 Item::Declaration,
                 0,
-                64,
+                MOST_ITEMS,
                 next,
             )),
-            DefinitionToken::Alias(_) => read_type(tags, values, names, 8, next),
+            DefinitionToken::Alias(_) => read_type(tags, values, names, ARRAY_LEVELS, next),
         },
     }
 }
@@ -550,9 +565,9 @@ fn read_equation(tags: &[u8], values: &[u32], names: u32, at: usize) -> Read
     requires { ⌜ length (now values) ≡ length (now tags) ⌝ }
     ensures { λ r. ⌜ r ≡ outcome (equation names (tokens (now (tags .entry)) (now (values .entry))) at) ⌝ }
 {
-    let left = read_list(tags, values, names, Item::Name, 1, 8, at);
+    let left = read_list(tags, values, names, Item::Name, 1, MOST_LEFT, at);
     match left {
-        Counted::Count(_, next) => read_expr(tags, values, names, 32, next),
+        Counted::Count(_, next) => read_expr(tags, values, names, EXPRESSION_LEVELS, next),
         Counted::Refused(r) => Read::Refused(r),
     }
 }
@@ -562,7 +577,7 @@ fn read_equations(tags: &[u8], values: &[u32], names: u32, at: usize) -> Read
     requires { ⌜ length (now values) ≡ length (now tags) ⌝ }
     ensures { λ r. ⌜ r ≡ outcome (equations names (tokens (now (tags .entry)) (now (values .entry))) at) ⌝ }
 {
-    let count = read_count(tags, values, 3, 0, 64, at);
+    let count = read_count(tags, values, 3, 0, MOST_ITEMS, at);
     match count {
         Counted::Count(n, first) => {
             let mut left = n;
@@ -590,10 +605,10 @@ fn read_interface(tags: &[u8], values: &[u32], names: u32, at: usize) -> Read
     requires { ⌜ length (now values) ≡ length (now tags) ⌝ }
     ensures { λ r. ⌜ r ≡ outcome (ports names (tokens (now (tags .entry)) (now (values .entry))) at) ⌝ }
 {
-    let inputs = read_list(tags, values, names, Item::Declaration, 0, 128, at);
+    let inputs = read_list(tags, values, names, Item::Declaration, 0, DECLARED, at);
     match inputs {
         Counted::Count(a, p) => {
-            let outputs = read_list(tags, values, names, Item::Declaration, 0, 128 - a, p);
+            let outputs = read_list(tags, values, names, Item::Declaration, 0, DECLARED - a, p);
             match outputs {
                 Counted::Count(b, q) => {
                     let locals = read_list(
@@ -602,7 +617,7 @@ fn read_interface(tags: &[u8], values: &[u32], names: u32, at: usize) -> Read
                         names,
                         Item::Declaration,
                         0,
-                        128 - a - b,
+                        DECLARED - a - b,
                         q,
                     );
                     match locals {
@@ -624,7 +639,15 @@ fn read_body(tags: &[u8], values: &[u32], names: u32, at: usize) -> Read
 {
     let equations = read_equations(tags, values, names, at);
     match equations {
-        Read::Next(next) => end_of(read_list(tags, values, names, Item::Probe, 0, 64, next)),
+        Read::Next(next) => end_of(read_list(
+            tags,
+            values,
+            names,
+            Item::Probe,
+            0,
+            MOST_ITEMS,
+            next,
+        )),
         Read::Refused(r) => Read::Refused(r),
     }
 }
@@ -658,7 +681,7 @@ fn read_types(tags: &[u8], values: &[u32], names: u32, at: usize) -> Read
     requires { ⌜ length (now values) ≡ length (now tags) ⌝ }
     ensures { λ r. ⌜ r ≡ outcome (sheetTypes names (tokens (now (tags .entry)) (now (values .entry))) at) ⌝ }
 {
-    let count = read_count(tags, values, 1, 0, 32, at);
+    let count = read_count(tags, values, 1, 0, TYPES, at);
     match count {
         Counted::Count(n, first) => {
             let mut left = n;
@@ -686,7 +709,7 @@ fn read_nodes(tags: &[u8], values: &[u32], names: u32, at: usize) -> Read
     requires { ⌜ length (now values) ≡ length (now tags) ⌝ }
     ensures { λ r. ⌜ r ≡ outcome (sheetNodes names (tokens (now (tags .entry)) (now (values .entry))) at) ⌝ }
 {
-    let count = read_count(tags, values, 2, 0, 16, at);
+    let count = read_count(tags, values, 2, 0, NODES, at);
     match count {
         Counted::Count(n, first) => {
             let mut left = n;

@@ -34,10 +34,6 @@ struct TypeSummary {
     count: u32,
 }
 
-fn wide(x: u32) -> usize {
-    x as usize
-}
-
 // `sheet M L T`
 fn put_sizes(out: &mut [u8; 4096], sizes: Sizes) -> usize {
     let a = spelling::put_all(out, 0, b"sheet");
@@ -67,7 +63,7 @@ fn put_type(
     let b = fresh::put_name(out, a, starts, letters, t.name);
     let kind = t.kind;
     let c = put_type_kind(out, b, kind);
-    let d = refusals::put_number(out, c, wide(t.count));
+    let d = refusals::put_number(out, c, widths::wide(t.count));
     spelling::put(out, d, b'\n')
 }
 
@@ -85,11 +81,11 @@ fn put_counts(out: &mut [u8; 4096], at: usize, n: NodeLayout) -> usize {
     let locals = n.locals;
     let equations = n.equations;
     let probes = n.probes;
-    let a = refusals::put_number(out, at, wide(inputs.count));
-    let b = refusals::put_number(out, a, wide(outputs.count));
-    let c = refusals::put_number(out, b, wide(locals.count));
-    let d = refusals::put_number(out, c, wide(equations.count));
-    refusals::put_number(out, d, wide(probes.count))
+    let a = refusals::put_number(out, at, widths::wide(inputs.count));
+    let b = refusals::put_number(out, a, widths::wide(outputs.count));
+    let c = refusals::put_number(out, b, widths::wide(locals.count));
+    let d = refusals::put_number(out, c, widths::wide(equations.count));
+    refusals::put_number(out, d, widths::wide(probes.count))
 }
 
 fn put_clocks(out: &mut [u8; 4096], at: usize, uses: bool) -> usize {
@@ -161,7 +157,7 @@ fn put_types(
 {
     let whole = layout::sheet_at(tags, values, names);
     let types = whole.types;
-    let n = wide(types.count);
+    let n = widths::wide(types.count);
     if 32 < n {
         return at;
     }
@@ -190,7 +186,7 @@ fn put_nodes(
 {
     let whole = layout::sheet_at(tags, values, names);
     let nodes = whole.nodes;
-    let n = wide(nodes.count);
+    let n = widths::wide(nodes.count);
     if MOST_NODES < n {
         return at;
     }
@@ -204,12 +200,6 @@ fn put_nodes(
         i += 1;
     }
     next
-}
-
-fn narrow(x: usize) -> u32
-    requires { ⌜ x ≤ 1024 ⌝ }
-{
-    x as u32
 }
 
 // The lines of a sheet whose tokens stand in these arrays.
@@ -228,7 +218,7 @@ fn put_lines(
 {
     let mut starts = [0u32; 1025];
     fresh::fill_starts(lengths, &mut starts);
-    let names = narrow(sizes.names);
+    let names = widths::narrow(sizes.names);
     let a = put_sizes(out, sizes);
     let b = put_types(out, a, tags, values, names, &starts, letters);
     put_nodes(out, b, tags, values, names, &starts, letters)

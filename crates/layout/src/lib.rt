@@ -1,6 +1,7 @@
 // Where the parts of an accepted sheet stand among its tokens: its types and nodes, a node's names, equations and probes.
 // `tags` and `values` are as long as each other; `names` is the number of names. Where nothing was read, an answer says nothing.
 use definitions::MOST_NODES;
+use definitions::MOST_TYPES;
 use definitions::NodeKind;
 use tokens::FoundKind;
 ghost use mathlib.Core.Path.{_≡_};
@@ -222,12 +223,12 @@ pub fn definition_places(
     names: u32,
     n: usize,
     at: usize,
-) -> [usize; 32]
+) -> [usize; MOST_TYPES]
     requires { ⌜ length (now values) ≡ length (now tags) ⌝ }
     requires { ⌜ n ≤ 32 ⌝ }
     ensures { λ r. ⌜ ((types : List TypeDef) (q : ℕ) → times n (typeDef names) (tokens (now (tags .entry)) (now (values .entry))) at ≡ got types q → Table names (tokens (now (tags .entry)) (now (values .entry))) r n types) ⌝ }
 {
-    let mut places = [0usize; 32];
+    let mut places = [0usize; MOST_TYPES];
     let mut place = at;
     let mut i: usize = 0;
     while i < n {

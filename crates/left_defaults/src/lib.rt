@@ -1,6 +1,7 @@
 // The left names of an equation of an accepted sheet, and their defaults, written into the output's tokens.
 // `tags` and `values` are the sheet's tokens, `names` is the number of its names; `places` are those of its types' definitions,
 // of which there are `types`; `node` is the node's layout. `otags` and `ovalues` are the output's tokens, of which w are written.
+use definitions::MOST_TYPES;
 use definitions::Token;
 use definitions::WORKING_TOKENS;
 use layout::NodeLayout;
@@ -30,7 +31,7 @@ pub fn put_left_default(
     tags: &[u8],
     values: &[u32],
     names: u32,
-    places: &[usize; 32],
+    places: &[usize; MOST_TYPES],
     types: usize,
     node: NodeLayout,
     x: u32,
@@ -68,7 +69,7 @@ pub fn put_left_defaults(
     tags: &[u8],
     values: &[u32],
     names: u32,
-    places: &[usize; 32],
+    places: &[usize; MOST_TYPES],
     types: usize,
     node: NodeLayout,
     count: u32,

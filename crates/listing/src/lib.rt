@@ -78,12 +78,6 @@ fn put_equations(
     next
 }
 
-fn wide(x: u32) -> usize
-    ensures { λ r. ⌜ r ≡ x ⌝ }
-{
-    x as usize
-}
-
 // A line for each of n chains, each in the row that `chain` says.
 fn put_chains(
     out: &mut [u8],
@@ -101,7 +95,7 @@ fn put_chains(
     let mut i: usize = 0;
     while i < n {
         let x = flat::word_at(chain, i);
-        let row = wide(x);
+        let row = widths::wide(x);
         let c = rows::get(rows, row);
         next = texts::put_chain_line(out, next, starts, letters, c);
         i += 1;
@@ -129,7 +123,7 @@ fn put_faults(
         if faulty {
             let f = findings::found_in(table, i);
             let fault = f.fault;
-            let equation = wide(f.equation);
+            let equation = widths::wide(f.equation);
             next = texts::put_fault_line(out, next, starts, letters, node, equation, fault);
             i += 1;
             continue;
@@ -162,7 +156,7 @@ pub fn put_node(
 {
     let l = told.layout;
     let e = l.equations;
-    let equations = wide(e.count);
+    let equations = widths::wide(e.count);
     let a = texts::put_head(out, at, starts, letters, l.name, equations, told.passes, m);
     let b = put_equations(out, a, starts, letters, tags, values, told.names, env, e);
     let c = put_chains(out, b, starts, letters, rows, chain, m);

@@ -1,4 +1,6 @@
 // Are a sheet's names well formed and distinct?
+use definitions::MOST_NAMES;
+use definitions::NAME_LETTERS;
 ghost use mathlib.Core.Path.{_≡_};
 ghost use mathlib.Core.List.{[]};
 ghost use mathlib.Core.Bool.{_&&_, _||_, not};
@@ -49,7 +51,7 @@ fn well_formed(name: &[u8]) -> bool
     if name.len() == 0 {
         return false;
     }
-    if 32 < name.len() {
+    if NAME_LETTERS < name.len() {
         return false;
     }
     if !is_letter(name[0]) {
@@ -179,8 +181,8 @@ fn wide4(x: u32) -> usize
 fn repeats_in_bucket(
     lengths: &[u8],
     letters: &[u8],
-    starts: &[u32; 1024],
-    next: &[u16; 1024],
+    starts: &[u32; MOST_NAMES],
+    next: &[u16; MOST_NAMES],
     last: u16,
     i: usize,
     at: usize,
@@ -213,9 +215,9 @@ fn first_bad_by_buckets(lengths: &[u8], letters: &[u8]) -> usize
     requires { ⌜ sum (now lengths) ≤ length (now letters) ⌝ }
     ensures { λ r. ⌜ r ≡ badName [] (cut (now (lengths .entry)) (now (letters .entry))) ⌝ }
 {
-    let mut heads: [u16; 1024] = [0; 1024];
-    let mut next: [u16; 1024] = [0; 1024];
-    let mut starts: [u32; 1024] = [0; 1024];
+    let mut heads: [u16; MOST_NAMES] = [0; MOST_NAMES];
+    let mut next: [u16; MOST_NAMES] = [0; MOST_NAMES];
+    let mut starts: [u32; MOST_NAMES] = [0; MOST_NAMES];
     let mut i = 0;
     let mut at = 0;
     while i < lengths.len() {
@@ -246,7 +248,7 @@ pub fn first_bad(lengths: &[u8], letters: &[u8]) -> usize
     if lengths.len() < 24 {
         return first_bad_by_pairs(lengths, letters);
     }
-    if 1024 < lengths.len() {
+    if MOST_NAMES < lengths.len() {
         return first_bad_by_pairs(lengths, letters);
     }
     first_bad_by_buckets(lengths, letters)

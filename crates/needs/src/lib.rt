@@ -89,7 +89,7 @@ fn branch(c: Clock, x: u32, test: Test) -> Clock
     ensures { λ r. ⌜ (depth (valueOf c) < 8 → valueOf r ≡ valueOf c ↓ record { name = x; test = test }) ⌝ }
 {
     let d = c.depth;
-    if d < 8 {
+    if d < clock::DEEPEST {
         let mut out = c;
         out.conditions[d] = Condition {
             name: x,

@@ -2,6 +2,7 @@
 // their ids there.
 // `starts` and `letters` are the input's names; `lengths` and `text`, with counts, a table of the output's names. A table that is
 // full stays full: there are then no places for the names that it is to hold (`Holds`).
+use definitions::MOST_DECLARED;
 use definitions::MOST_NAMES;
 use fresh::Counts;
 use grammar::Read;
@@ -43,7 +44,7 @@ fn put_ids(
     values: &[u32],
     names: u32,
     s: Span,
-    out: &mut [u32; 128],
+    out: &mut [u32; MOST_DECLARED],
     k: usize,
 ) -> usize
     requires { ⌜ length (now values) ≡ length (now tags) ⌝ }
@@ -53,7 +54,7 @@ fn put_ids(
     let mut place = s.at;
     let mut i = k;
     while 0 < left {
-        if 128 <= i {
+        if MOST_DECLARED <= i {
             return i;
         }
         let x = typedefs::value_at(values, place);
@@ -79,7 +80,7 @@ pub fn declared_ids(
     values: &[u32],
     names: u32,
     l: NodeLayout,
-    out: &mut [u32; 128],
+    out: &mut [u32; MOST_DECLARED],
 ) -> usize
     requires { ⌜ length (now values) ≡ length (now tags) ⌝ }
     ensures { λ r. ⌜ ((n : Node) (q : ℕ) → LaidNode names (tokens (now (tags .entry)) (now (values .entry))) n q l → length (declared n) ≤ 128 → (r ≡ length (declared n)) × (now (out .exit) ≡ overAt 0 (map nameOf (declared n)) (now (out .entry)))) ⌝ }
@@ -107,7 +108,7 @@ pub fn new_numbers(
     if ids.len() < n {
         return;
     }
-    if 128 < n {
+    if MOST_DECLARED < n {
         return;
     }
     if out.len() < count {
@@ -117,12 +118,6 @@ pub fn new_numbers(
         return;
     }
     fresh::fill_numbers(starts, letters, &ids[..n], stem, &mut out[..count]);
-}
-
-fn wide(x: u32) -> usize
-    ensures { λ r. ⌜ r ≡ x ⌝ }
-{
-    x as usize
 }
 
 // The names of a stem added for the first n rows of an order, each with the number of its row.
@@ -141,7 +136,7 @@ fn add_ordered(
     let mut table = c;
     let mut i: usize = 0;
     while i < n {
-        let row = wide(flat::word_at(order, i));
+        let row = widths::wide(flat::word_at(order, i));
         let number = flat::word_at(numbers, row);
         table = fresh::add_new(lengths, text, table, stem, number);
         i += 1;
@@ -212,13 +207,6 @@ pub fn add_locals(
     d
 }
 
-fn narrow(x: usize) -> u32
-    requires { ⌜ x < 4294967296 ⌝ }
-    ensures { λ r. ⌜ r ≡ x ⌝ }
-{
-    x as u32
-}
-
 // The id of the name of a stem with a number, among the names of a table.
 fn id_of(lengths: &[u8], text: &[u8], c: Counts, stem: StemName, number: u32) -> u32
     requires { ⌜ Sound (now lengths) (now text) c ⌝ }
@@ -227,7 +215,7 @@ fn id_of(lengths: &[u8], text: &[u8], c: Counts, stem: StemName, number: u32) ->
 {
     let m = c.names;
     let l = c.letters;
-    narrow(fresh::find_new(&lengths[..m], &text[..l], stem, number))
+    widths::narrow(fresh::find_new(&lengths[..m], &text[..l], stem, number))
 }
 
 // The id of `condact` among the names of a table.
@@ -238,7 +226,7 @@ pub fn condact_id(lengths: &[u8], text: &[u8], c: Counts) -> u32
 {
     let m = c.names;
     let l = c.letters;
-    narrow(fresh::find_condact(&lengths[..m], &text[..l]))
+    widths::narrow(fresh::find_condact(&lengths[..m], &text[..l]))
 }
 
 // The ids of the first n names of a stem among the names of a table.

@@ -3,6 +3,7 @@
 // `starts` and `letters` are the input's names, `names` is how many there are; `places` has the places of the sheet's nodes,
 // `nodes` is how many there are; `env` has the clocks of the node's names as inference left them.
 use definitions::CLOCK_TABLE;
+use definitions::MOST_DECLARED;
 use definitions::MOST_NAMES;
 use definitions::MOST_NODES;
 use layout::NodeLayout;
@@ -30,24 +31,14 @@ ghost use Rattle.stateless.specs.Sheets.{withinAll};
 ghost use Rattle.new_names.specs.Names.{nameOf, Numbered};
 ghost use Rattle.node_tables.specs.Filled.{Many, Few, Sorted, AllNumbered, FilledOrFull};
 
+// The most names, as a word.
+const NAMES: u32 = MOST_NAMES as u32;
+
 // How many rows the tables have, how many names of each kind the node adds; full, where that is too many.
 pub struct Tables {
     pub rows: Counts,
     pub locals: Locals,
     pub full: bool,
-}
-
-fn wide(x: u32) -> usize
-    ensures { λ r. ⌜ r ≡ x ⌝ }
-{
-    x as usize
-}
-
-fn narrow(x: usize) -> u32
-    requires { ⌜ x ≤ 1024 ⌝ }
-    ensures { λ r. ⌜ r ≡ x ⌝ }
-{
-    x as u32
 }
 
 // Are there more names of a kind than the output has places for?
@@ -61,7 +52,7 @@ fn is_crowded(s: Counts) -> bool
     if MOST_NAMES < s.firsts {
         return true;
     }
-    1024 < holds
+    NAMES < holds
 }
 
 // No tables: there are too many names.
@@ -92,7 +83,7 @@ fn order_rows(
     requires { ⌜ n ≤ 1024 ⌝ }
     ensures { λ r. ⌜ Sorted (lettersAt (now (starts .entry)) (now (letters .entry))) (now (rows .entry)) (now (order .exit)) n r ⌝ }
 {
-    let k = narrow(n);
+    let k = widths::narrow(n);
     order::sort_rows(starts, letters, rows, order, k)
 }
 
@@ -100,7 +91,7 @@ fn order_rows(
 fn number_stem(
     starts: &[u32],
     letters: &[u8],
-    ids: &[u32; 128],
+    ids: &[u32; MOST_DECLARED],
     n: usize,
     stem: StemName,
     count: usize,
@@ -127,11 +118,11 @@ fn number_names(
     requires { ⌜ length (now values) ≡ length (now tags) ⌝ }
     ensures { λ _. ⌜ ((all : List Letters) (node : Node) (q : ℕ) → lettersAt (now (starts .entry)) (now (letters .entry)) ≡ lettersOf all → LaidNode names (tokens (now (tags .entry)) (now (values .entry))) node q l → length (declared node) ≤ 128 → Few s → AllNumbered all node s (now («flag_numbers» .exit)) (now («first_numbers» .exit)) (now («hold_numbers» .exit))) ⌝ }
 {
-    let mut ids = [0u32; 128];
+    let mut ids = [0u32; MOST_DECLARED];
     let n = new_names::declared_ids(tags, values, names, l, &mut ids);
     let flags = s.flags;
     let firsts = s.firsts;
-    let holds = wide(s.holds);
+    let holds = widths::wide(s.holds);
     number_stem(starts, letters, &ids, n, StemName::Ck, flags, flag_numbers);
     number_stem(
         starts,
@@ -194,7 +185,7 @@ pub fn fill_tables(
     }
     let n = s.flags;
     let m = s.firsts;
-    let holds = wide(s.holds);
+    let holds = widths::wide(s.holds);
     let k = order_rows(starts, letters, flags, n, flag_order);
     let j = order_rows(starts, letters, firsts, m, first_order);
     number_names(

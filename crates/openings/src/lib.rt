@@ -2,8 +2,10 @@
 // `tags` and `values` are the sheet's tokens, `otags` and `ovalues` the output's, of which w are written.
 use callees::Callee;
 use clock::Clock;
+use definitions::ARRAY_LEVELS;
 use definitions::ExprToken;
 use definitions::MOST_NODES;
+use definitions::MOST_TYPES;
 use definitions::Token;
 use definitions::TypeToken;
 use definitions::WORKING_TOKENS;
@@ -220,7 +222,7 @@ fn put_defaults(
     tags: &[u8],
     values: &[u32],
     names: u32,
-    places: &[usize; 32],
+    places: &[usize; MOST_TYPES],
     types: usize,
     count: u32,
     at: usize,
@@ -239,7 +241,7 @@ fn put_defaults(
     let Read::Next(first) = label else {
         return w;
     };
-    let read = grammar::read_type(tags, values, names, 8, first);
+    let read = grammar::read_type(tags, values, names, ARRAY_LEVELS, first);
     let Read::Next(next) = read else {
         return w;
     };
@@ -263,7 +265,7 @@ pub fn closing(
     tags: &[u8],
     values: &[u32],
     names: u32,
-    places: &[usize; 32],
+    places: &[usize; MOST_TYPES],
     types: usize,
     mode: Mode,
     p: Plan,

@@ -1,5 +1,6 @@
 // The type of the operand of a held `pre` in an accepted sheet: declared names, constants, and when, `pre`, `->` or index over
 // such have one. `tags` and `values` are as long as each other; `names` is the number of names; `node` is the node's layout.
+use definitions::ARRAY_LEVELS;
 use definitions::ExprToken;
 use definitions::Literal;
 use definitions::Primitive;
@@ -111,7 +112,7 @@ fn last_in(
     let Read::Next(first) = label else {
         return found;
     };
-    let read = grammar::read_type(tags, values, names, 8, first);
+    let read = grammar::read_type(tags, values, names, ARRAY_LEVELS, first);
     let Read::Next(next) = read else {
         return found;
     };

@@ -1,6 +1,7 @@
 // The uniform view of an expression of an accepted sheet: what it does, and where its operands stand.
 // `tags` and `values` are as long as each other; `names` is the number of names. Answers for tokens that no expression
 // was read from say nothing.
+use definitions::ARRAY_LEVELS;
 use definitions::Condition;
 use definitions::ExprToken;
 use definitions::Test;
@@ -233,7 +234,7 @@ fn behind_type(tags: &[u8], values: &[u32], names: u32, at: usize) -> Operands
     requires { ⌜ length (now values) ≡ length (now tags) ⌝ }
     ensures { λ r. ⌜ r ≡ operandsAt names (tokens (now (tags .entry)) (now (values .entry))) Shape.Cast at ⌝ }
 {
-    let read = grammar::read_type(tags, values, names, 8, at);
+    let read = grammar::read_type(tags, values, names, ARRAY_LEVELS, at);
     match read {
         Read::Next(first) => plain(first, 1),
         Read::Refused(_) => plain(at, 0),

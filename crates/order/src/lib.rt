@@ -57,12 +57,6 @@ fn compare_letters(x: &[u8], y: &[u8]) -> Order
     Order::Same
 }
 
-fn wide(x: u32) -> usize
-    ensures { λ r. ⌜ r ≡ x ⌝ }
-{
-    x as usize
-}
-
 // Two names by their letters.
 fn name_order(starts: &[u32], letters: &[u8], x: u32, y: u32) -> Order
     ensures { λ r. ⌜ orderOf r ≡ lexical compare (lettersAt (now (starts .entry)) (now (letters .entry)) x) (lettersAt (now (starts .entry)) (now (letters .entry)) y) ⌝ }
@@ -112,8 +106,8 @@ fn condition_order(starts: &[u32], letters: &[u8], k: Condition, l: Condition) -
 fn row_order(starts: &[u32], letters: &[u8], rows: &[u32], x: u32, y: u32) -> Order
     ensures { λ r. ⌜ orderOf r ≡ chainOrder (lettersAt (now (starts .entry)) (now (letters .entry))) (rowOf (now (rows .entry)) x) (rowOf (now (rows .entry)) y) ⌝ }
 {
-    let a = flat::WORDS * wide(x);
-    let b = flat::WORDS * wide(y);
+    let a = flat::WORDS * widths::wide(x);
+    let b = flat::WORDS * widths::wide(y);
     let d = flat::depth_at(rows, a);
     let e = flat::depth_at(rows, b);
     let mut i: usize = 0;

@@ -3,6 +3,7 @@
 // output's names; `places` has the places of the sheet's nodes, `nodes` is how many there are; `condact` is the id of `condact`.
 // `env`, `flags` and `firsts` are working tables, lent so that they are made once.
 use definitions::CLOCK_TABLE;
+use definitions::MOST_LETTERS;
 use definitions::MOST_NAMES;
 use definitions::MOST_NODES;
 use fresh::Counts;
@@ -31,19 +32,6 @@ ghost use Rattle.many_names.specs.Many.{TooMany};
 ghost use Rattle.node_tables.specs.Filled.{FilledOrFull};
 ghost use Rattle.output_names.specs.Faultless.{nodeNeeds, Faultless, NamesReady};
 
-fn wide(x: u32) -> usize
-    ensures { λ r. ⌜ r ≡ x ⌝ }
-{
-    x as usize
-}
-
-fn narrow(x: usize) -> u32
-    requires { ⌜ x ≤ 1024 ⌝ }
-    ensures { λ r. ⌜ r ≡ x ⌝ }
-{
-    x as u32
-}
-
 // The table marked as full, of more names than it has places for.
 fn mark_full(lengths: &[u8], text: &[u8], c: Counts) -> Counts
     requires { ⌜ Sound (now lengths) (now text) c ⌝ }
@@ -60,7 +48,7 @@ fn mark_full(lengths: &[u8], text: &[u8], c: Counts) -> Counts
 // The names of a node's new locals added, by its working tables; the table is full, where they are.
 fn add_tables(
     lengths: &mut [u8; MOST_NAMES],
-    text: &mut [u8; 16384],
+    text: &mut [u8; MOST_LETTERS],
     c: Counts,
     t: Tables,
     flag_numbers: &[u32; MOST_NAMES],
@@ -93,7 +81,7 @@ fn add_tables(
 // The same of a node with this layout, whose names' clocks `env` has.
 fn add_clocked(
     lengths: &mut [u8; MOST_NAMES],
-    text: &mut [u8; 16384],
+    text: &mut [u8; MOST_LETTERS],
     c: Counts,
     starts: &[u32],
     letters: &[u8],
@@ -154,7 +142,7 @@ fn add_clocked(
 // The names that the node at a place adds: none, if it uses no clocks.
 fn add_node(
     lengths: &mut [u8; MOST_NAMES],
-    text: &mut [u8; 16384],
+    text: &mut [u8; MOST_LETTERS],
     c: Counts,
     starts: &[u32],
     letters: &[u8],
@@ -212,7 +200,7 @@ pub fn sheet_names(
     values: &[u32],
     names: u32,
     lengths: &mut [u8; MOST_NAMES],
-    text: &mut [u8; 16384],
+    text: &mut [u8; MOST_LETTERS],
     env: &mut [u32; CLOCK_TABLE],
     flags: &mut [u32; CLOCK_TABLE],
     firsts: &mut [u32; CLOCK_TABLE],
@@ -226,10 +214,10 @@ pub fn sheet_names(
     ensures { λ _. ⌜ ((bytes : List ℕ) (r : Input) (ns : List ClockedNode) → Faultless (now (starts .entry)) (now (letters .entry)) (now (tags .entry)) (now (values .entry)) names bytes r ns → Sole (now (env .entry)) names (r .sheet .nodes) → Sole (now (env .exit)) names (r .sheet .nodes)) ⌝ }
 {
     let mut c = fresh::copy_names(given, letters, lengths, text);
-    let condact = narrow(fresh::find_condact(given, letters));
+    let condact = widths::narrow(fresh::find_condact(given, letters));
     let whole = layout::sheet_at(tags, values, names);
     let span = whole.nodes;
-    let n = wide(span.count);
+    let n = widths::wide(span.count);
     if MOST_NODES < n {
         return c;
     }

@@ -1,5 +1,7 @@
 // A sheet's sizes, length and names are checked, and its tokens go into working arrays.
+use definitions::MOST_LETTERS;
 use definitions::MOST_NAMES;
+use definitions::MOST_TOKENS;
 use definitions::Refusal;
 use definitions::WORKING_TOKENS;
 ghost use mathlib.Core.Path.{_≡_};
@@ -26,12 +28,6 @@ fn wide(x: u8) -> u32
     ensures { λ r. ⌜ (r ≡ x) × (r < 256) ⌝ }
 {
     x as u32
-}
-
-fn wide_word(x: u32) -> usize
-    ensures { λ r. ⌜ r ≡ x ⌝ }
-{
-    x as usize
 }
 
 fn wide_byte(x: u8) -> usize
@@ -72,19 +68,19 @@ fn read_sizes(sheet: &[u8]) -> PartsAnswer
     if sheet.len() < 12 {
         return PartsAnswer::Refused(Refusal::Short);
     }
-    let names = wide_word(read_word(sheet, 0));
-    let letters = wide_word(read_word(sheet, 4));
-    let tokens = wide_word(read_word(sheet, 8));
+    let names = widths::wide(read_word(sheet, 0));
+    let letters = widths::wide(read_word(sheet, 4));
+    let tokens = widths::wide(read_word(sheet, 8));
     if MOST_NAMES < names {
         return PartsAnswer::Refused(Refusal::Size(0));
     }
-    if 16384 < letters {
+    if MOST_LETTERS < letters {
         return PartsAnswer::Refused(Refusal::Size(1));
     }
     if tokens < 2 {
         return PartsAnswer::Refused(Refusal::Size(2));
     }
-    if 4096 < tokens {
+    if MOST_TOKENS < tokens {
         return PartsAnswer::Refused(Refusal::Size(2));
     }
     if sheet.len() != 12 + names + letters + 5 * tokens {

@@ -2,9 +2,11 @@
 use definitions::CHAIN_TABLE;
 use definitions::CLOCK_TABLE;
 use definitions::FINDING_TABLE;
+use definitions::MOST_TOKENS;
 use definitions::Refusal;
 use definitions::SMALL_CLOCK_TABLE;
 use definitions::SMALL_FINDING_TABLE;
+use definitions::SMALL_TOKENS;
 use definitions::WORKING_TOKENS;
 use listing::Told;
 use parts::Sizes;
@@ -33,6 +35,9 @@ ghost use Rattle.texts.specs.Lending.{lentText};
 ghost use Rattle.query.specs.Standing.{Standing, Roomy, Ample, NodeWithClocks};
 ghost use Rattle.pass.specs.Answers.{clocksOf, listingOf, nodesListed, listingsOf, ClocksInWords, ListingGiven};
 
+// A small sheet has at most so many names.
+const SMALL_NAMES: u32 = SMALL_TOKENS as u32;
+
 // A node's name, passes and counts, or turned down.
 pub enum ClocksAnswer {
     Clocks(NodeCounts),
@@ -43,19 +48,6 @@ pub enum ClocksAnswer {
 pub enum ListingAnswer {
     Written(usize),
     Refused(Refusal),
-}
-
-fn narrow(x: usize) -> u32
-    requires { ⌜ x < 2 ^ 32 ⌝ }
-    ensures { λ r. ⌜ r ≡ x ⌝ }
-{
-    x as u32
-}
-
-fn wide(x: u32) -> usize
-    ensures { λ r. ⌜ r ≡ x ⌝ }
-{
-    x as usize
 }
 
 // Where the letters of an accepted sheet's names start.
@@ -127,7 +119,7 @@ fn clocks_small(
     let mut env = [0u32; SMALL_CLOCK_TABLE];
     let mut table = [0u32; SMALL_FINDING_TABLE];
     let mut rows = [0u32; SMALL_CLOCK_TABLE];
-    let mut chain = [0u32; 256];
+    let mut chain = [0u32; SMALL_TOKENS];
     clocks_in(
         starts,
         letters,
@@ -163,7 +155,7 @@ fn clocks_large(
     let mut env = [0u32; CLOCK_TABLE];
     let mut table = [0u32; FINDING_TABLE];
     let mut rows = [0u32; CHAIN_TABLE];
-    let mut chain = [0u32; 4096];
+    let mut chain = [0u32; MOST_TOKENS];
     clocks_in(
         starts,
         letters,
@@ -196,7 +188,7 @@ fn clocks_standing(
     requires { ⌜ length (now values) ≡ length (now tags) ⌝ }
     ensures { λ r. ⌜ ((i : Input) → Standing (now (starts .entry)) (now (letters .entry)) (now (tags .entry)) (now (values .entry)) names i → ClocksInWords k (clocksOf i k) (now (equations .entry)) (now (chains .entry)) (now (faults .entry)) (now (equations .exit)) (now (chains .exit)) (now (faults .exit)) r) ⌝ }
 {
-    if tags.len() <= 256 && names <= 256 {
+    if tags.len() <= SMALL_TOKENS && names <= SMALL_NAMES {
         return clocks_small(
             starts,
             letters,
@@ -240,7 +232,7 @@ fn clocks_front(
     let n = sizes.tokens;
     let from = 12 + sizes.names;
     let to = from + sizes.letters;
-    let names = narrow(sizes.names);
+    let names = widths::narrow(sizes.names);
     let starts = starts_of(sheet, sizes);
     clocks_standing(
         &starts,
@@ -373,7 +365,7 @@ fn listing_small(
     let mut env = [0u32; SMALL_CLOCK_TABLE];
     let mut table = [0u32; SMALL_FINDING_TABLE];
     let mut rows = [0u32; SMALL_CLOCK_TABLE];
-    let mut chain = [0u32; 256];
+    let mut chain = [0u32; SMALL_TOKENS];
     listing_in(
         out,
         starts,
@@ -405,7 +397,7 @@ fn listing_large(
     let mut env = [0u32; CLOCK_TABLE];
     let mut table = [0u32; FINDING_TABLE];
     let mut rows = [0u32; CHAIN_TABLE];
-    let mut chain = [0u32; 4096];
+    let mut chain = [0u32; MOST_TOKENS];
     listing_in(
         out,
         starts,
@@ -434,7 +426,7 @@ fn listing_standing(
     requires { ⌜ length (now values) ≡ length (now tags) ⌝ }
     ensures { λ r. ⌜ ((i : Input) → Standing (now (starts .entry)) (now (letters .entry)) (now (tags .entry)) (now (values .entry)) names i → ListingGiven (listingOf i k (length (now (out .entry)))) (now (out .entry)) (now (out .exit)) r) ⌝ }
 {
-    if tags.len() <= 256 && names <= 256 {
+    if tags.len() <= SMALL_TOKENS && names <= SMALL_NAMES {
         return listing_small(out, starts, letters, tags, values, names, k);
     }
     listing_large(out, starts, letters, tags, values, names, k)
@@ -456,7 +448,7 @@ fn listing_front(
     let n = sizes.tokens;
     let from = 12 + sizes.names;
     let to = from + sizes.letters;
-    let names = narrow(sizes.names);
+    let names = widths::narrow(sizes.names);
     let starts = starts_of(sheet, sizes);
     listing_standing(
         out,
@@ -562,7 +554,7 @@ fn listings_last(
     ensures { λ r. ⌜ ((ns : List Node) (l : List ClockedNode) (last : Node) (q : ℕ) → times n (node names) (tokens (now (tags .entry)) (now (values .entry))) from ≡ got ns place → node names (tokens (now (tags .entry)) (now (values .entry))) place ≡ got last q → clockings 0 ns ≡ accepted l → before ≡ length (join (numbered (nodeListing (lettersAt (now (starts .entry)) (now (letters .entry)))) 0 l)) → Roomy names (length (now (tags .entry))) (now (env .entry)) (now (table .entry)) → Ample (now (table .entry)) (now (rows .entry)) (now (chain .entry)) → length (now (letters .entry)) ≤ 16384 → length (now (tags .entry)) ≤ 4096 → ListingGiven (nodesListed (lettersAt (now (starts .entry)) (now (letters .entry))) (ns ++ (last ∷ [])) (length (now (out .entry)))) (now (out .entry)) (now (out .exit)) r) ⌝ }
 {
     let last = layout::node_at(tags, values, names, place);
-    let answer = query::clock_laid(tags, values, names, last, wide(n), env, table);
+    let answer = query::clock_laid(tags, values, names, last, widths::wide(n), env, table);
     match answer {
         NodeAnswer::Refused(r) => ListingAnswer::Refused(r),
         NodeAnswer::Node(told) => {
@@ -658,7 +650,7 @@ fn listings_small(
     let mut env = [0u32; SMALL_CLOCK_TABLE];
     let mut table = [0u32; SMALL_FINDING_TABLE];
     let mut rows = [0u32; SMALL_CLOCK_TABLE];
-    let mut chain = [0u32; 256];
+    let mut chain = [0u32; SMALL_TOKENS];
     listings_in(
         out,
         starts,
@@ -688,7 +680,7 @@ fn listings_large(
     let mut env = [0u32; CLOCK_TABLE];
     let mut table = [0u32; FINDING_TABLE];
     let mut rows = [0u32; CHAIN_TABLE];
-    let mut chain = [0u32; 4096];
+    let mut chain = [0u32; MOST_TOKENS];
     listings_in(
         out,
         starts,
@@ -715,7 +707,7 @@ fn listings_standing(
     requires { ⌜ length (now values) ≡ length (now tags) ⌝ }
     ensures { λ r. ⌜ ((i : Input) → Standing (now (starts .entry)) (now (letters .entry)) (now (tags .entry)) (now (values .entry)) names i → ListingGiven (listingsOf i (length (now (out .entry)))) (now (out .entry)) (now (out .exit)) r) ⌝ }
 {
-    if tags.len() <= 256 && names <= 256 {
+    if tags.len() <= SMALL_TOKENS && names <= SMALL_NAMES {
         return listings_small(out, starts, letters, tags, values, names);
     }
     listings_large(out, starts, letters, tags, values, names)
@@ -736,7 +728,7 @@ fn listings_front(
     let n = sizes.tokens;
     let from = 12 + sizes.names;
     let to = from + sizes.letters;
-    let names = narrow(sizes.names);
+    let names = widths::narrow(sizes.names);
     let starts = starts_of(sheet, sizes);
     listings_standing(
         out,

@@ -33,19 +33,6 @@ ghost use Rattle.rewriting.specs.Given.{RewriteInWords};
 ghost use Rattle.pass.specs.Answers.{ListingGiven};
 ghost use Rattle.pass_rewrite.specs.Texts.{textIn, textOf};
 
-fn wide(x: u32) -> usize
-    ensures { λ r. ⌜ r ≡ x ⌝ }
-{
-    x as usize
-}
-
-fn narrow(x: usize) -> u32
-    requires { ⌜ x ≤ 1024 ⌝ }
-    ensures { λ r. ⌜ r ≡ x ⌝ }
-{
-    x as u32
-}
-
 // Where the letters of an accepted sheet's names start.
 fn starts_of(sheet: &[u8], sizes: Sizes) -> [u32; 1025]
     requires { ⌜ Accepted (now sheet) × (sizes ≡ sizesOf (now sheet)) ⌝ }
@@ -73,7 +60,7 @@ fn rewrite_front(
     let n = sizes.tokens;
     let from = 12 + sizes.names;
     let to = from + sizes.letters;
-    let names = narrow(sizes.names);
+    let names = widths::narrow(sizes.names);
     let starts = starts_of(sheet, sizes);
     rewriting::rewrite_standing(
         &sheet[12..from],
@@ -117,7 +104,7 @@ fn node_fault(
     requires { ⌜ (sum (now given) ≡ length (now letters)) × (length (now given) ≤ 1024) ⌝ }
     ensures { λ a. ⌜ ((r : Input) (ns : List ClockedNode) (q : ℕ) → grammar.sheet names (tokens (now (tags .entry)) (now (values .entry))) 0 ≡ got (r .sheet) q → r .names ≡ cut (now (given .entry)) (now (letters .entry)) → names ≤ 1024 → length (now (tags .entry)) ≤ 4096 → clockings 0 (r .sheet .nodes) ≡ accepted ns → foundOf a ≡ faultIn r (getElem? ns k) j) ⌝ }
 {
-    let condact = narrow(fresh::find_condact(given, letters));
+    let condact = widths::narrow(fresh::find_condact(given, letters));
     let t = first_faults::tables_of(tags, values, names, condact);
     let mut env = [0u32; CLOCK_TABLE];
     let mut table = [0u32; FINDING_TABLE];
@@ -162,7 +149,7 @@ fn text_standing(
     };
     let deep = query::deep_node(tags, values, names);
     if let Deepest::At(i) = deep {
-        return ListingAnswer::Refused(Refusal::Deep(wide(i)));
+        return ListingAnswer::Refused(Refusal::Deep(widths::wide(i)));
     }
     let f = node_fault(given, letters, tags, values, names, k, j);
     text_found(out, starts, letters, f)
@@ -185,7 +172,7 @@ fn text_front(
     let n = sizes.tokens;
     let from = 12 + sizes.names;
     let to = from + sizes.letters;
-    let names = narrow(sizes.names);
+    let names = widths::narrow(sizes.names);
     let starts = starts_of(sheet, sizes);
     text_standing(
         out,

@@ -5,6 +5,7 @@
 // counts as changed.
 use clock::Clock;
 use clock::Presence;
+use definitions::MOST_EQUATIONS;
 use definitions::MOST_NAMES;
 use grammar::Read;
 use layout::NodeLayout;
@@ -221,13 +222,6 @@ fn is_changed(since: &[usize], tag: u8, x: u32, made: usize) -> bool
     false
 }
 
-// The lesser of two numbers.
-fn least(a: usize, b: usize) -> usize
-    ensures { λ r. ⌜ (r ≤ b) × ((i : ℕ) → i < a → i < b → i < r) × (r ≤ a) ⌝ }
-{
-    if a < b { a } else { b }
-}
-
 // Did the clock of a name in these tokens change in the last of the passes made, or in the one after it?
 fn touched(
     tags: &[u8],
@@ -243,7 +237,7 @@ fn touched(
     if made == 0 {
         return true;
     }
-    let end = least(to, tags.len());
+    let end = widths::least(to, tags.len());
     let mut i = from;
     while i < end {
         if is_changed(since, tags[i], values[i], made) {
@@ -322,12 +316,18 @@ fn one_equation(
 }
 
 // Where a node's equations end, as far as the table goes.
-fn equation_ends(tags: &[u8], values: &[u32], names: u32, count: u32, at: usize) -> [usize; 64]
+fn equation_ends(
+    tags: &[u8],
+    values: &[u32],
+    names: u32,
+    count: u32,
+    at: usize,
+) -> [usize; MOST_EQUATIONS]
     requires { ⌜ length (now values) ≡ length (now tags) ⌝ }
     ensures { λ r. ⌜ ((l : List Equation) (q : ℕ) → times count (equation names) (tokens (now (tags .entry)) (now (values .entry))) at ≡ got l q → Ended names (tokens (now (tags .entry)) (now (values .entry))) at count r) ⌝ }
 {
-    let most = least(count as usize, 64);
-    let mut ends = [0usize; 64];
+    let most = widths::least(count as usize, MOST_EQUATIONS);
+    let mut ends = [0usize; MOST_EQUATIONS];
     let mut place = at;
     let mut i: usize = 0;
     while i < most {
@@ -339,12 +339,19 @@ fn equation_ends(tags: &[u8], values: &[u32], names: u32, count: u32, at: usize)
 }
 
 // Where the i-th equation ends, which stands there.
-fn end_at(tags: &[u8], values: &[u32], names: u32, ends: &[usize; 64], i: u32, at: usize) -> usize
+fn end_at(
+    tags: &[u8],
+    values: &[u32],
+    names: u32,
+    ends: &[usize; MOST_EQUATIONS],
+    i: u32,
+    at: usize,
+) -> usize
     requires { ⌜ length (now values) ≡ length (now tags) ⌝ }
     ensures { λ r. ⌜ ((e : Equation) (q : ℕ) → equation names (tokens (now (tags .entry)) (now (values .entry))) at ≡ got e q → (i < 64 → getD (now (ends .entry)) i 0 ≡ endFrom names (tokens (now (tags .entry)) (now (values .entry))) at) → r ≡ endFrom names (tokens (now (tags .entry)) (now (values .entry))) at) ⌝ }
 {
     let k = i as usize;
-    if k < 64 {
+    if k < MOST_EQUATIONS {
         return ends[k];
     }
     extents::equation_end(tags, values, at)
@@ -357,7 +364,7 @@ fn one_pass(
     names: u32,
     count: u32,
     at: usize,
-    ends: &[usize; 64],
+    ends: &[usize; MOST_EQUATIONS],
     env: &mut [u32],
     marks: &[u8],
     since: &mut [usize],
@@ -407,7 +414,7 @@ fn repeat_passes(
     names: u32,
     count: u32,
     at: usize,
-    ends: &[usize; 64],
+    ends: &[usize; MOST_EQUATIONS],
     env: &mut [u32],
     marks: &[u8],
     since: &mut [usize],

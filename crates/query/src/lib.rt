@@ -70,12 +70,6 @@ pub enum Measured {
     Size(usize, usize),
 }
 
-fn wide(x: u32) -> usize
-    ensures { λ r. ⌜ r ≡ x ⌝ }
-{
-    x as usize
-}
-
 // Where node k stands, if the sheet has it.
 pub fn node_place(tags: &[u8], values: &[u32], names: u32, k: usize) -> NodePlace
     requires { ⌜ length (now values) ≡ length (now tags) ⌝ }
@@ -83,7 +77,7 @@ pub fn node_place(tags: &[u8], values: &[u32], names: u32, k: usize) -> NodePlac
 {
     let whole = layout::sheet_at(tags, values, names);
     let nodes = whole.nodes;
-    let n = wide(nodes.count);
+    let n = widths::wide(nodes.count);
     if n <= k {
         return NodePlace::Missing;
     }
@@ -145,7 +139,7 @@ pub fn clock_laid(
     requires { ⌜ length (now values) ≡ length (now tags) ⌝ }
     ensures { λ r. ⌜ ((n : Node) (q : ℕ) → LaidNode names (tokens (now (tags .entry)) (now (values .entry))) n q layout → Roomy names (length (now (tags .entry))) (now (env .entry)) (now (table .entry)) → ClockedAs names (tokens (now (tags .entry)) (now (values .entry))) (now (env .exit)) (now (table .exit)) k n r) ⌝ }
 {
-    let n = least(wide(names), MOST_NAMES);
+    let n = widths::least(widths::wide(names), MOST_NAMES);
     let mut marks = [0u8; MOST_NAMES];
     let mut ports = [0u32; MOST_NAMES];
     let clocked = infer_clocks::clock_laid(
@@ -188,16 +182,10 @@ pub fn clock_at(
     };
     let deep = first_deep(tags, values, names, env, table);
     if let Deepest::At(i) = deep {
-        return NodeAnswer::Refused(Refusal::Deep(wide(i)));
+        return NodeAnswer::Refused(Refusal::Deep(widths::wide(i)));
     }
     let layout = layout::node_at(tags, values, names, at);
     clock_laid(tags, values, names, layout, k, env, table)
-}
-
-fn least(a: usize, b: usize) -> usize
-    ensures { λ r. ⌜ r ≡ min a b ⌝ }
-{
-    if a < b { a } else { b }
 }
 
 // Word j of a clock in seventeen.
@@ -239,8 +227,8 @@ fn write_equations(tags: &[u8], values: &[u32], names: u32, env: &[u32], s: Span
     ensures { λ r. ⌜ ((clocks : Clocks) (es : List Equation) (q : ℕ) (cs : List Clocked) → Agrees (now (env .entry)) names clocks → times (s .count) (equation names) (tokens (now (tags .entry)) (now (values .entry))) (s .at) ≡ got es q → clockedBy clocks es ≡ formed cs → now (list .exit) ≡ clocksOver (map (λ c. c .clock) cs) (now (list .entry))) ⌝ }
 {
     let room = list.len() / flat::WORDS;
-    let n = wide(s.count);
-    let most = least(n, room);
+    let n = widths::wide(s.count);
+    let most = widths::least(n, room);
     let mut place = s.at;
     let mut i: usize = 0;
     while i < most {
@@ -259,10 +247,10 @@ fn write_rows(rows: &[u32], chain: &[u32], m: usize, list: &mut [u32])
     ensures { λ r. ⌜ now (list .exit) ≡ clocksOver (picked (rowOf (now (rows .entry))) (now (chain .entry)) 0 m) (now (list .entry)) ⌝ }
 {
     let room = list.len() / flat::WORDS;
-    let most = least(m, room);
+    let most = widths::least(m, room);
     let mut i: usize = 0;
     while i < most {
-        let row = wide(flat::word_at(chain, i));
+        let row = widths::wide(flat::word_at(chain, i));
         let c = rows::get(rows, row);
         put_clock(list, flat::WORDS * i, c);
         i += 1;
@@ -361,7 +349,7 @@ pub fn write_clocks(
     NodeCounts {
         name: l.name,
         passes: told.passes,
-        equations: wide(e.count),
+        equations: widths::wide(e.count),
         chains: m,
         faults: f,
     }
@@ -433,7 +421,7 @@ pub fn put_told(
         );
     }
     let left = out.len() - at;
-    let to = at + least(left, 4294967296);
+    let to = at + widths::least(left, 4294967296);
     let part = &mut out[at..to];
     listing::put_node(
         part,
@@ -515,7 +503,7 @@ pub fn put_listings(
     let mut i: u32 = 0;
     while i < n {
         let one = layout::node_at(tags, values, names, place);
-        let k = wide(i);
+        let k = widths::wide(i);
         let size = put_laid(
             out,
             at,
@@ -561,7 +549,7 @@ pub fn measure_listings(
     let mut i: u32 = 0;
     while i < n {
         let one = layout::node_at(tags, values, names, place);
-        let k = wide(i);
+        let k = widths::wide(i);
         let answer = clock_laid(tags, values, names, one, k, env, table);
         let NodeAnswer::Node(told) = answer else {
             return Measured::Deep(k);

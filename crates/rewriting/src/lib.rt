@@ -3,9 +3,11 @@
 // many there are; `tags` and `values` are the sheet's tokens, as long as each other.
 use definitions::CLOCK_TABLE;
 use definitions::FINDING_TABLE;
+use definitions::MOST_LETTERS;
 use definitions::MOST_NAMES;
 use definitions::Refusal;
 use definitions::SMALL_FINDING_TABLE;
+use definitions::SMALL_TOKENS;
 use definitions::WORKING_TOKENS;
 use first_faults::NodesWalked;
 use fresh::Counts;
@@ -36,13 +38,6 @@ pub enum RewriteAnswer {
     Refused(Refusal),
 }
 
-fn narrow(x: usize) -> u32
-    requires { ⌜ x ≤ 1024 ⌝ }
-    ensures { λ r. ⌜ r ≡ x ⌝ }
-{
-    x as u32
-}
-
 // Each faulty node's first fault over the front of the lent list, as far as it reaches, and how many nodes are faulty; or the first node
 // in which too deep a clock is formed, and the list stays as it is. Of a sheet with one node, `env` has the clocks then.
 fn list_faults(
@@ -60,7 +55,7 @@ fn list_faults(
     ensures { λ w. ⌜ ((k : ℕ) → w ≡ NodesWalked.Deep k → now (faults .exit) ≡ now (faults .entry)) ⌝ }
     ensures { λ w. ⌜ ((r : Input) (q : ℕ) → sheet names (tokens (now (tags .entry)) (now (values .entry))) 0 ≡ got (r .sheet) q → r .names ≡ cut (now (given .entry)) (now (letters .entry)) → Roomy names (length (now (tags .entry))) (now (env .entry)) (now (table .entry)) → Walks r (now (faults .entry)) (now (faults .exit)) w × Sole (now (env .exit)) names (r .sheet .nodes)) ⌝ }
 {
-    let condact = narrow(fresh::find_condact(given, letters));
+    let condact = widths::narrow(fresh::find_condact(given, letters));
     let t = first_faults::tables_of(tags, values, names, condact);
     first_faults::write_first_faults(tags, values, t, env, table, faults)
 }
@@ -99,7 +94,7 @@ fn write_output(
 // The same of whole arrays.
 fn write_arrays(
     lengths: &[u8; MOST_NAMES],
-    text: &[u8; 16384],
+    text: &[u8; MOST_LETTERS],
     c: Counts,
     tags: &[u8; WORKING_TOKENS],
     values: &[u32; WORKING_TOKENS],
@@ -128,7 +123,7 @@ fn rewrite_faultless(
     ensures { λ a. ⌜ ((bytes : List ℕ) (r : Input) (ns : List ClockedNode) (list : List ℕ) → Faultless (now (starts .entry)) (now (letters .entry)) (now (tags .entry)) (now (values .entry)) names bytes r ns → r .names ≡ cut (now (given .entry)) (now (letters .entry)) → Sole (now (env .entry)) names (r .sheet .nodes) → RewriteInWords (rewriteAnswer bytes (length (now (out .entry)))) (now (out .entry)) list (now (out .exit)) list a) ⌝ }
 {
     let mut lengths = [0u8; MOST_NAMES];
-    let mut text = [0u8; 16384];
+    let mut text = [0u8; MOST_LETTERS];
     let mut flags = [0u32; CLOCK_TABLE];
     let mut firsts = [0u32; CLOCK_TABLE];
     let c = output_names::sheet_names(
@@ -271,7 +266,7 @@ pub fn rewrite_standing(
     requires { ⌜ (sum (now given) ≡ length (now letters)) × (length (now given) ≤ 1024) × (length (now letters) ≤ 16384) ⌝ }
     ensures { λ a. ⌜ ((bytes : List ℕ) (r : Input) → Read (now (given .entry)) (now (starts .entry)) (now (letters .entry)) (now (tags .entry)) (now (values .entry)) names bytes r → RewriteInWords (rewriteAnswer bytes (length (now (out .entry)))) (now (out .entry)) (now (faults .entry)) (now (out .exit)) (now (faults .exit)) a) ⌝ }
 {
-    if tags.len() <= 256 {
+    if tags.len() <= SMALL_TOKENS {
         return rewrite_small(given, starts, letters, tags, values, names, out, faults);
     }
     rewrite_large(given, starts, letters, tags, values, names, out, faults)

@@ -3,7 +3,9 @@
 // definition i has a default; `env` has the names' clocks; `condact` is the id of `condact`.
 use callees::Callee;
 use clock::Clock;
+use definitions::ARRAY_LEVELS;
 use definitions::MOST_NODES;
+use definitions::MOST_TYPES;
 use fault::Fault;
 use grammar::Read;
 use layout::NodeLayout;
@@ -82,8 +84,8 @@ fn or_met(a: Met, b: Met) -> Met
 fn outputs_fault(
     tags: &[u8],
     values: &[u32],
-    defs: &[usize; 32],
-    has: &[u8; 32],
+    defs: &[usize; MOST_TYPES],
+    has: &[u8; MOST_TYPES],
     s: Scope,
     f: u32,
     count: u32,
@@ -101,7 +103,7 @@ fn outputs_fault(
     let Read::Next(first) = label else {
         return Met::Nothing;
     };
-    let read = grammar::read_type(tags, values, names, 8, first);
+    let read = grammar::read_type(tags, values, names, ARRAY_LEVELS, first);
     let Read::Next(next) = read else {
         return Met::Nothing;
     };
@@ -117,8 +119,8 @@ fn gate_fault(
     tags: &[u8],
     values: &[u32],
     places: &[usize; MOST_NODES],
-    defs: &[usize; 32],
-    has: &[u8; 32],
+    defs: &[usize; MOST_TYPES],
+    has: &[u8; MOST_TYPES],
     s: Scope,
     f: u32,
 ) -> Met
@@ -155,8 +157,8 @@ fn own_fault(
     tags: &[u8],
     values: &[u32],
     places: &[usize; MOST_NODES],
-    defs: &[usize; 32],
-    has: &[u8; 32],
+    defs: &[usize; MOST_TYPES],
+    has: &[u8; MOST_TYPES],
     s: Scope,
     role: Role,
     c: Clock,
@@ -182,8 +184,8 @@ fn expr_fault(
     tags: &[u8],
     values: &[u32],
     places: &[usize; MOST_NODES],
-    defs: &[usize; 32],
-    has: &[u8; 32],
+    defs: &[usize; MOST_TYPES],
+    has: &[u8; MOST_TYPES],
     s: Scope,
     c: Clock,
     at: usize,
@@ -231,8 +233,8 @@ fn operand_fault(
     tags: &[u8],
     values: &[u32],
     places: &[usize; MOST_NODES],
-    defs: &[usize; 32],
-    has: &[u8; 32],
+    defs: &[usize; MOST_TYPES],
+    has: &[u8; MOST_TYPES],
     s: Scope,
     c: Clock,
     at: usize,
@@ -256,8 +258,8 @@ fn exprs_fault(
     tags: &[u8],
     values: &[u32],
     places: &[usize; MOST_NODES],
-    defs: &[usize; 32],
-    has: &[u8; 32],
+    defs: &[usize; MOST_TYPES],
+    has: &[u8; MOST_TYPES],
     s: Scope,
     here: Clock,
     rest: Clock,
@@ -299,8 +301,8 @@ fn exprs_fault(
 fn left_fault(
     tags: &[u8],
     values: &[u32],
-    defs: &[usize; 32],
-    has: &[u8; 32],
+    defs: &[usize; MOST_TYPES],
+    has: &[u8; MOST_TYPES],
     s: Scope,
     x: u32,
 ) -> Met
@@ -326,8 +328,8 @@ fn left_fault(
 fn lefts_fault(
     tags: &[u8],
     values: &[u32],
-    defs: &[usize; 32],
-    has: &[u8; 32],
+    defs: &[usize; MOST_TYPES],
+    has: &[u8; MOST_TYPES],
     s: Scope,
     count: u32,
     at: usize,
@@ -350,8 +352,8 @@ fn lefts_fault(
 fn flagged_fault(
     tags: &[u8],
     values: &[u32],
-    defs: &[usize; 32],
-    has: &[u8; 32],
+    defs: &[usize; MOST_TYPES],
+    has: &[u8; MOST_TYPES],
     s: Scope,
     condact: u32,
     left: Span,
@@ -378,8 +380,8 @@ fn right_fault(
     tags: &[u8],
     values: &[u32],
     places: &[usize; MOST_NODES],
-    defs: &[usize; 32],
-    has: &[u8; 32],
+    defs: &[usize; MOST_TYPES],
+    has: &[u8; MOST_TYPES],
     s: Scope,
     condact: u32,
     c: Clock,
@@ -439,8 +441,8 @@ pub fn first_fault(
     tags: &[u8],
     values: &[u32],
     places: &[usize; MOST_NODES],
-    defs: &[usize; 32],
-    has: &[u8; 32],
+    defs: &[usize; MOST_TYPES],
+    has: &[u8; MOST_TYPES],
     env: &[u32],
     s: Scope,
     condact: u32,

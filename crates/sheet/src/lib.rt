@@ -1,4 +1,5 @@
 // A sheet's bytes are read: refusals 1 to 7, in checking order, of document 01, or its tokens stand in the working arrays.
+use definitions::MOST_TYPES;
 use definitions::Refusal;
 use definitions::WORKING_TOKENS;
 use grammar::Read;
@@ -29,19 +30,6 @@ pub enum Checked {
     Refused(Refusal),
 }
 
-fn narrow(x: usize) -> u32
-    requires { ⌜ x < 2 ^ 32 ⌝ }
-    ensures { λ r. ⌜ r ≡ x ⌝ }
-{
-    x as u32
-}
-
-fn wide(x: u32) -> usize
-    ensures { λ r. ⌜ r ≡ x ⌝ }
-{
-    x as usize
-}
-
 // Refusal 7, of a sheet that 5 and 6 do not refuse.
 fn check_types(tags: &[u8], values: &[u32], names: u32) -> Checked
     requires { ⌜ length (now values) ≡ length (now tags) ⌝ }
@@ -49,8 +37,8 @@ fn check_types(tags: &[u8], values: &[u32], names: u32) -> Checked
 {
     let whole = layout::sheet_at(tags, values, names);
     let types = whole.types;
-    let n = wide(types.count);
-    if 32 < n {
+    let n = widths::wide(types.count);
+    if MOST_TYPES < n {
         return Checked::Fine;
     }
     let places = layout::definition_places(tags, values, names, n, types.at);
@@ -94,7 +82,7 @@ pub fn read(
     match a {
         PartsAnswer::Refused(r) => SheetAnswer::Refused(r),
         PartsAnswer::Parts(s) => {
-            let names = narrow(s.names);
+            let names = widths::narrow(s.names);
             let checked = check_front(tags, values, names, s.tokens);
             match checked {
                 Checked::Fine => SheetAnswer::Sheet(s),

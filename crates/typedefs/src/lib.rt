@@ -1,6 +1,7 @@
 // Where the definitions of a sheet's types stand, and their parts: document 01, "The sheet".
 // `tags` and `values` are a sheet's tokens, `names` the number of its names; a table of places holds at most 32.
 use definitions::DefinitionToken;
+use definitions::MOST_TYPES;
 use grammar::Counted;
 use grammar::DefinitionHead;
 ghost use mathlib.Core.Path.{_≡_};
@@ -29,7 +30,7 @@ pub fn value_at(values: &[u32], at: usize) -> u32
 }
 
 // The place of the first definition of a name among n; n, where there is none.
-pub fn find_definition(values: &[u32], places: &[usize; 32], n: usize, x: u32) -> usize
+pub fn find_definition(values: &[u32], places: &[usize; MOST_TYPES], n: usize, x: u32) -> usize
     requires { ⌜ n ≤ 32 ⌝ }
     ensures { λ r. ⌜ ((types : List TypeDef) → Named (now (values .entry)) (now (places .entry)) n types → r ≡ firstOf types x) ⌝ }
 {

@@ -162,15 +162,11 @@ fn put_bytes(out: &mut [u8; 65536], at: usize, part: &[u8]) -> usize {
     put_hex(out, at, part)
 }
 
-fn wide_word(w: u32) -> usize {
-    w as usize
-}
-
 // The three words of a fault.
 fn put_fault(out: &mut [u8; 65536], at: usize, f: FaultRecord) -> usize {
-    let a = refusals::put_number(out, at, wide_word(f.node));
-    let b = refusals::put_number(out, a, wide_word(f.fault));
-    refusals::put_number(out, b, wide_word(f.equation))
+    let a = refusals::put_number(out, at, widths::wide(f.node));
+    let b = refusals::put_number(out, a, widths::wide(f.fault));
+    refusals::put_number(out, b, widths::wide(f.equation))
 }
 
 // The words of so many first faults.

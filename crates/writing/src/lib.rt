@@ -56,22 +56,15 @@ fn put_words(out: &mut [u8], at: usize, words: &[u32])
     }
 }
 
-fn narrow(x: usize) -> u32
-    requires { ⌜ x < 2 ^ 32 ⌝ }
-    ensures { λ r. ⌜ r ≡ x ⌝ }
-{
-    x as u32
-}
-
 // The three sizes.
 fn put_sizes(out: &mut [u8], names: usize, letters: usize, tokens: usize)
     requires { ⌜ 12 ≤ length (now out) ⌝ }
     requires { ⌜ (names < 2 ^ 32) × (letters < 2 ^ 32) × (tokens < 2 ^ 32) ⌝ }
     ensures { λ r. ⌜ now (out .exit) ≡ sets (sets (sets (now (out .entry)) 0 (wordBytes names)) 4 (wordBytes letters)) 8 (wordBytes tokens) ⌝ }
 {
-    put_word(out, 0, narrow(names));
-    put_word(out, 4, narrow(letters));
-    put_word(out, 8, narrow(tokens));
+    put_word(out, 0, widths::narrow(names));
+    put_word(out, 4, widths::narrow(letters));
+    put_word(out, 8, widths::narrow(tokens));
 }
 
 // A sheet of the names that the lengths cut the letters into, and of the tokens that the tags and values are.

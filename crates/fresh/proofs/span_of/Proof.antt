@@ -12,15 +12,15 @@ use Rattle.fresh.proofs.span_of.Tie as tie
 starts-here : (c : tie.After-word-at2) →
     let s = c .before .before .before .before .before in
     c .before .word-at .result ≡ getD (now (s .args .starts)) (s .args .x) 0
-starts-here c = c .before .word-at .ensures ∙ ap (λ i. getD (now (c .before .before .before .before .before .args .starts)) i 0) (c .before .before .wide-word .ensures)
+starts-here c = c .before .word-at .ensures ∙ ap (λ i. getD (now (c .before .before .before .before .before .args .starts)) i 0) (c .before .before .wide .ensures)
 
 ends-here : (c : tie.After-word-at2) →
     let s = c .before .before .before .before .before in
     c .word-at2 .result ≡ getD (now (s .args .starts)) (s .args .x + 1) 0
-ends-here c = c .word-at2 .ensures ∙ ap (λ i. getD (now (c .before .before .before .before .before .args .starts)) (i + 1) 0) (c .before .before .wide-word .ensures)
+ends-here c = c .word-at2 .ensures ∙ ap (λ i. getD (now (c .before .before .before .before .before .args .starts)) (i + 1) 0) (c .before .before .wide .ensures)
 
-wide-word-requires : tie.Need-wide-word-requires
-wide-word-requires c κs = search needs
+wide-requires : tie.Need-wide-requires
+wide-requires c κs = search needs
 
 word-at-requires : tie.Need-word-at-requires
 word-at-requires c κs = search needs
@@ -44,7 +44,7 @@ pub span-of-spec : {M : Type 1} → statement M
 span-of-spec =
     tie.close
     (tie.spec
-    wide-word-requires
+    wide-requires
     word-at-requires
     add-word-at
     word-at-requires-2

@@ -7,14 +7,14 @@ use borrow.Author.Needs.{needs}
 use Rattle.fresh.proofs.word_at.Statement.{statement}
 use Rattle.fresh.proofs.word_at.Tie as tie
 
-mul-wide-word : tie.Need-mul-wide-word
-mul-wide-word c = search needs
+mul-wide : tie.Need-mul-wide
+mul-wide c = search needs
 
-shared-slice-read-wide-word : tie.Need-shared-slice-read-wide-word
-shared-slice-read-wide-word c = search needs
+shared-slice-read-wide : tie.Need-shared-slice-read-wide
+shared-slice-read-wide c = search needs
 
-wide-word-requires : tie.Need-wide-word-requires
-wide-word-requires c κs = search needs
+wide-requires : tie.Need-wide-requires
+wide-requires c κs = search needs
 
 returns : tie.Need-returns
 returns c = search needs
@@ -25,4 +25,4 @@ returns-2 c = sym (List·getD-eq-default (now (c .before .before .args .ws)) 0 (
 pub word-at-spec : {M : Type 1} → statement M
 word-at-spec =
     tie.close
-    (tie.spec mul-wide-word shared-slice-read-wide-word wide-word-requires returns returns-2)
+    (tie.spec mul-wide shared-slice-read-wide wide-requires returns returns-2)

@@ -30,7 +30,7 @@ find-condact-requires : tie.Need-find-condact-requires Inv-loop μ-loop
 find-condact-requires c κs = omega (arith, c .before .before .before .before .before .before .before .before .pre .1 .0)
 
 narrow-requires : tie.Need-narrow-requires Inv-loop μ-loop
-narrow-requires c κs = condact-few _ _ (c .before .before .before .before .before .before .before .before .before .pre .1 .1 .0) (c .find-condact .ensures)
+narrow-requires c κs = omega (arith, condact-few _ _ (c .before .before .before .before .before .before .before .before .before .pre .1 .1 .0) (c .find-condact .ensures))
 
 sheet-at-requires : tie.Need-sheet-at-requires Inv-loop μ-loop
 sheet-at-requires c κs = search needs

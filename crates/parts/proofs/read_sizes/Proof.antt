@@ -8,8 +8,8 @@ use Rattle.parts.proofs.read_sizes.Statement.{statement}
 use Rattle.parts.proofs.read_sizes.Tie as tie
 
 -- where the three sizes are read
-sizes : (c : tie.After-wide-word3) → SizesRead (now (c .before .before .before .before .before .before .before .before .args .sheet)) (c .before .before .before .before .wide-word .result) (c .before .before .wide-word2 .result) (c .wide-word3 .result)
-sizes c = sizes-read (now (c .before .before .before .before .before .before .before .before .args .sheet)) (c .before .before .before .before .before .before .if1 .left) _ _ _ _ _ _ (c .before .before .before .before .before .read-word .ensures) (c .before .before .before .read-word2 .ensures) (c .before .read-word3 .ensures) (c .before .before .before .before .wide-word .ensures) (c .before .before .wide-word2 .ensures) (c .wide-word3 .ensures)
+sizes : (c : tie.After-wide3) → SizesRead (now (c .before .before .before .before .before .before .before .before .args .sheet)) (c .before .before .before .before .wide .result) (c .before .before .wide2 .result) (c .wide3 .result)
+sizes c = sizes-read (now (c .before .before .before .before .before .before .before .before .args .sheet)) (c .before .before .before .before .before .before .if1 .left) _ _ _ _ _ _ (c .before .before .before .before .before .read-word .ensures) (c .before .before .before .read-word2 .ensures) (c .before .read-word3 .ensures) (c .before .before .before .before .wide .ensures) (c .before .before .wide2 .ensures) (c .wide3 .ensures)
 
 returns : tie.Need-returns
 unfolding SizesTold
@@ -18,20 +18,20 @@ returns c = short (now (c .before .before .args .sheet)) (c .if1 .taken)
 read-word-requires : tie.Need-read-word-requires
 read-word-requires c κs = search needs
 
-wide-word-requires : tie.Need-wide-word-requires
-wide-word-requires c κs = search needs
+wide-requires : tie.Need-wide-requires
+wide-requires c κs = search needs
 
 read-word-requires-2 : tie.Need-read-word-requires-2
 read-word-requires-2 c κs = search needs
 
-wide-word-requires-2 : tie.Need-wide-word-requires-2
-wide-word-requires-2 c κs = search needs
+wide-requires-2 : tie.Need-wide-requires-2
+wide-requires-2 c κs = search needs
 
 read-word-requires-3 : tie.Need-read-word-requires-3
 read-word-requires-3 c κs = search needs
 
-wide-word-requires-3 : tie.Need-wide-word-requires-3
-wide-word-requires-3 c κs = search needs
+wide-requires-3 : tie.Need-wide-requires-3
+wide-requires-3 c κs = search needs
 
 returns-2 : tie.Need-returns-2
 unfolding SizesTold
@@ -75,11 +75,11 @@ read-sizes-spec =
     (tie.spec
     returns
     read-word-requires
-    wide-word-requires
+    wide-requires
     read-word-requires-2
-    wide-word-requires-2
+    wide-requires-2
     read-word-requires-3
-    wide-word-requires-3
+    wide-requires-3
     returns-2
     returns-3
     returns-4

@@ -8,7 +8,7 @@ use Rattle.query.proofs.node_place.Reads as reads
 use Rattle.query.proofs.node_place.Lts as lts
 use Rattle.layout.proofs.node_places.Reads as node-places-reads
 use Rattle.layout.proofs.sheet_at.Reads as sheet-at-reads
-use Rattle.query.proofs.wide.Reads as wide-reads
+use Rattle.widths.proofs.wide.Reads as wide-reads
 
 sheet-at-requires : tie.Need-sheet-at-requires
 sheet-at-requires c κs = search needs

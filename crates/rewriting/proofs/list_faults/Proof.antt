@@ -11,7 +11,7 @@ find-condact-requires : tie.Need-find-condact-requires
 find-condact-requires c κs = search needs
 
 narrow-requires : tie.Need-narrow-requires
-narrow-requires c κs = condact-few (c .before .before .before .before .before .before .before .before .args .given .now) (c .before .before .before .before .before .before .before .before .args .letters .now) (c .find-condact .result) (c .find-condact .ensures) (c .before .before .before .before .before .before .before .before .pre .1 .1)
+narrow-requires c κs = omega (arith, condact-few (c .before .before .before .before .before .before .before .before .args .given .now) (c .before .before .before .before .before .before .before .before .args .letters .now) (c .find-condact .result) (c .find-condact .ensures) (c .before .before .before .before .before .before .before .before .pre .1 .1))
 
 tables-of-requires : tie.Need-tables-of-requires
 tables-of-requires c κs = search needs

@@ -1,5 +1,5 @@
-/* What each function of the library takes of the stack: stack SHEET.. prints a line for each function, its name and the most bytes
-   that a call touched of a painted stack. */
+/* What each function of the library takes of the stack: stack SHEET.. prints a line for each function, its name, the most bytes
+   that a call touched of a painted stack, and on which sheet. */
 #define _GNU_SOURCE
 #include <stdio.h>
 #include <string.h>
@@ -47,12 +47,13 @@ int main(int argc, char **argv) {
     if (stack == MAP_FAILED) return 2;
     for (int i = 1; i < argc; i++) {
         FILE *f = fopen(argv[i], "rb");
+        const char *slash = strrchr(argv[i], '/');
         if (!f) return perror(argv[i]), 2;
         length = fread(sheet, 1, sizeof sheet, f);
         fclose(f);
         for (int k = 0; k < 5; k++) {
             size_t n = touched(calls[k]);
-            if (most[k] < n) most[k] = n, where[k] = argv[i];
+            if (most[k] < n) most[k] = n, where[k] = slash ? slash + 1 : argv[i];
         }
     }
     for (int k = 0; k < 5; k++) printf("declock_%s %zu %s\n", names[k], most[k], where[k]);

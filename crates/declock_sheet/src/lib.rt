@@ -291,7 +291,7 @@ pub fn declock_sheet(
     if MOST_NODES < n {
         return 0;
     }
-    if 32 < m {
+    if MOST_TYPES < m {
         return 0;
     }
     let places = layout::node_places(tags, values, names, n, span.at);

@@ -37,6 +37,9 @@ ghost use Rattle.first_faults.specs.Faults.{SheetTables, foundOf, faultI
 // The most nodes, as a word.
 const NODES: u32 = MOST_NODES as u32;
 
+// The words of a record for each node.
+const KEPT: usize = 3 * MOST_NODES;
+
 // A sheet: how many names it has and the id of `condact` among them, how many nodes and types' definitions; where each of these
 // stands, and for each definition 1 if it has a default.
 pub struct Tables {
@@ -393,7 +396,7 @@ pub fn write_first_faults(
     ensures { λ _. ⌜ ((i : Input) → SheetTables (now (tags .entry)) (now (values .entry)) t i → Roomy (t .names) (length (now (tags .entry))) (now (env .entry)) (now (table .entry)) → Sole (now (env .exit)) (t .names) (i .sheet .nodes)) ⌝ }
 {
     // a node after faulty ones may be the deep one, and then the lent list keeps its words
-    let mut kept = [0u32; 48];
+    let mut kept = [0u32; KEPT];
     let w = walk_nodes(tags, values, t, env, table, &mut kept);
     match w {
         NodesWalked::Deep(k) => NodesWalked::Deep(k),

@@ -1,5 +1,6 @@
 // Says what a sheet on standard input has: its sizes, its types and its nodes; or what it is refused for.
 use definitions::MOST_NODES;
+use definitions::MOST_TYPES;
 use definitions::NodeKind;
 use definitions::Refusal;
 use definitions::WORKING_TOKENS;
@@ -158,7 +159,7 @@ fn put_types(
     let whole = layout::sheet_at(tags, values, names);
     let types = whole.types;
     let n = widths::wide(types.count);
-    if 32 < n {
+    if MOST_TYPES < n {
         return at;
     }
     let places = layout::definition_places(tags, values, names, n, types.at);

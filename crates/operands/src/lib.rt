@@ -4,6 +4,7 @@
 use definitions::ARRAY_LEVELS;
 use definitions::Condition;
 use definitions::ExprToken;
+use definitions::MOST_ITEMS;
 use definitions::Test;
 use grammar::Counted;
 use grammar::ExprHead;
@@ -185,7 +186,7 @@ fn behind_count(tags: &[u8], values: &[u32], gap: Gap, at: usize) -> Operands
     requires { ⌜ length (now values) ≡ length (now tags) ⌝ }
     ensures { λ r. ⌜ r ≡ behindCount gap at (counted 3 0 64 (tokens (now (tags .entry)) (now (values .entry))) at) ⌝ }
 {
-    let count = grammar::read_count(tags, values, 3, 0, 64, at);
+    let count = grammar::read_count(tags, values, 3, 0, MOST_ITEMS, at);
     match count {
         Counted::Count(n, first) => Operands {
             first: first,
@@ -202,7 +203,7 @@ fn behind_start(tags: &[u8], values: &[u32], names: u32, at: usize) -> Operands
     ensures { λ r. ⌜ ((e : Expr) (q : ℕ) → tree names (tokens (now (tags .entry)) (now (values .entry))) at ≡ got e q → r ≡ behindStart at (counted 3 0 64 (tokens (now (tags .entry)) (now (values .entry))) q)) ⌝ }
 {
     let end = extents::expr_end(tags, values, at);
-    let count = grammar::read_count(tags, values, 3, 0, 64, end);
+    let count = grammar::read_count(tags, values, 3, 0, MOST_ITEMS, end);
     match count {
         Counted::Count(n, _) => Operands {
             first: at,

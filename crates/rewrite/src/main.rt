@@ -106,7 +106,7 @@ fn show_fault(sheet: &[u8], node: u32, fault: u32, equation: u32) {
 // A line for each of the first faults, of which there are at most as many as nodes.
 fn show_faults(sheet: &[u8], count: usize, faults: [FaultRecord; MOST_NODES]) {
     let mut i: usize = 0;
-    while i < 16 {
+    while i < MOST_NODES {
         if count <= i {
             return;
         }

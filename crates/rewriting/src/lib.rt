@@ -79,7 +79,7 @@ fn write_output(
     if c.full {
         return RewriteAnswer::Refused(Refusal::Large);
     }
-    if 8192 < n {
+    if WORKING_TOKENS < n {
         return RewriteAnswer::Refused(Refusal::Large);
     }
     let m = c.names;

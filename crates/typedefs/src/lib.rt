@@ -1,6 +1,7 @@
 // Where the definitions of a sheet's types stand, and their parts: document 01, "The sheet".
 // `tags` and `values` are a sheet's tokens, `names` the number of its names; a table of places holds at most 32.
 use definitions::DefinitionToken;
+use definitions::MOST_ITEMS;
 use definitions::MOST_TYPES;
 use grammar::Counted;
 use grammar::DefinitionHead;
@@ -54,14 +55,14 @@ pub fn describe(tags: &[u8], values: &[u32], names: u32, at: usize) -> Defined
         DefinitionHead::Refused(_) => Defined::Nothing,
         DefinitionHead::Token(t, next) => match t {
             DefinitionToken::Enum(x) => {
-                let count = grammar::read_count(tags, values, 3, 0, 64, next);
+                let count = grammar::read_count(tags, values, 3, 0, MOST_ITEMS, next);
                 match count {
                     Counted::Count(n, first) => Defined::Enum(x, n, first),
                     Counted::Refused(_) => Defined::Nothing,
                 }
             }
             DefinitionToken::Record(x) => {
-                let count = grammar::read_count(tags, values, 3, 0, 64, next);
+                let count = grammar::read_count(tags, values, 3, 0, MOST_ITEMS, next);
                 match count {
                     Counted::Count(n, first) => Defined::Record(x, n, first),
                     Counted::Refused(_) => Defined::Nothing,

@@ -1,6 +1,6 @@
 -- Fault records put over the front of a lent list, one after another, node after node up to the first in which too deep a clock is formed.
 -- Assumes nothing.
-use Prim.Native.Nat.{ℕ, zero, suc, _+_, _*_, _/_, _≤_, _<_}
+use Prim.Native.Nat.{ℕ, zero, suc, _+_, _*_, _/_, _≤_, _<_, min}
 use mathlib.Core.Path.{_≡_, refl, sym, ap, _∙_, subst}
 use mathlib.Core.List.{List, [], _∷_, _++_, map, append-nil}
 use mathlib.Core.Bool.{Bool, true, false}
@@ -139,22 +139,22 @@ take-words (suc n) (f ∷ l) =
     ap (λ (i : ℕ). take i (join (map recordWords (f ∷ l)))) e ∙ ap (λ (r : List ℕ). f .node ∷ f .fault ∷ f .equation ∷ r) (take-words n l)
 
 -- as many as there are, or as there is room for
-take-most : {A : Type 0} (n k : ℕ) (l : List A) → (length l ≤ k → n ≡ length l) → (k ≤ length l → n ≡ k) → take n l ≡ take k l
-take-most n k l f g = go (leb (length l) k) refl
+take-most : {A : Type 0} (n k : ℕ) (l : List A) → n ≡ min (length l) k → take n l ≡ take k l
+take-most n k l f = go (leb (length l) k) refl
   where
     go : (b : Bool) → leb (length l) k ≡ b → take n l ≡ take k l
-    go true e = let h = leb-true (length l) k e in take-all n l (omega (arith, f h)) ∙ sym (take-all k l h)
-    go false e = ap (λ (i : ℕ). take i l) (g (omega (arith, leb-false (length l) k e)))
+    go true e = let h = leb-true (length l) k e in take-all n l (omega (arith, f, h)) ∙ sym (take-all k l h)
+    go false e = let h : n ≡ k = omega (arith, f, leb-false (length l) k e) in ap (λ (i : ℕ). take i l) h
 
-pub record-copied : (first kept lent after : List ℕ) (l : List FaultRecord) (m n : ℕ) → Recorded first l m kept → 3 * m ≤ length kept → n ≤ m → (m ≤ length lent / 3 → n ≡ m) → (length lent / 3 ≤ m → n ≡ length lent / 3)
+pub record-copied : (first kept lent after : List ℕ) (l : List FaultRecord) (m n : ℕ) → Recorded first l m kept → 3 * m ≤ length kept → n ≡ min m (length lent / 3)
     → after ≡ overAt 0 (take (3 * n) kept) lent → Recorded lent l m after
 unfolding entriesOver
-record-copied first kept lent after l m n h room few f g e =
+record-copied first kept lent after l m n h room few e =
     let many = length-map l recordWords in
     let long : length kept ≡ length first = ap length (h .written) ∙ entries-long first (map recordWords l) in
     let k = h .written ∙ entries-all first l (omega (arith, room, h .counted, long)) in
     let part = ap (take (3 * n)) k ∙ (take-over (3 * n) (join (map recordWords l)) first (omega (arith, few, h .counted, words-long l)) (omega (arith, room, h .counted, long, words-long l)) ∙ take-words n l) in
-    let same = take-most n (length lent / 3) (map recordWords l) (λ u. f (omega (arith, u, h .counted, many)) ∙ (h .counted ∙ sym many)) (λ u. g (omega (arith, u, h .counted, many))) in
+    let same = take-most n (length lent / 3) (map recordWords l) (few ∙ ap (λ (i : ℕ). min i (length lent / 3)) (h .counted ∙ sym many)) in
     record { counted = h .counted; written = e ∙ (over-front (take (3 * n) kept) lent ∙ ap (λ (x : List ℕ). over x lent) (part ∙ ap join same)) }
 
 -- ---- node after node

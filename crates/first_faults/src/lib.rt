@@ -71,14 +71,6 @@ pub enum NodesWalked {
     Faulty(usize),
 }
 
-// A number up to the most that there can be.
-fn at_most(x: usize, most: usize) -> usize
-    ensures { λ r. ⌜ (r ≤ most) × (x ≤ most → r ≡ x) ⌝ }
-    ensures { λ r. ⌜ (r ≤ x) × (most ≤ x → r ≡ most) ⌝ }
-{
-    if x <= most { x } else { most }
-}
-
 // A number below n as a word.
 fn word_below(x: usize, n: u32) -> u32
     ensures { λ r. ⌜ (x < n → r ≡ x) ⌝ }
@@ -98,8 +90,8 @@ pub fn tables_of(tags: &[u8], values: &[u32], names: u32, condact: u32) -> Table
     let whole = layout::sheet_at(tags, values, names);
     let t = whole.types;
     let n = whole.nodes;
-    let types = at_most(widths::wide(t.count), MOST_TYPES);
-    let nodes = at_most(widths::wide(n.count), MOST_NODES);
+    let types = widths::least(widths::wide(t.count), MOST_TYPES);
+    let nodes = widths::least(widths::wide(n.count), MOST_NODES);
     let defs = layout::definition_places(tags, values, names, types, t.at);
     let has = defaults::has_defaults(tags, values, names, &defs, types);
     let places = layout::node_places(tags, values, names, nodes, n.at);
@@ -375,7 +367,7 @@ fn copy_records(kept: &[u32], m: usize, list: &mut [u32])
     ensures { λ _. ⌜ ((lent : List ℕ) (l : List FaultRecord) → Recorded lent l m (now (kept .entry)) → Recorded (now (list .entry)) l m (now (list .exit))) ⌝ }
 {
     let most = list.len() / 3;
-    let n = at_most(m, most);
+    let n = widths::least(m, most);
     copy_words(kept, 3 * n, list);
 }
 

@@ -7,6 +7,7 @@ use definitions::EXPRESSION_LEVELS;
 use definitions::ExprToken;
 use definitions::Literal;
 use definitions::MOST_DECLARED;
+use definitions::MOST_EQUATIONS;
 use definitions::MOST_ITEMS;
 use definitions::MOST_LEFT;
 use definitions::MOST_NODES;
@@ -33,6 +34,8 @@ ghost use Rattle.grammar.specs.Parts.{part, items, equations, ports, bod
 const TYPES: u32 = MOST_TYPES as u32;
 
 const NODES: u32 = MOST_NODES as u32;
+
+const EQUATIONS: u32 = MOST_EQUATIONS as u32;
 
 const DECLARED: u32 = MOST_DECLARED as u32;
 
@@ -577,7 +580,7 @@ fn read_equations(tags: &[u8], values: &[u32], names: u32, at: usize) -> Read
     requires { ⌜ length (now values) ≡ length (now tags) ⌝ }
     ensures { λ r. ⌜ r ≡ outcome (equations names (tokens (now (tags .entry)) (now (values .entry))) at) ⌝ }
 {
-    let count = read_count(tags, values, 3, 0, MOST_ITEMS, at);
+    let count = read_count(tags, values, 3, 0, EQUATIONS, at);
     match count {
         Counted::Count(n, first) => {
             let mut left = n;

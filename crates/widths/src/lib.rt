@@ -1,6 +1,6 @@
 // Numbers of one width as numbers of another, and the lesser of two.
 ghost use mathlib.Core.Path.{_≡_};
-ghost use Prim.Native.Nat.{ℕ, _≤_, _<_, _^_, min};
+ghost use Prim.Native.Nat.{_<_, _^_, min};
 
 // A word as a place or a count.
 pub fn wide(x: u32) -> usize
@@ -20,7 +20,6 @@ pub fn narrow(x: usize) -> u32
 // The lesser of two numbers.
 pub fn least(a: usize, b: usize) -> usize
     ensures { λ r. ⌜ r ≡ min a b ⌝ }
-    ensures { λ r. ⌜ (r ≤ b) × ((i : ℕ) → i < a → i < b → i < r) × (r ≤ a) ⌝ }
 {
     if a < b { a } else { b }
 }

@@ -1,5 +1,6 @@
 -- `first_faults::tables_of` meets its contract. Assumes nothing.
 use mathlib.Core.Path.{refl}
+use native.Mathlib.Omega.{arith}
 use Rattle.first_faults.proofs.Laws.{tabled}
 use borrow.Author.Needs.{needs}
 use Rattle.first_faults.proofs.tables_of.Statement.{statement}
@@ -11,14 +12,14 @@ sheet-at-requires c κs = search needs
 wide-requires : tie.Need-wide-requires
 wide-requires c κs = search needs
 
-at-most-requires : tie.Need-at-most-requires
-at-most-requires c κs = search needs
+least-requires : tie.Need-least-requires
+least-requires c κs = search needs
 
 wide-requires-2 : tie.Need-wide-requires-2
 wide-requires-2 c κs = search needs
 
-at-most-requires-2 : tie.Need-at-most-requires-2
-at-most-requires-2 c κs = search needs
+least-requires-2 : tie.Need-least-requires-2
+least-requires-2 c κs = search needs
 
 definition-places-requires : tie.Need-definition-places-requires
 definition-places-requires c κs = search needs
@@ -30,7 +31,7 @@ node-places-requires : tie.Need-node-places-requires
 node-places-requires c κs = search needs
 
 returns : tie.Need-returns
-returns c = ((refl, c .before .before .before .before .at-most2 .ensures .0 .0, c .before .before .before .before .before .before .at-most .ensures .0 .0), λ i q g e. tabled _ _ _ _ _ _ _ _ _ _ _ (c .before .before .before .before .before .before .before .before .before .before .sheet-at .result) i (c .before .before .before .before .before .before .before .before .before .before .sheet-at .ensures (i .sheet) q g) (c .before .before .before .before .before .before .before .wide .ensures) (c .before .before .before .before .before .before .at-most .ensures .0) (c .before .before .before .before .before .wide2 .ensures) (c .before .before .before .before .at-most2 .ensures .0) (c .before .before .before .definition-places .ensures) (c .before .has-defaults .ensures) (c .node-places .ensures) e)
+returns c = ((refl, omega (arith, c .before .before .before .before .least2 .ensures), omega (arith, c .before .before .before .before .before .before .least .ensures)), λ i q g e. tabled _ _ _ _ _ _ _ _ _ _ _ (c .before .before .before .before .before .before .before .before .before .before .sheet-at .result) i (c .before .before .before .before .before .before .before .before .before .before .sheet-at .ensures (i .sheet) q g) (c .before .before .before .before .before .before .before .wide .ensures) (omega (arith, c .before .before .before .before .before .before .least .ensures), λ h. omega (arith, c .before .before .before .before .before .before .least .ensures, h)) (c .before .before .before .before .before .wide2 .ensures) (omega (arith, c .before .before .before .before .least2 .ensures), λ h. omega (arith, c .before .before .before .before .least2 .ensures, h)) (c .before .before .before .definition-places .ensures) (c .before .has-defaults .ensures) (c .node-places .ensures) e)
 
 pub tables-of-spec : {M : Type 1} → statement M
 tables-of-spec =
@@ -38,9 +39,9 @@ tables-of-spec =
     (tie.spec
     sheet-at-requires
     wide-requires
-    at-most-requires
+    least-requires
     wide-requires-2
-    at-most-requires-2
+    least-requires-2
     definition-places-requires
     has-defaults-requires
     node-places-requires

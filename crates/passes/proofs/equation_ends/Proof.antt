@@ -33,13 +33,13 @@ equation-end-requires : tie.Need-equation-end-requires Inv-loop μ-loop
 equation-end-requires c κs = search needs
 
 mul-ends : tie.Need-mul-ends Inv-loop μ-loop
-mul-ends c = record { fits = omega (arith, c .before .before .before .least .ensures .1 .0, c .before .loop-test .taken) }
+mul-ends c = record { fits = omega (arith, c .before .before .before .least .ensures, c .before .loop-test .taken) }
 
 array-write-ends : tie.Need-array-write-ends Inv-loop μ-loop
-array-write-ends c = omega (arith, c .before .before .before .least .ensures .1 .0, c .before .loop-test .taken)
+array-write-ends c = omega (arith, c .before .before .before .least .ensures, c .before .loop-test .taken)
 
 add-i : tie.Need-add-i Inv-loop μ-loop
-add-i c = record { fits = omega (arith, c .before .before .before .least .ensures .1 .0, c .before .loop-test .taken) }
+add-i c = record { fits = omega (arith, c .before .before .before .least .ensures, c .before .loop-test .taken) }
 
 loop-less : tie.Need-loop-less Inv-loop μ-loop
 loop-less c = omega (arith, c .before .loop-test .taken)
@@ -47,11 +47,11 @@ loop-less c = omega (arith, c .before .loop-test .taken)
 loop-again : tie.Need-loop-again Inv-loop μ-loop
 loop-again c = (
   length-set (c .before .before .loop .ends) (c .before .before .loop .i) (c .equation-end .result) ∙ c .before .before .loop .inv .0,
-  λ l q g. ends-more _ _ _ _ _ _ _ (c .before .before .loop .ends) l q g (omega (arith, c .before .before .before .least .ensures .1 .2, c .before .loop-test .taken)) (omega (arith, c .before .before .before .least .ensures .1 .0, c .before .loop-test .taken, c .before .before .loop .inv .0)) (λ e u h. c .equation-end .ensures _ e u h) (c .before .before .loop .inv .1 l q g),
+  λ l q g. ends-more _ _ _ _ _ _ _ (c .before .before .loop .ends) l q g (omega (arith, c .before .before .before .least .ensures, c .before .loop-test .taken)) (omega (arith, c .before .before .before .least .ensures, c .before .loop-test .taken, c .before .before .loop .inv .0)) (λ e u h. c .equation-end .ensures _ e u h) (c .before .before .loop .inv .1 l q g),
 )
 
 returns : tie.Need-returns Inv-loop μ-loop
-returns c = λ l q g. record { ends-at = λ k a b. c .before .loop .inv .1 l q g .1 k (omega (arith, c .before .before .least .ensures .1 .1 k a b, c .loop-test .left)) }
+returns c = λ l q g. record { ends-at = λ k a b. c .before .loop .inv .1 l q g .1 k (omega (arith, c .before .before .least .ensures, a, b, c .loop-test .left)) }
 
 pub equation-ends-spec : {M : Type 1} → statement M
 equation-ends-spec =

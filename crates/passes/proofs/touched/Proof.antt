@@ -29,13 +29,13 @@ loop-holds : tie.Need-loop-holds Inv-loop μ-loop
 loop-holds c = quiet-start (now (c .before .before .before .before .before .args .tags)) (now (c .before .before .before .before .before .args .values)) (now (c .before .before .before .before .before .args .since)) (c .before .before .before .before .before .args .made) (c .before .before .before .before .before .args .from)
 
 shared-slice-read-is-changed : tie.Need-shared-slice-read-is-changed Inv-loop μ-loop
-shared-slice-read-is-changed c = omega (arith, c .before .before .before .least .ensures .1 .0, c .before .loop-test .taken)
+shared-slice-read-is-changed c = omega (arith, c .before .before .before .least .ensures, c .before .loop-test .taken)
 
 mul-is-changed : tie.Need-mul-is-changed Inv-loop μ-loop
 mul-is-changed c = search needs
 
 shared-slice-read-is-changed-2 : tie.Need-shared-slice-read-is-changed-2 Inv-loop μ-loop
-shared-slice-read-is-changed-2 c = omega (arith, c .before .before .before .before .least .ensures .1 .0, c .before .before .loop-test .taken, c .before .before .before .before .before .before .before .before .before .pre)
+shared-slice-read-is-changed-2 c = omega (arith, c .before .before .before .before .least .ensures, c .before .before .loop-test .taken, c .before .before .before .before .before .before .before .before .before .pre)
 
 is-changed-requires : tie.Need-is-changed-requires Inv-loop μ-loop
 is-changed-requires c κs = search needs
@@ -53,7 +53,7 @@ loop-again : tie.Need-loop-again Inv-loop μ-loop
 loop-again c = quiet-more (now (c .before .before .before .before .before .before .before .before .before .before .before .args .tags)) (now (c .before .before .before .before .before .before .before .before .before .before .before .args .values)) (now (c .before .before .before .before .before .before .before .before .before .before .before .args .since)) (c .before .before .before .before .before .before .before .before .before .before .before .args .made) (c .before .before .before .before .before .before .before .before .before .before .before .args .from) (c .before .before .before .before .before .loop .i) (c .before .before .before .before .before .loop .inv) (c .before .is-changed .ensures (c .if2 .left))
 
 returns-3 : tie.Need-returns-3 Inv-loop μ-loop
-returns-3 c = λ e. record { later = omega (arith, c .before .before .before .if1 .left); settled = λ i a b d h. c .before .loop .inv i a (omega (arith, c .before .before .least .ensures .1 .1 i b d, c .loop-test .left)) d h }
+returns-3 c = λ e. record { later = omega (arith, c .before .before .before .if1 .left); settled = λ i a b d h. c .before .loop .inv i a (omega (arith, c .before .before .least .ensures, b, d, c .loop-test .left)) d h }
 
 pub touched-spec : {M : Type 1} → statement M
 touched-spec =

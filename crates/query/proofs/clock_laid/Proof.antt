@@ -15,13 +15,13 @@ array-borrow-prefix-marks : tie.Need-array-borrow-prefix-marks
 array-borrow-prefix-marks c = search needs
 
 slice-aggregate-clock-laid : tie.Need-slice-aggregate-clock-laid
-slice-aggregate-clock-laid c = part-long _ _ _ (c .before .before .least .ensures .0) refl
+slice-aggregate-clock-laid c = part-long _ _ _ (c .before .before .least .ensures) refl
 
 array-borrow-prefix-ports : tie.Need-array-borrow-prefix-ports
 array-borrow-prefix-ports c = search needs
 
 slice-aggregate-clock-laid-2 : tie.Need-slice-aggregate-clock-laid-2
-slice-aggregate-clock-laid-2 c = part-long _ _ _ (c .before .before .before .least .ensures .0) refl
+slice-aggregate-clock-laid-2 c = part-long _ _ _ (c .before .before .before .least .ensures) refl
 
 clock-laid-requires : tie.Need-clock-laid-requires
 clock-laid-requires c κs = search needs
@@ -39,7 +39,7 @@ same-length-2 : tie.Need-same-length-2
 same-length-2 c = search needs
 
 returns : tie.Need-returns
-returns c = λ n q d r. clocked-deep _ _ _ _ _ n _ (c .before .before .before .before .before .before .before .before .clock-laid .ensures n q d (r .clocks) (part-enough _ _ _ (c .before .before .before .before .before .before .before .before .before .before .before .before .before .least .ensures .0) refl _ (c .before .before .before .before .before .before .before .before .before .before .before .before .before .before .wide .ensures) (r .few)) (part-enough _ _ _ (c .before .before .before .before .before .before .before .before .before .before .before .before .before .least .ensures .0) refl _ (c .before .before .before .before .before .before .before .before .before .before .before .before .before .before .wide .ensures) (r .few)) (r .found)) (c .enum-told .given .1)
+returns c = λ n q d r. clocked-deep _ _ _ _ _ n _ (c .before .before .before .before .before .before .before .before .clock-laid .ensures n q d (r .clocks) (part-enough _ _ _ (c .before .before .before .before .before .before .before .before .before .before .before .before .before .least .ensures) refl _ (c .before .before .before .before .before .before .before .before .before .before .before .before .before .before .wide .ensures) (r .few)) (part-enough _ _ _ (c .before .before .before .before .before .before .before .before .before .before .before .before .before .least .ensures) refl _ (c .before .before .before .before .before .before .before .before .before .before .before .before .before .before .wide .ensures) (r .few)) (r .found)) (c .enum-told .given .1)
 
 same-length-3 : tie.Need-same-length-3
 same-length-3 c = search needs
@@ -48,7 +48,7 @@ same-length-4 : tie.Need-same-length-4
 same-length-4 c = search needs
 
 returns-2 : tie.Need-returns-2
-returns-2 c = λ n q d r. clocked-node _ _ _ _ _ n _ (c .before .before .before .before .before .before .before .before .before .clock-laid .ensures n q d (r .clocks) (part-enough _ _ _ (c .before .before .before .before .before .before .before .before .before .before .before .before .before .before .least .ensures .0) refl _ (c .before .before .before .before .before .before .before .before .before .before .before .before .before .before .before .wide .ensures) (r .few)) (part-enough _ _ _ (c .before .before .before .before .before .before .before .before .before .before .before .before .before .before .least .ensures .0) refl _ (c .before .before .before .before .before .before .before .before .before .before .before .before .before .before .before .wide .ensures) (r .few)) (r .found)) q _ _ _ (c .before .clocked .given .1) d
+returns-2 c = λ n q d r. clocked-node _ _ _ _ _ n _ (c .before .before .before .before .before .before .before .before .before .clock-laid .ensures n q d (r .clocks) (part-enough _ _ _ (c .before .before .before .before .before .before .before .before .before .before .before .before .before .before .least .ensures) refl _ (c .before .before .before .before .before .before .before .before .before .before .before .before .before .before .before .wide .ensures) (r .few)) (part-enough _ _ _ (c .before .before .before .before .before .before .before .before .before .before .before .before .before .before .least .ensures) refl _ (c .before .before .before .before .before .before .before .before .before .before .before .before .before .before .before .wide .ensures) (r .few)) (r .found)) q _ _ _ (c .before .clocked .given .1) d
 
 pub clock-laid-spec : {M : Type 1} → statement M
 clock-laid-spec =

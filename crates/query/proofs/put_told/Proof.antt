@@ -35,7 +35,7 @@ same-length : tie.Need-same-length
 same-length c = search needs
 
 returns-2 : tie.Need-returns-2
-returns-2 c = (c .before .before .put-node .ensures .0, λ n z e x y w. put-part _ _ _ _ _ (c .before .before .put-node .ensures .1 .1 (n .node) (z .end) (n .clocking) (z .laid) (z .formed) (z .tells) e x y w) (c .before .before .before .before .before .if1 .left) (c .before .before .before .before .least .ensures .0) (c .before .before .put-node .ensures .1 .0 (n .node) (z .end) (n .clocking) (z .laid) (z .formed) (z .tells) e))
+returns-2 c = (c .before .before .put-node .ensures .0, λ n z e x y w. put-part _ _ _ _ _ (c .before .before .put-node .ensures .1 .1 (n .node) (z .end) (n .clocking) (z .laid) (z .formed) (z .tells) e x y w) (c .before .before .before .before .before .if1 .left) (c .before .before .before .before .least .ensures) (c .before .before .put-node .ensures .1 .0 (n .node) (z .end) (n .clocking) (z .laid) (z .formed) (z .tells) e))
 
 pub put-told-spec : {M : Type 1} → statement M
 put-told-spec =

@@ -41,7 +41,7 @@ mul-put-clock : tie.Need-mul-put-clock Inv-loop μ-loop
 mul-put-clock c = search needs
 
 put-clock-requires : tie.Need-put-clock-requires Inv-loop μ-loop
-put-clock-requires c κs = omega (arith, c .before .before .before .before .loop .inv .0, c .before .before .before .loop-test .taken, c .before .before .before .before .before .least .ensures .0)
+put-clock-requires c κs = omega (arith, c .before .before .before .before .loop .inv .0, c .before .before .before .loop-test .taken, c .before .before .before .before .before .least .ensures)
 
 add-i : tie.Need-add-i Inv-loop μ-loop
 add-i c = search needs
@@ -51,14 +51,14 @@ loop-less c = search needs
 
 loop-again : tie.Need-loop-again Inv-loop μ-loop
 loop-again c =
-    (c .before .before .put-clock .kept .0 ∙ c .before .before .before .before .before .before .before .loop .inv .0, omega (arith, c .before .before .before .before .before .before .loop-test .taken), λ clocks es q cs a g h. equation-entered _ _ es cs q _ clocks _ _ _ _ _ _ _ _ (omega (arith, c .before .before .before .before .before .before .loop-test .taken, c .before .before .before .before .before .before .before .before .least .ensures .0)) a h (c .before .before .before .before .before .equation-at .ensures) (c .before .before .before .before .equation-clock .ensures) (c .before .before .put-clock .ensures) (c .before .before .before .before .before .before .before .loop .inv .2 clocks es q cs a g h))
+    (c .before .before .put-clock .kept .0 ∙ c .before .before .before .before .before .before .before .loop .inv .0, omega (arith, c .before .before .before .before .before .before .loop-test .taken), λ clocks es q cs a g h. equation-entered _ _ es cs q _ clocks _ _ _ _ _ _ _ _ (omega (arith, c .before .before .before .before .before .before .loop-test .taken, c .before .before .before .before .before .before .before .before .least .ensures)) a h (c .before .before .before .before .before .equation-at .ensures) (c .before .before .before .before .equation-clock .ensures) (c .before .before .put-clock .ensures) (c .before .before .before .before .before .before .before .loop .inv .2 clocks es q cs a g h))
 
 same-length : tie.Need-same-length Inv-loop μ-loop
 same-length c = c .before .loop .inv .0
 
 returns : tie.Need-returns Inv-loop μ-loop
 returns c =
-    λ clocks es q cs a g h. let g′ = same-times _ _ _ _ _ es q (c .before .before .before .wide .ensures) g in equations-entered _ _ es cs q _ clocks _ _ _ _ _ _ _ _ g′ h refl (c .before .before .least .ensures .0) (c .before .loop .inv .1) (c .loop-test .left) (c .before .loop .inv .2 clocks es q cs a g′ h)
+    λ clocks es q cs a g h. let g′ = same-times _ _ _ _ _ es q (c .before .before .before .wide .ensures) g in equations-entered _ _ es cs q _ clocks _ _ _ _ _ _ _ _ g′ h refl (c .before .before .least .ensures) (c .before .loop .inv .1) (c .loop-test .left) (c .before .loop .inv .2 clocks es q cs a g′ h)
 
 pub write-equations-spec : {M : Type 1} → statement M
 write-equations-spec =

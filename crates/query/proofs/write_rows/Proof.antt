@@ -36,7 +36,7 @@ mul-put-clock : tie.Need-mul-put-clock Inv-loop μ-loop
 mul-put-clock c = omega arith
 
 put-clock-requires : tie.Need-put-clock-requires Inv-loop μ-loop
-put-clock-requires c κs = omega (arith, c .before .before .before .before .before .loop .inv .0, c .before .before .before .before .loop-test .taken, c .before .before .before .before .before .before .least .ensures .0)
+put-clock-requires c κs = omega (arith, c .before .before .before .before .before .loop .inv .0, c .before .before .before .before .loop-test .taken, c .before .before .before .before .before .before .least .ensures)
 
 add-i : tie.Need-add-i Inv-loop μ-loop
 add-i c = search needs
@@ -45,13 +45,13 @@ loop-less : tie.Need-loop-less Inv-loop μ-loop
 loop-less c = search needs
 
 loop-again : tie.Need-loop-again Inv-loop μ-loop
-loop-again c = (c .before .before .put-clock .kept .0 ∙ c .before .before .before .before .before .before .before .before .loop .inv .0, omega (arith, c .before .before .before .before .before .before .before .loop-test .taken), row-entered _ _ _ _ _ _ _ _ _ _ (omega (arith, c .before .before .before .before .before .before .before .loop-test .taken, c .before .before .before .before .before .before .before .before .before .least .ensures .0)) (c .before .before .before .before .before .before .word-at .ensures) (c .before .before .before .before .before .wide .ensures) (c .before .before .before .before .get .ensures) (c .before .before .put-clock .ensures) (c .before .before .before .before .before .before .before .before .loop .inv .2))
+loop-again c = (c .before .before .put-clock .kept .0 ∙ c .before .before .before .before .before .before .before .before .loop .inv .0, omega (arith, c .before .before .before .before .before .before .before .loop-test .taken), row-entered _ _ _ _ _ _ _ _ _ _ (omega (arith, c .before .before .before .before .before .before .before .loop-test .taken, c .before .before .before .before .before .before .before .before .before .least .ensures)) (c .before .before .before .before .before .before .word-at .ensures) (c .before .before .before .before .before .wide .ensures) (c .before .before .before .before .get .ensures) (c .before .before .put-clock .ensures) (c .before .before .before .before .before .before .before .before .loop .inv .2))
 
 same-length : tie.Need-same-length Inv-loop μ-loop
 same-length c = c .before .loop .inv .0
 
 returns : tie.Need-returns Inv-loop μ-loop
-returns c = rows-entered _ _ _ _ _ _ _ _ refl (c .before .before .least .ensures .0) (c .before .loop .inv .1) (c .loop-test .left) (c .before .loop .inv .2)
+returns c = rows-entered _ _ _ _ _ _ _ _ refl (c .before .before .least .ensures) (c .before .loop .inv .1) (c .loop-test .left) (c .before .loop .inv .2)
 
 pub write-rows-spec : {M : Type 1} → statement M
 write-rows-spec =

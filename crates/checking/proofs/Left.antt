@@ -1,6 +1,6 @@
 -- Left names among the tokens, and an equation's findings.
 -- Assumes nothing.
-use mathlib.Core.Path.{_≡_, refl, sym, _∙_, ap}
+use mathlib.Core.Path.{_≡_, refl, sym, _∙_, ap, subst}
 use mathlib.Core.List.{List, [], _∷_, _++_, append-assoc, append-nil}
 use mathlib.Core.Bool.{Bool, true, false}
 use mathlib.Core.Option.{none, some}
@@ -21,7 +21,8 @@ use Rattle.definitions.specs.Clock.{Clock}
 use Rattle.definitions.specs.InferClocks.{Clocks, isPort, leftElsewhere, Finding, mustBeOn, check, checkLeft, checkEquation}
 use Rattle.findings.specs.Findings.{FindingsHeld}
 use Rattle.grammar.proofs.Laws.{after-got, wrap-got, tokens-length}
-use Rattle.grammar.proofs.Longer.{token-got}
+use Rattle.grammar.proofs.Longer.{token-got, counted-grows}
+use Rattle.grammar.proofs.Got.{counted-value}
 use Rattle.operands.specs.Spread.{tree}
 use Rattle.operands.proofs.Laws.{token-there}
 use Rattle.checking.specs.declared.CheckedTo.{CheckedTo}
@@ -84,6 +85,29 @@ equation-parts M ts p e q n s g h =
       ap (λ (x : ℕ). times x (name M) ts s) (sym i) ∙ (ap (λ (x : ℕ). times (a .0) (name M) ts x) (sym j) ∙ (b .2 ∙ ap (λ (l : List ℕ). got l (b .1)) (sym k))),
       d .1 ∙ ap (λ (x : Expr). got x q) (sym m),
     )
+
+-- each left name is one token
+names-end : (M : ℕ) (gs vs : List ℕ) → length vs ≡ length gs → (n s : ℕ) (l : List ℕ) (u : ℕ) → times n (name M) (tokens gs vs) s ≡ got l u → u ≡ s + length l
+names-end M gs vs same zero s l u g = let a = times-nil (name M) (tokens gs vs) 0 s l u refl g in let b = ap length (a .0) in omega (arith, a .1)
+names-end M gs vs same (suc n) s l u g =
+    let a = times-cons (name M) (tokens gs vs) (suc n) s l u (λ z. omega arith) g in
+    let b = name-there M gs vs same s (a .0) (a .1) (a .3) in
+    let i : suc n - 1 ≡ n = omega arith in
+    let d = names-end M gs vs same n (a .1) (a .2) u (subst (λ (m : ℕ). times m (name M) (tokens gs vs) (a .1) ≡ got (a .2) u) i (a .4)) in
+    let k = ap length (a .5) in
+    omega (arith, b .0)
+
+-- where an equation's right side stands: behind its count and its left names
+pub equation-right : (M : ℕ) (gs vs : List ℕ) → length vs ≡ length gs → (p : ℕ) (e : Equation) (q n s : ℕ) → equation M (tokens gs vs) p ≡ got e q → counted 3 1 mostLeft (tokens gs vs) p ≡ got n s →
+    (u : ℕ) × (times n (name M) (tokens gs vs) s ≡ got (e .left) u) × (tree M (tokens gs vs) u ≡ got (e .right) q) × (u ≡ p + 1 + length (e .left)) × (p < length gs)
+equation-right M gs vs same p e q n s g h =
+    let a = equation-parts M (tokens gs vs) p e q n s g h in
+    let b = counted-grows 3 1 mostLeft (tokens gs vs) p n s h in
+    let l = tokens-length gs vs same in
+    let there : p < length gs = omega arith in
+    let d = counted-value gs vs same p 3 1 mostLeft n s there h in
+    let f = names-end M gs vs same n s (e .left) (a .0) (a .1) in
+    (a .0, a .1, a .2, omega (arith, d .2), there)
 
 -- an equation that was read has a count of left names
 pub equation-count : (M : ℕ) (ts : List TagValue) (p : ℕ) (e : Equation) (q : ℕ) → equation M ts p ≡ got e q → (n : ℕ) × (s : ℕ) × (counted 3 1 mostLeft ts p ≡ got n s)

@@ -2,3 +2,6 @@
 pub mod Laws
 pub mod Left
 pub mod Size
+pub mod Only
+pub mod Flatten
+pub mod Walk

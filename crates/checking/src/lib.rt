@@ -1,4 +1,5 @@
-// Checking of clocks in an accepted sheet, from an equation's clock down: what it meets goes into a table of findings.
+// Checking of clocks in an accepted sheet, from an equation's clock down: what it meets goes into a table of findings, the clock
+// of each `pre`, `->`, call and equation into its token's row of `sites`, seventeen words each.
 // `tags` and `values` are as long as each other; `names` is the number of names; `env` has the names' clocks.
 use clock::Clock;
 use clock::Natural;
@@ -7,26 +8,29 @@ use definitions::Condition;
 use definitions::MOST_LEFT;
 use definitions::Test;
 use grammar::Counted;
-use operands::Gap;
-use operands::Leaf;
-use operands::Operands;
-use operands::Role;
 ghost use mathlib.Core.Path.{_≡_};
+ghost use mathlib.Core.Bool.{true};
 ghost use mathlib.Core.List.{List, _++_};
-ghost use Prim.Native.Nat.{ℕ};
+ghost use mathlib.Core.Option.{some};
+ghost use Prim.Native.Nat.{ℕ, _<_};
 ghost use lib.ListN.{length, getD};
 ghost use lib.Dec.{eqb};
+ghost use Rattle.definitions.specs.Lists.{choose};
 ghost use Rattle.definitions.specs.Bytes.{tokens};
 ghost use Rattle.definitions.specs.Tree.{Expr, Exprs, Equation, Node};
 ghost use Rattle.definitions.specs.Reading.{got, times};
 ghost use Rattle.definitions.specs.Grammar as grammar;
-ghost use Rattle.definitions.specs.InferClocks.{Clocks, clockOf, leftElsewhere, usedElsewhere, clockNameElsewhere, Finding, oneDown, onNatural, mustBeOn, check, checks, checkLeft, checkEquation};
+ghost use Rattle.definitions.specs.Clock as clocked;
+ghost use Rattle.definitions.specs.Clock.{_↓_, parent, isOn, isNot};
+ghost use Rattle.definitions.specs.InferClocks.{Clocks, clockOf, formed, leftElsewhere, usedElsewhere, clockNameElsewhere, Finding, oneDown, onNatural, mustBeOn, check, checks, checkLeft, checkEquation};
+ghost use Rattle.extents.specs.Owed as owed;
 ghost use Rattle.clock.specs.Value.{valueOf, naturalOf};
 ghost use Rattle.environment.specs.Environment.{envAt, Agrees};
 ghost use Rattle.findings.specs.Findings.{FindingsHeld};
-ghost use Rattle.operands.specs.Role.{one, two};
-ghost use Rattle.operands.specs.Spread.{tree, spread, restAt};
-ghost use Rattle.checking.specs.Walk.{isElsewhere, NotSampling, Known, entering, Checked, PortMarks};
+ghost use Rattle.operands.specs.Spread.{tree};
+ghost use Rattle.skeleton.specs.Lies.{Frame, Lies, LiesAt};
+ghost use Rattle.skeleton.specs.Sites.{WasRead, Sited};
+ghost use Rattle.checking.specs.Walk.{isElsewhere, isSiteTag, meets, SiteStored, Traversed, Checked, PortMarks, EquationStored};
 
 // Where a walk ended, and how many findings there are then.
 pub struct CheckedTo {
@@ -77,156 +81,281 @@ fn samples_on(env: &[u32], table: &mut [u32], n: usize, equation: u32, x: u32, o
     n
 }
 
-// What is met at an expression that is no when and no merge, before its operands.
-fn enter(env: &[u32], table: &mut [u32], n: usize, equation: u32, role: Role, on: Clock) -> usize
-    ensures { λ r. ⌜ length (now (table .exit)) ≡ length (now (table .entry)) ⌝ }
-    ensures { λ r. ⌜ ((clocks : Clocks) (fs : List Finding) → NotSampling role → Known (now (env .entry)) clocks role → FindingsHeld (now (table .entry)) n fs → FindingsHeld (now (table .exit)) r (fs ++ entering clocks equation (valueOf on) role)) ⌝ }
+// The clock of a site in its token's row, if the table has room for it.
+fn put_site(sites: &mut [u32], at: usize, on: Clock)
+    ensures { λ r. ⌜ SiteStored (now (sites .entry)) (now (sites .exit)) true (valueOf on) at ⌝ }
 {
-    match role {
-        Role::Name(x) => used_on(env, table, n, equation, x, on),
-        Role::Previous => findings::push_site(table, n, on),
-        Role::Follow => findings::push_site(table, n, on),
+    if at < sites.len() / flat::WORDS {
+        flat::store(sites, flat::WORDS * at, on);
+    }
+}
+
+// What is met at a token of an expression, which is that of no when and no merge.
+fn enter(
+    env: &[u32],
+    table: &mut [u32],
+    sites: &mut [u32],
+    equation: u32,
+    on: Clock,
+    tag: u8,
+    value: u32,
+    at: usize,
+    n: usize,
+) -> usize
+    ensures { λ r. ⌜ length (now (table .exit)) ≡ length (now (table .entry)) ⌝ }
+    ensures { λ r. ⌜ SiteStored (now (sites .entry)) (now (sites .exit)) (isSiteTag tag) (valueOf on) at ⌝ }
+    ensures { λ r. ⌜ ((clocks : Clocks) (fs : List Finding) → (tag ≡ 54 → envAt (now (env .entry)) value ≡ clockOf clocks value) → FindingsHeld (now (table .entry)) n fs → FindingsHeld (now (table .exit)) r (fs ++ meets clocks equation (valueOf on) tag value)) ⌝ }
+{
+    match tag {
+        54 => used_on(env, table, n, equation, value, on),
+        58 => {
+            put_site(sites, at, on);
+            findings::push_site(table, n, on)
+        }
+        59 => {
+            put_site(sites, at, on);
+            findings::push_site(table, n, on)
+        }
+        60 => {
+            put_site(sites, at, on);
+            n
+        }
         _ => n,
     }
 }
 
-// The same walk, to where the operands behind the one that it went over begin.
-fn behind(tags: &[u8], gap: Gap, w: CheckedTo) -> CheckedTo
-    ensures { λ r. ⌜ (r .end ≡ restAt (length (now (tags .entry))) gap (w .end)) × (r .count ≡ w .count) ⌝ }
+// On a name, and on not.
+fn is_on(x: u32) -> Condition
+    ensures { λ r. ⌜ r ≡ isOn x ⌝ }
 {
-    let rest = operands::after_operand(tags, gap, w.end);
-    CheckedTo {
-        end: rest.next,
-        count: w.count,
+    Condition {
+        name: x,
+        test: Test::On,
     }
 }
 
-// The expression that stands there.
+fn is_not(x: u32) -> Condition
+    ensures { λ r. ⌜ r ≡ isNot x ⌝ }
+{
+    Condition {
+        name: x,
+        test: Test::Not,
+    }
+}
+
+// What a when of this tag samples by.
+fn sampled_by(tag: u8, x: u32) -> Condition
+    ensures { λ r. ⌜ r ≡ choose (eqb tag 67) (isOn x) (isNot x) ⌝ }
+{
+    if tag == 67 { is_on(x) } else { is_not(x) }
+}
+
+// The expression that stands there; `parts` is the table of parts.
 fn check_expr(
     tags: &[u8],
     values: &[u32],
+    parts: &[u8; 72],
     names: u32,
     env: &[u32],
     table: &mut [u32],
+    sites: &mut [u32],
     equation: u32,
     on: Clock,
     at: usize,
     n: usize,
 ) -> CheckedTo
     requires { ⌜ length (now values) ≡ length (now tags) ⌝ }
+    requires { ⌜ now parts ≡ owed.parts ⌝ }
     ensures { λ r. ⌜ length (now (table .exit)) ≡ length (now (table .entry)) ⌝ }
-    ensures { λ r. ⌜ ((clocks : Clocks) (e : Expr) (q : ℕ) (fs : List Finding) → Agrees (now (env .entry)) names clocks → tree names (tokens (now (tags .entry)) (now (values .entry))) at ≡ got e q → FindingsHeld (now (table .entry)) n fs → Checked (now (table .exit)) r q (fs ++ check clocks equation (valueOf on) e)) ⌝ }
+    ensures { λ r. ⌜ length (now (sites .exit)) ≡ length (now (sites .entry)) ⌝ }
+    ensures { λ r. ⌜ ((e : Expr) (q : ℕ) → tree names (tokens (now (tags .entry)) (now (values .entry))) at ≡ got e q → Traversed names (now (tags .entry)) (now (values .entry)) (now (env .entry)) (now (table .entry)) (now (table .exit)) (now (sites .entry)) (now (sites .exit)) n (λ clocks. check clocks equation (valueOf on) e) (λ later. LiesAt (now (tags .entry)) (now (values .entry)) (Sited names (now (tags .entry)) (now (values .entry)) later) (valueOf on) e at q) at q r) ⌝ }
 {
-    let v = operands::view_at(tags, values, names, at);
-    let first = v.first;
-    let gap = v.gap;
-    let role = v.role;
-    if first <= at {
+    if tags.len() <= at {
         return CheckedTo { end: at, count: n };
     }
-    let these = Operands {
-        first: first,
-        count: v.count,
-        gap: gap,
-    };
-    match role {
-        Role::Sample(k) => check_sample(tags, values, names, env, table, equation, on, k, these, n),
-        Role::Join(x) => check_merge(tags, values, names, env, table, equation, on, x, these, n),
-        _ => {
-            let m = enter(env, table, n, equation, role, on);
-            check_operands(tags, values, names, env, table, equation, on, these, m)
-        }
+    let tag = tags[at];
+    let value = values[at];
+    if tag == 69 {
+        return check_merge(
+            tags,
+            values,
+            parts,
+            names,
+            env,
+            table,
+            sites,
+            equation,
+            on,
+            value,
+            at + 1,
+            n,
+        );
     }
+    if extents::is_sample(tag) {
+        let k = sampled_by(tag, value);
+        return check_sample(
+            tags,
+            values,
+            parts,
+            names,
+            env,
+            table,
+            sites,
+            equation,
+            on,
+            k,
+            at + 1,
+            n,
+        );
+    }
+    let m = enter(env, table, sites, equation, on, tag, value, at, n);
+    let many = extents::follow(parts, tag, value);
+    check_exprs(
+        tags,
+        values,
+        parts,
+        names,
+        env,
+        table,
+        sites,
+        equation,
+        on,
+        many as usize,
+        at + 1,
+        m,
+    )
 }
 
-// The operand that stands there; a leaf is met here.
-fn check_operand(
+// So many parts that stand from there on; what is on the same clock is met here, without a call.
+fn check_exprs(
     tags: &[u8],
     values: &[u32],
+    parts: &[u8; 72],
     names: u32,
     env: &[u32],
     table: &mut [u32],
+    sites: &mut [u32],
     equation: u32,
     on: Clock,
+    many: usize,
     at: usize,
     n: usize,
 ) -> CheckedTo
     requires { ⌜ length (now values) ≡ length (now tags) ⌝ }
+    requires { ⌜ now parts ≡ owed.parts ⌝ }
     ensures { λ r. ⌜ length (now (table .exit)) ≡ length (now (table .entry)) ⌝ }
-    ensures { λ r. ⌜ ((clocks : Clocks) (e : Expr) (q : ℕ) (fs : List Finding) → Agrees (now (env .entry)) names clocks → tree names (tokens (now (tags .entry)) (now (values .entry))) at ≡ got e q → FindingsHeld (now (table .entry)) n fs → Checked (now (table .exit)) r q (fs ++ check clocks equation (valueOf on) e)) ⌝ }
+    ensures { λ r. ⌜ length (now (sites .exit)) ≡ length (now (sites .entry)) ⌝ }
+    ensures { λ r. ⌜ ((es : Exprs) (fs : Frame) (q : ℕ) → Lies (now (tags .entry)) (now (values .entry)) (WasRead names (now (tags .entry)) (now (values .entry))) (valueOf on) es fs at many q → Traversed names (now (tags .entry)) (now (values .entry)) (now (env .entry)) (now (table .entry)) (now (table .exit)) (now (sites .entry)) (now (sites .exit)) n (λ clocks. checks clocks equation (valueOf on) es) (λ later. Lies (now (tags .entry)) (now (values .entry)) (Sited names (now (tags .entry)) (now (values .entry)) later) (valueOf on) es fs at many q) at q r) ⌝ }
 {
-    let leaf = operands::leaf_at(tags, values, at);
-    match leaf {
-        Leaf::Name(x, end) => {
-            let m = used_on(env, table, n, equation, x, on);
-            CheckedTo { end: end, count: m }
-        }
-        Leaf::Constant(end) => CheckedTo { end: end, count: n },
-        Leaf::Other => check_expr(tags, values, names, env, table, equation, on, at, n),
-    }
-}
-
-// These operands.
-fn check_operands(
-    tags: &[u8],
-    values: &[u32],
-    names: u32,
-    env: &[u32],
-    table: &mut [u32],
-    equation: u32,
-    on: Clock,
-    these: Operands,
-    n: usize,
-) -> CheckedTo
-    requires { ⌜ length (now values) ≡ length (now tags) ⌝ }
-    ensures { λ r. ⌜ length (now (table .exit)) ≡ length (now (table .entry)) ⌝ }
-    ensures { λ r. ⌜ ((clocks : Clocks) (es : Exprs) (q : ℕ) (fs : List Finding) → Agrees (now (env .entry)) names clocks → spread names (these .gap) (these .count) (tree names) (tokens (now (tags .entry)) (now (values .entry))) (these .first) ≡ got es q → FindingsHeld (now (table .entry)) n fs → Checked (now (table .exit)) r q (fs ++ checks clocks equation (valueOf on) es)) ⌝ }
-{
-    let mut left = these.count;
-    let mut at = these.first;
-    let mut gap = these.gap;
+    let mut left = many;
+    let mut from = at;
     let mut m = n;
     while 0 < left {
-        let place = operands::operand_at(tags, gap, at);
-        let w = check_operand(tags, values, names, env, table, equation, on, place, m);
-        m = w.count;
-        let rest = operands::after_operand(tags, gap, w.end);
-        let next = rest.next;
-        if next <= at {
-            return CheckedTo { end: at, count: m };
+        if tags.len() <= from {
+            return CheckedTo {
+                end: from,
+                count: m,
+            };
         }
-        at = next;
-        gap = rest.gap;
-        left -= 1;
+        if tags.len() < left {
+            return CheckedTo {
+                end: from,
+                count: m,
+            };
+        }
+        let tag = tags[from];
+        if extents::is_sample(tag) {
+            let w = check_expr(
+                tags,
+                values,
+                parts,
+                names,
+                env,
+                table,
+                sites,
+                equation,
+                on,
+                from,
+                m,
+            );
+            m = w.count;
+            let next = w.end;
+            if next <= from {
+                return CheckedTo {
+                    end: from,
+                    count: m,
+                };
+            }
+            from = next;
+            left -= 1;
+        } else {
+            let value = values[from];
+            let behind = from + 1;
+            m = enter(env, table, sites, equation, on, tag, value, from, m);
+            let more = extents::follow(parts, tag, value);
+            left = left - 1 + (more as usize);
+            from = behind;
+        }
     }
-    CheckedTo { end: at, count: m }
+    CheckedTo {
+        end: from,
+        count: m,
+    }
 }
 
 // The expression that stands there, on what may be a clock; on base where there is none.
 fn check_over(
     tags: &[u8],
     values: &[u32],
+    parts: &[u8; 72],
     names: u32,
     env: &[u32],
     table: &mut [u32],
+    sites: &mut [u32],
     equation: u32,
     over: Natural,
     at: usize,
     n: usize,
 ) -> CheckedTo
     requires { ⌜ length (now values) ≡ length (now tags) ⌝ }
+    requires { ⌜ now parts ≡ owed.parts ⌝ }
     ensures { λ r. ⌜ length (now (table .exit)) ≡ length (now (table .entry)) ⌝ }
-    ensures { λ r. ⌜ ((clocks : Clocks) (e : Expr) (q : ℕ) (fs : List Finding) → Agrees (now (env .entry)) names clocks → tree names (tokens (now (tags .entry)) (now (values .entry))) at ≡ got e q → FindingsHeld (now (table .entry)) n fs → Checked (now (table .exit)) r q (fs ++ onNatural (naturalOf over) (λ d. check clocks equation d e))) ⌝ }
+    ensures { λ r. ⌜ length (now (sites .exit)) ≡ length (now (sites .entry)) ⌝ }
+    ensures { λ r. ⌜ ((e : Expr) (q : ℕ) → tree names (tokens (now (tags .entry)) (now (values .entry))) at ≡ got e q → Traversed names (now (tags .entry)) (now (values .entry)) (now (env .entry)) (now (table .entry)) (now (table .exit)) (now (sites .entry)) (now (sites .exit)) n (λ clocks. onNatural (naturalOf over) (λ d. check clocks equation d e)) (λ later. (d : clocked.Clock) → naturalOf over ≡ formed (some d) → LiesAt (now (tags .entry)) (now (values .entry)) (Sited names (now (tags .entry)) (now (values .entry)) later) d e at q) at q r) ⌝ }
 {
     let p = over.presence;
     match p {
         Presence::Free => {
             let b = clock::base();
-            check_expr(tags, values, names, env, table, equation, b, at, n)
+            check_expr(
+                tags,
+                values,
+                parts,
+                names,
+                env,
+                table,
+                sites,
+                equation,
+                b,
+                at,
+                n,
+            )
         }
         Presence::On => {
             let c = over.clock;
-            check_expr(tags, values, names, env, table, equation, c, at, n)
+            check_expr(
+                tags,
+                values,
+                parts,
+                names,
+                env,
+                table,
+                sites,
+                equation,
+                c,
+                at,
+                n,
+            )
         }
         Presence::Deep => {
             let end = extents::expr_end(tags, values, at);
@@ -240,43 +369,11 @@ fn check_over(
 fn check_sample(
     tags: &[u8],
     values: &[u32],
+    parts: &[u8; 72],
     names: u32,
     env: &[u32],
     table: &mut [u32],
-    equation: u32,
-    on: Clock,
-    k: Condition,
-    these: Operands,
-    n: usize,
-) -> CheckedTo
-    requires { ⌜ length (now values) ≡ length (now tags) ⌝ }
-    ensures { λ r. ⌜ length (now (table .exit)) ≡ length (now (table .entry)) ⌝ }
-    ensures { λ r. ⌜ ((clocks : Clocks) (e : Expr) (q : ℕ) (fs : List Finding) → Agrees (now (env .entry)) names clocks → envAt (now (env .entry)) (k .name) ≡ clockOf clocks (k .name) → spread names (these .gap) (these .count) (tree names) (tokens (now (tags .entry)) (now (values .entry))) (these .first) ≡ got (one e) q → FindingsHeld (now (table .entry)) n fs → Checked (now (table .exit)) r q (fs ++ check clocks equation (valueOf on) (Expr.when k e))) ⌝ }
-{
-    let gap = these.gap;
-    let at = these.first;
-    let matching = clock::ends_in(k, on);
-    let place = operands::operand_at(tags, gap, at);
-    if matching {
-        let above = clock::parent(on);
-        let x = k.name;
-        let m = samples_on(env, table, n, equation, x, above);
-        let w = check_expr(tags, values, names, env, table, equation, above, place, m);
-        return behind(tags, gap, w);
-    }
-    let m = findings::push_when(table, n, equation, k, on);
-    let own = natural::natural_clock(tags, values, names, env, place);
-    let w = check_over(tags, values, names, env, table, equation, own, place, m);
-    behind(tags, gap, w)
-}
-
-// A branch of a merge, one condition down.
-fn check_branch(
-    tags: &[u8],
-    values: &[u32],
-    names: u32,
-    env: &[u32],
-    table: &mut [u32],
+    sites: &mut [u32],
     equation: u32,
     on: Clock,
     k: Condition,
@@ -284,64 +381,141 @@ fn check_branch(
     n: usize,
 ) -> CheckedTo
     requires { ⌜ length (now values) ≡ length (now tags) ⌝ }
+    requires { ⌜ now parts ≡ owed.parts ⌝ }
     ensures { λ r. ⌜ length (now (table .exit)) ≡ length (now (table .entry)) ⌝ }
-    ensures { λ r. ⌜ ((clocks : Clocks) (e : Expr) (q : ℕ) (fs : List Finding) → Agrees (now (env .entry)) names clocks → tree names (tokens (now (tags .entry)) (now (values .entry))) at ≡ got e q → FindingsHeld (now (table .entry)) n fs → Checked (now (table .exit)) r q (fs ++ oneDown (valueOf on) k (λ d. check clocks equation d e))) ⌝ }
+    ensures { λ r. ⌜ length (now (sites .exit)) ≡ length (now (sites .entry)) ⌝ }
+    ensures { λ r. ⌜ ((e : Expr) (q : ℕ) → k .name < names → tree names (tokens (now (tags .entry)) (now (values .entry))) at ≡ got e q → Traversed names (now (tags .entry)) (now (values .entry)) (now (env .entry)) (now (table .entry)) (now (table .exit)) (now (sites .entry)) (now (sites .exit)) n (λ clocks. check clocks equation (valueOf on) (Expr.when k e)) (λ later. LiesAt (now (tags .entry)) (now (values .entry)) (Sited names (now (tags .entry)) (now (values .entry)) later) (parent (valueOf on)) e at q) at q r) ⌝ }
+{
+    let matching = clock::ends_in(k, on);
+    if matching {
+        let above = clock::parent(on);
+        let x = k.name;
+        let m = samples_on(env, table, n, equation, x, above);
+        return check_expr(
+            tags,
+            values,
+            parts,
+            names,
+            env,
+            table,
+            sites,
+            equation,
+            above,
+            at,
+            m,
+        );
+    }
+    let m = findings::push_when(table, n, equation, k, on);
+    let own = natural::natural_clock(tags, values, names, env, at);
+    check_over(
+        tags,
+        values,
+        parts,
+        names,
+        env,
+        table,
+        sites,
+        equation,
+        own,
+        at,
+        m,
+    )
+}
+
+// A branch of a merge, one condition down.
+fn check_branch(
+    tags: &[u8],
+    values: &[u32],
+    parts: &[u8; 72],
+    names: u32,
+    env: &[u32],
+    table: &mut [u32],
+    sites: &mut [u32],
+    equation: u32,
+    on: Clock,
+    k: Condition,
+    at: usize,
+    n: usize,
+) -> CheckedTo
+    requires { ⌜ length (now values) ≡ length (now tags) ⌝ }
+    requires { ⌜ now parts ≡ owed.parts ⌝ }
+    ensures { λ r. ⌜ length (now (table .exit)) ≡ length (now (table .entry)) ⌝ }
+    ensures { λ r. ⌜ length (now (sites .exit)) ≡ length (now (sites .entry)) ⌝ }
+    ensures { λ r. ⌜ ((e : Expr) (q : ℕ) → tree names (tokens (now (tags .entry)) (now (values .entry))) at ≡ got e q → Traversed names (now (tags .entry)) (now (values .entry)) (now (env .entry)) (now (table .entry)) (now (table .exit)) (now (sites .entry)) (now (sites .exit)) n (λ clocks. oneDown (valueOf on) k (λ d. check clocks equation d e)) (λ later. LiesAt (now (tags .entry)) (now (values .entry)) (Sited names (now (tags .entry)) (now (values .entry)) later) (valueOf on ↓ k) e at q) at q r) ⌝ }
 {
     let down = clock::push(on, k);
-    check_over(tags, values, names, env, table, equation, down, at, n)
+    check_over(
+        tags,
+        values,
+        parts,
+        names,
+        env,
+        table,
+        sites,
+        equation,
+        down,
+        at,
+        n,
+    )
 }
 
 // The branches of a merge, on its name and on not.
 fn check_merge(
     tags: &[u8],
     values: &[u32],
+    parts: &[u8; 72],
     names: u32,
     env: &[u32],
     table: &mut [u32],
+    sites: &mut [u32],
     equation: u32,
     on: Clock,
     x: u32,
-    these: Operands,
+    at: usize,
     n: usize,
 ) -> CheckedTo
     requires { ⌜ length (now values) ≡ length (now tags) ⌝ }
+    requires { ⌜ now parts ≡ owed.parts ⌝ }
     ensures { λ r. ⌜ length (now (table .exit)) ≡ length (now (table .entry)) ⌝ }
-    ensures { λ r. ⌜ ((clocks : Clocks) (a b : Expr) (q : ℕ) (fs : List Finding) → Agrees (now (env .entry)) names clocks → envAt (now (env .entry)) x ≡ clockOf clocks x → spread names (these .gap) (these .count) (tree names) (tokens (now (tags .entry)) (now (values .entry))) (these .first) ≡ got (two a b) q → FindingsHeld (now (table .entry)) n fs → Checked (now (table .exit)) r q (fs ++ check clocks equation (valueOf on) (Expr.merge x a b))) ⌝ }
+    ensures { λ r. ⌜ length (now (sites .exit)) ≡ length (now (sites .entry)) ⌝ }
+    ensures { λ r. ⌜ ((a b : Expr) (m q : ℕ) → x < names → tree names (tokens (now (tags .entry)) (now (values .entry))) at ≡ got a m → tree names (tokens (now (tags .entry)) (now (values .entry))) m ≡ got b q → Traversed names (now (tags .entry)) (now (values .entry)) (now (env .entry)) (now (table .entry)) (now (table .exit)) (now (sites .entry)) (now (sites .exit)) n (λ clocks. check clocks equation (valueOf on) (Expr.merge x a b)) (λ later. LiesAt (now (tags .entry)) (now (values .entry)) (Sited names (now (tags .entry)) (now (values .entry)) later) (valueOf on ↓ isOn x) a at m × LiesAt (now (tags .entry)) (now (values .entry)) (Sited names (now (tags .entry)) (now (values .entry)) later) (valueOf on ↓ isNot x) b m q) at q r) ⌝ }
 {
-    let gap = these.gap;
-    let at = these.first;
     let m = samples_on(env, table, n, equation, x, on);
-    let place = operands::operand_at(tags, gap, at);
-    let is = Condition {
-        name: x,
-        test: Test::On,
-    };
-    let w = check_branch(tags, values, names, env, table, equation, on, is, place, m);
-    let rest = operands::after_operand(tags, gap, w.end);
-    let next = rest.next;
-    let later = rest.gap;
-    if next <= at {
-        return w;
-    }
-    let second = operands::operand_at(tags, later, next);
-    let not = Condition {
-        name: x,
-        test: Test::Not,
-    };
-    let l = w.count;
-    let z = check_branch(
+    let is = is_on(x);
+    let not = is_not(x);
+    let w = check_branch(
         tags,
         values,
+        parts,
         names,
         env,
         table,
+        sites,
+        equation,
+        on,
+        is,
+        at,
+        m,
+    );
+    let next = w.end;
+    let l = w.count;
+    if next <= at {
+        return CheckedTo { end: at, count: l };
+    }
+    check_branch(
+        tags,
+        values,
+        parts,
+        names,
+        env,
+        table,
+        sites,
         equation,
         on,
         not,
-        second,
+        next,
         l,
-    );
-    behind(tags, later, z)
+    )
 }
 
 // A left name must be on its equation's clock; whether it is an input or output.
@@ -390,6 +564,7 @@ fn check_left(
     requires { ⌜ length (now values) ≡ length (now tags) ⌝ }
     ensures { λ r. ⌜ length (now (table .exit)) ≡ length (now (table .entry)) ⌝ }
     ensures { λ r. ⌜ ((node : Node) (clocks : Clocks) (xs : List ℕ) (q : ℕ) (fs : List Finding) → Agrees (now (env .entry)) names clocks → PortMarks (now (ports .entry)) names node → times count (grammar.name names) (tokens (now (tags .entry)) (now (values .entry))) at ≡ got xs q → FindingsHeld (now (table .entry)) n fs → Checked (now (table .exit)) r q (fs ++ checkLeft clocks equation node (valueOf on) xs)) ⌝ }
+    ensures { λ r. ⌜ ((xs : List ℕ) (q : ℕ) → times count (grammar.name names) (tokens (now (tags .entry)) (now (values .entry))) at ≡ got xs q → r .end ≡ q) ⌝ }
 {
     if count == 0 {
         return CheckedTo { end: at, count: n };
@@ -422,6 +597,7 @@ pub fn check_equation(
     env: &[u32],
     ports: &[u32],
     table: &mut [u32],
+    sites: &mut [u32],
     equation: u32,
     c: Clock,
     at: usize,
@@ -430,10 +606,13 @@ pub fn check_equation(
     requires { ⌜ length (now values) ≡ length (now tags) ⌝ }
     ensures { λ r. ⌜ length (now (table .exit)) ≡ length (now (table .entry)) ⌝ }
     ensures { λ r. ⌜ ((node : Node) (clocks : Clocks) (e : Equation) (q : ℕ) (fs : List Finding) → Agrees (now (env .entry)) names clocks → PortMarks (now (ports .entry)) names node → grammar.equation names (tokens (now (tags .entry)) (now (values .entry))) at ≡ got e q → FindingsHeld (now (table .entry)) n fs → Checked (now (table .exit)) r q (fs ++ checkEquation node clocks equation (record { clock = valueOf c; equation = e }))) ⌝ }
+    ensures { λ r. ⌜ length (now (sites .exit)) ≡ length (now (sites .entry)) ⌝ }
+    ensures { λ r. ⌜ ((e : Equation) (q : ℕ) → grammar.equation names (tokens (now (tags .entry)) (now (values .entry))) at ≡ got e q → EquationStored names (now (tags .entry)) (now (values .entry)) (now (sites .entry)) (now (sites .exit)) equation (valueOf c) e at q) ⌝ }
 {
     let left = grammar::read_count(tags, values, 3, 1, MOST_LEFT, at);
     match left {
         Counted::Count(k, first) => {
+            put_site(sites, at, c);
             let w = check_left(
                 tags,
                 values,
@@ -449,7 +628,20 @@ pub fn check_equation(
             );
             let next = w.end;
             let m = w.count;
-            check_expr(tags, values, names, env, table, equation, c, next, m)
+            let parts = extents::parts_table();
+            check_expr(
+                tags,
+                values,
+                &parts,
+                names,
+                env,
+                table,
+                sites,
+                equation,
+                c,
+                next,
+                m,
+            )
         }
         Counted::Refused(_) => CheckedTo { end: at, count: n },
     }

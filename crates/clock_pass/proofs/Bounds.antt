@@ -235,22 +235,22 @@ firsts-good f i (n ∷ ns) =
     let b = firsts-good f (suc i) ns in
     (real-app (firstOf i (f n)) (join (numbered (λ j m. firstOf j (f m)) (suc i) ns)) (a .0) (b .0), omega (arith, a .1, b .1, length-append (firstOf i (f n)) (join (numbered (λ j m. firstOf j (f m)) (suc i) ns))))
 
-unless-good : (l : List FaultRecord) → Good 4096 l → FaultyIs (Good 4096) (unlessFaulty l)
+unless-good : (l : List FaultRecord) → Good 16 l → FaultyIs (Good 16) (unlessFaulty l)
 unless-good [] h = tt
 unless-good (f ∷ fs) h = h
 
-faulty-rewrite : (b : List ℕ) (lent : ℕ) → FaultyIs (Good 4096) (rewriteAnswer b lent)
+faulty-rewrite : (b : List ℕ) (lent : ℕ) → FaultyIs (Good 16) (rewriteAnswer b lent)
 unfolding rewriteAnswer firstFaults
 faulty-rewrite b lent =
-    faulty-after (Good 4096) (input b) _ (faulty-input (Good 4096) b) (λ r e.
-    faulty-after (Good 4096) (clockings 0 (r .sheet .nodes)) _ (faulty-clockings (Good 4096) 0 (r .sheet .nodes)) (λ ns f.
+    faulty-after (Good 16) (input b) _ (faulty-input (Good 16) b) (λ r e.
+    faulty-after (Good 16) (clockings 0 (r .sheet .nodes)) _ (faulty-clockings (Good 16) 0 (r .sheet .nodes)) (λ ns f.
     let few = is-accepted (input b) r e (input-reads b) .few in
     let same = clockings-form 0 (r .sheet .nodes) ns f .same-length in
     let g = firsts-good (λ n. nodeFaults (r .names) (r .sheet) n) 0 ns in
-    faulty-after (Good 4096) (unlessFaulty (firstFaults r ns)) _ (unless-good (firstFaults r ns) (g .0, omega (arith, g .1, few, same))) (λ _ _.
-    faulty-after (Good 4096) (must (withinLimits (namesOut (r .names) (r .sheet) ns) (sheetOut (r .names) (r .sheet) ns)) Refusal.Large) _ (faulty-must (Good 4096) (withinLimits (namesOut (r .names) (r .sheet) ns) (sheetOut (r .names) (r .sheet) ns)) Refusal.Large) (λ _ _.
-    faulty-after (Good 4096) (lending (length (written (namesOut (r .names) (r .sheet) ns) (sheetOut (r .names) (r .sheet) ns))) lent) _ (faulty-lending (Good 4096) (length (written (namesOut (r .names) (r .sheet) ns) (sheetOut (r .names) (r .sheet) ns))) lent) (λ _ _. tt)))))
+    faulty-after (Good 16) (unlessFaulty (firstFaults r ns)) _ (unless-good (firstFaults r ns) (g .0, omega (arith, g .1, few, same))) (λ _ _.
+    faulty-after (Good 16) (must (withinLimits (namesOut (r .names) (r .sheet) ns) (sheetOut (r .names) (r .sheet) ns)) Refusal.Large) _ (faulty-must (Good 16) (withinLimits (namesOut (r .names) (r .sheet) ns) (sheetOut (r .names) (r .sheet) ns)) Refusal.Large) (λ _ _.
+    faulty-after (Good 16) (lending (length (written (namesOut (r .names) (r .sheet) ns) (sheetOut (r .names) (r .sheet) ns))) lent) _ (faulty-lending (Good 16) (length (written (namesOut (r .names) (r .sheet) ns) (sheetOut (r .names) (r .sheet) ns))) lent) (λ _ _. tt)))))
 
--- THE LAW: the first faults of nodes are at most 4,096, and each has a number
-pub good-faults : (b : List ℕ) (lent : ℕ) (l : List FaultRecord) → rewriteAnswer b lent ≡ faulty l → Real l × (length l ≤ 4096)
-good-faults b lent l e = subst (FaultyIs (Good 4096)) e (faulty-rewrite b lent)
+-- THE LAW: the first faults of nodes are at most 16, and each has a number
+pub good-faults : (b : List ℕ) (lent : ℕ) (l : List FaultRecord) → rewriteAnswer b lent ≡ faulty l → Real l × (length l ≤ 16)
+good-faults b lent l e = subst (FaultyIs (Good 16)) e (faulty-rewrite b lent)

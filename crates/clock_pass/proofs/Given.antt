@@ -12,10 +12,10 @@ use Rattle.definitions.specs.Answer.{NodeClocks, faultRecord, clockFaultsAfter,
 use Rattle.query.specs.Words.{recordWords, faultWords, entriesOver}
 use Rattle.rewriting.specs.declared.RewriteAnswer.{RewriteAnswer}
 use Rattle.rewriting.specs.Given as words
-use Rattle.pass.specs.declared.ClocksAnswer.{ClocksAnswer}
-use Rattle.pass.specs.Answers as clock-words
+use Rattle.listings.specs.declared.ClocksAnswer.{ClocksAnswer}
+use Rattle.listings.specs.Answers as clock-words
 use Rattle.fault_list.specs.Said.{said}
-use Rattle.fault_list.proofs.Laws.{Real, said-again, none-again}
+use Rattle.fault_list.proofs.Laws.{Real, said-again, none-again, node-said-again, no-node-again}
 use Rattle.clock_pass.specs.Given.{faultsOf, clockFaultsOf, RewriteSaid, RewriteGiven, ClocksSaid, ClocksGiven}
 use Rattle.clock_pass.proofs.Bounds.{good-faults, few-clock-faults, clock-faults-real}
 
@@ -44,21 +44,27 @@ take-whole (suc n) [] h = refl
 take-whole zero (a ∷ l) h = absurd (omega arith)
 take-whole (suc n) (a ∷ l) h = ap (λ (t : List _). a ∷ t) (take-whole n l (omega arith))
 
-entries-said : (l : List FaultRecord) (ws : List ℕ) → ws ≡ replicate 12288 0 → Real l → length l ≤ 4096 → said (entriesOver 3 (map recordWords l) ws) ≡ l
+-- each entry is whole: the words have room for all
+entries-over : (n : ℕ) (l : List FaultRecord) (ws : List ℕ) → length ws / 3 ≡ n → length l ≤ n → said (over (join (map recordWords l)) ws) ≡ l → said (entriesOver 3 (map recordWords l) ws) ≡ l
 unfolding entriesOver
-entries-said l ws e real few =
-    let long : length ws ≡ 12288 = ap length e ∙ length-replicate {A = ℕ} 12288 0 in
-    let most : length (map recordWords l) ≤ 4096 = omega (arith, few, length-map l recordWords) in
-    ap (λ (n : ℕ). said (over (join (take (n / 3) (map recordWords l))) ws)) long ∙ (ap (λ (t : List (List ℕ)). said (over (join t) ws)) (take-whole 4096 (map recordWords l) most) ∙ said-again l ws e real few)
+entries-over n l ws long few e =
+    let most : length (map recordWords l) ≤ n = omega (arith, few, length-map l recordWords) in
+    ap (λ (n : ℕ). said (over (join (take n (map recordWords l))) ws)) long ∙ (ap (λ (t : List (List ℕ)). said (over (join t) ws)) (take-whole n (map recordWords l) most) ∙ e)
 
-module _ (b : List ℕ) (lent ws lent′ ws′ : List ℕ) (r : RewriteAnswer) (none : ws ≡ replicate 12288 0) where
+entries-said : (l : List FaultRecord) (ws : List ℕ) → ws ≡ replicate 12288 0 → Real l → length l ≤ 4096 → said (entriesOver 3 (map recordWords l) ws) ≡ l
+entries-said l ws e real few = entries-over 4096 l ws (ap (λ (v : List ℕ). length v / 3) e ∙ ap (λ (n : ℕ). n / 3) (length-replicate {A = ℕ} 12288 0)) few (said-again l ws e real few)
+
+node-entries-said : (l : List FaultRecord) (ws : List ℕ) → ws ≡ replicate 48 0 → Real l → length l ≤ 16 → said (entriesOver 3 (map recordWords l) ws) ≡ l
+node-entries-said l ws e real few = entries-over 16 l ws (ap (λ (v : List ℕ). length v / 3) e ∙ ap (λ (n : ℕ). n / 3) (length-replicate {A = ℕ} 48 0)) few (node-said-again l ws e real few)
+
+module _ (b : List ℕ) (lent ws lent′ ws′ : List ℕ) (r : RewriteAnswer) (none : ws ≡ replicate 48 0) where
   pub rewrite-said : words.RewriteInWords (rewriteAnswer b (length lent)) lent ws lent′ ws′ r → RewriteSaid (rewriteAnswer b (length lent)) lent lent′ ws′ r
   rewrite-said g = record { answer = g .answer; bytes = g .bytes; faults = go (rewriteAnswer b (length lent)) refl (g .faults) }
     where
       go : (v : Answer (List ℕ)) → rewriteAnswer b (length lent) ≡ v → ws′ ≡ words.faultWordsAfter v ws → said ws′ ≡ faultsOf v
-      go (accepted out) e f = ap said f ∙ none-again ws none
-      go (refused t) e f = ap said f ∙ none-again ws none
-      go (faulty l) e f = let h = good-faults b (length lent) l e in ap said f ∙ entries-said l ws none (h .0) (h .1)
+      go (accepted out) e f = ap said f ∙ no-node-again ws none
+      go (refused t) e f = ap said f ∙ no-node-again ws none
+      go (faulty l) e f = let h = good-faults b (length lent) l e in ap said f ∙ node-entries-said l ws none (h .0) (h .1)
 
 words-map : (k : ℕ) (fs : List NodeFault) → map (faultWords k) fs ≡ map recordWords (map (faultRecord k) fs)
 words-map k [] = refl

@@ -7,8 +7,8 @@ use Rattle.definitions.specs.Refusals.{Answer, accepted, refused, faulty, bytes
 use Rattle.definitions.specs.Answer.{NodeClocks, faultRecord, clockFaultsAfter}
 use Rattle.rewriting.specs.declared.RewriteAnswer.{RewriteAnswer}
 use Rattle.rewriting.specs.Given.{rewriteAnswered}
-use Rattle.pass.specs.declared.ClocksAnswer.{ClocksAnswer}
-use Rattle.pass.specs.Answers.{clocksAnswered, equationsAfter, chainsAfter}
+use Rattle.listings.specs.declared.ClocksAnswer.{ClocksAnswer}
+use Rattle.listings.specs.Answers.{clocksAnswered, equationsAfter, chainsAfter}
 use Rattle.fault_list.specs.Said.{said}
 
 -- a sheet's rewriting was asked for: the answer, and the lent bytes and the lent fault list afterwards

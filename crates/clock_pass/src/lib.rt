@@ -3,7 +3,8 @@
 use definitions::FAULT_TABLE;
 use definitions::FaultRecord;
 use definitions::MOST_NODES;
-use pass::ClocksAnswer;
+use fault_list::NODE_WORDS;
+use listings::ClocksAnswer;
 use rewriting::RewriteAnswer;
 ghost use mathlib.Core.Path.{_≡_};
 ghost use Prim.Native.Nat.{ℕ};
@@ -13,10 +14,10 @@ ghost use Rattle.runs.specs.Demand.{DemandThreeAt};
 ghost use Rattle.clock_pass.specs.Given.{RewriteSaid, RewriteGiven, ClocksSaid, ClocksGiven, blank};
 
 // Rewriting a sheet, with the faults in words that said none.
-fn rewrite_words(sheet: &[u8], out: &mut [u8], words: &mut [u32; FAULT_TABLE]) -> RewriteAnswer
-    ensures { λ a. ⌜ (now (words .entry) ≡ replicate 12288 0 → RewriteSaid (rewriteAnswer (now (sheet .entry)) (length (now (out .entry)))) (now (out .entry)) (now (out .exit)) (now (words .exit)) a) × ((n : ℕ) → a ≡ RewriteAnswer.Written n → DemandThreeAt (now (sheet .entry)) (take n (now (out .exit)))) ⌝ }
+fn rewrite_words(sheet: &[u8], out: &mut [u8], words: &mut [u32; NODE_WORDS]) -> RewriteAnswer
+    ensures { λ a. ⌜ (now (words .entry) ≡ replicate 48 0 → RewriteSaid (rewriteAnswer (now (sheet .entry)) (length (now (out .entry)))) (now (out .entry)) (now (out .exit)) (now (words .exit)) a) × ((n : ℕ) → a ≡ RewriteAnswer.Written n → DemandThreeAt (now (sheet .entry)) (take n (now (out .exit)))) ⌝ }
 {
-    pass_rewrite::rewrite(sheet, out, words)
+    questions::rewrite(sheet, out, words)
 }
 
 // Rewriting a sheet: the sheet on one base tick over the front of the lent bytes, and how many bytes it has; or the refusal, which
@@ -27,9 +28,9 @@ pub fn rewrite(sheet: &[u8], out: &mut [u8], faults: &mut [FaultRecord]) -> Rewr
     ensures { λ a. ⌜ RewriteGiven (rewriteAnswer (now (sheet .entry)) (length (now (out .entry)))) (now (out .entry)) (now (faults .entry)) (now (out .exit)) (now (faults .exit)) a ⌝ }
     ensures { λ a. ⌜ ((n : ℕ) → a ≡ RewriteAnswer.Written n → DemandThreeAt (now (sheet .entry)) (take n (now (out .exit)))) ⌝ }
 {
-    let mut words = fault_list::none_said();
+    let mut words = fault_list::no_node_said();
     let answer = rewrite_words(sheet, out, &mut words);
-    fault_list::put_said(faults, &words);
+    fault_list::put_node_said(faults, &words);
     answer
 }
 
@@ -43,7 +44,7 @@ fn clocks_words(
 ) -> ClocksAnswer
     ensures { λ r. ⌜ (now (words .entry) ≡ replicate 12288 0 → ClocksSaid node (clocksAnswer (now (sheet .entry)) node) (now (equations .entry)) (now (chains .entry)) (now (equations .exit)) (now (chains .exit)) (now (words .exit)) r) ⌝ }
 {
-    pass::clocks(sheet, node, equations, chains, words)
+    questions::clocks(sheet, node, equations, chains, words)
 }
 
 // The clock query of a node: its name and passes, each equation's clock, its chains and all its clock faults, into lent lists as far

@@ -4,7 +4,7 @@ use definitions::Refusal;
 use libc::STDERR_FILENO;
 use libc::STDIN_FILENO;
 use libc::STDOUT_FILENO;
-use pass::ListingAnswer;
+use listings::ListingAnswer;
 
 // What is asked for: the listing of every node, or of one.
 enum Asked {
@@ -48,8 +48,8 @@ fn refuse(r: Refusal) {
 
 fn listed(sheet: &[u8], asked: Asked, out: &mut [u8]) -> ListingAnswer {
     match asked {
-        Asked::Every => pass::listings(sheet, out),
-        Asked::Node(k) => pass::listing(sheet, k, out),
+        Asked::Every => questions::listings(sheet, out),
+        Asked::Node(k) => questions::listing(sheet, k, out),
     }
 }
 

@@ -11,9 +11,9 @@ use Rattle.definitions.specs.Refusals.{Answer, accepted, refused, faulty, numbe
 use Rattle.runs.specs.Demand.{DemandThreeAt}
 use Rattle.definitions.specs.Answer.{NodeClocks}
 use Rattle.query.specs.declared.NodeCounts.{NodeCounts}
-use Rattle.pass.specs.declared.ClocksAnswer.{ClocksAnswer}
-use Rattle.pass.specs.declared.ListingAnswer.{ListingAnswer}
-use Rattle.pass.specs.Answers.{ListingGiven, listingAnswered, clocksAnswered}
+use Rattle.listings.specs.declared.ClocksAnswer.{ClocksAnswer}
+use Rattle.listings.specs.declared.ListingAnswer.{ListingAnswer}
+use Rattle.listings.specs.Answers.{ListingGiven, listingAnswered, clocksAnswered}
 use Rattle.rewriting.specs.declared.RewriteAnswer.{RewriteAnswer}
 use Rattle.rewriting.specs.Given.{rewriteAnswered}
 use Rattle.clock_pass.specs.Given.{RewriteGiven, ClocksGiven}

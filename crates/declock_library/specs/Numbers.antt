@@ -7,9 +7,9 @@ use Rattle.definitions.specs.declared.FaultRecord.{FaultRecord}
 use Rattle.definitions.specs.Lists.{over}
 use Rattle.definitions.specs.Refusals.{Answer, accepted, refused, faulty, number, place, faultCount, bytesAfter, faultsAfter}
 use Rattle.definitions.specs.Answer.{NodeClocks, clockFaultsAfter}
-use Rattle.pass.specs.declared.ClocksAnswer.{ClocksAnswer}
-use Rattle.pass.specs.declared.ListingAnswer.{ListingAnswer}
-use Rattle.pass.specs.Answers.{equationsAfter, chainsAfter}
+use Rattle.listings.specs.declared.ClocksAnswer.{ClocksAnswer}
+use Rattle.listings.specs.declared.ListingAnswer.{ListingAnswer}
+use Rattle.listings.specs.Answers.{equationsAfter, chainsAfter}
 use Rattle.rewriting.specs.declared.RewriteAnswer.{RewriteAnswer}
 
 -- "A refusal is its number and place": the number, 10 of faults; 0 where accepted

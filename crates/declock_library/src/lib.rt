@@ -2,8 +2,8 @@
 // Each answers 0 where the sheet is accepted, else the refusal's number, and stores the number of bytes written, or the refusal's place.
 use definitions::FaultRecord;
 use definitions::Refusal;
-use pass::ClocksAnswer;
-use pass::ListingAnswer;
+use listings::ClocksAnswer;
+use listings::ListingAnswer;
 use rewriting::RewriteAnswer;
 ghost use mathlib.Core.Path.{_≡_};
 ghost use lib.ListN.{length, take};
@@ -114,7 +114,7 @@ pub extern "C" fn declock_text(
 ) -> u32
     ensures { λ n. ⌜ BytesTold (textAnswer (now (sheet .entry)) node fault (length (now (out .entry)))) (now (out .entry)) (now (out .exit)) (now (place .exit)) n ⌝ }
 {
-    let answer = pass_rewrite::text(sheet, node, fault, out);
+    let answer = questions::text(sheet, node, fault, out);
     tell_listing(answer, place)
 }
 
@@ -128,7 +128,7 @@ pub extern "C" fn declock_listing(
 ) -> u32
     ensures { λ n. ⌜ BytesTold (listingAnswer (now (sheet .entry)) node (length (now (out .entry)))) (now (out .entry)) (now (out .exit)) (now (place .exit)) n ⌝ }
 {
-    let answer = pass::listing(sheet, node, out);
+    let answer = questions::listing(sheet, node, out);
     tell_listing(answer, place)
 }
 
@@ -137,6 +137,6 @@ pub extern "C" fn declock_listing(
 pub extern "C" fn declock_listings(sheet: &[u8], out: &mut [u8], place: &mut usize) -> u32
     ensures { λ n. ⌜ BytesTold (listingsAnswer (now (sheet .entry)) (length (now (out .entry)))) (now (out .entry)) (now (out .exit)) (now (place .exit)) n ⌝ }
 {
-    let answer = pass::listings(sheet, out);
+    let answer = questions::listings(sheet, out);
     tell_listing(answer, place)
 }

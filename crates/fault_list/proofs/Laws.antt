@@ -8,7 +8,7 @@ use mathlib.Core.List.{List, [], _∷_, _++_, map}
 use mathlib.Core.Logic.{_⊎_, inl, inr}
 use mathlib.Core.Bool.{Bool, true, false}
 use lib.Dec.{ltb, eqb}
-use lib.ListN.{length, getD, drop, set, replicate}
+use lib.ListN.{length, getD, drop, set, replicate, List·getD-eq-default}
 use borrow.Author.Tests.{lt-ltb, le-ltb, eq-eqb, ne-eqb}
 use Rattle.definitions.specs.declared.FaultRecord.{FaultRecord}
 use Rattle.definitions.specs.Lists.{choose, join, over}
@@ -47,6 +47,10 @@ counted-few (suc n) ws = go (eqb (getD ws 1 0) 0) (counted-few n (drop 3 ws))
 count-few : (ws : List ℕ) → count ws ≤ 4096
 unfolding count
 count-few ws = counted-few 4096 ws
+
+-- of what words with room for one record a node say a list has places for so many
+pub few-nodes : (c m n : ℕ) → c ≤ 16 → n ≡ least c m → n ≤ 16
+few-nodes c m n h e = let z = least-le c m n e in omega (arith, z .0, h)
 
 -- of what the words say a list has places for so many
 pub few-reached : (ws : List ℕ) (m n : ℕ) → n ≡ least (count ws) m → (n ≤ 4096) × (n ≤ m)
@@ -110,6 +114,10 @@ module _ (ws : List ℕ) (i : ℕ) (h : i < 4096) where
 
       next : (i : ℕ) → i + 1 ≡ suc i
       next i = omega arith
+
+-- words with room for one record a node say no more
+pub counting-nodes : (ws : List ℕ) (i : ℕ) → length ws ≡ 48 → 16 ≤ i → i ≤ 16 → count ws ≡ counting ws i → i ≡ count ws
+counting-nodes ws i long h k g = counting-stop ws i (omega arith) (List·getD-eq-default ws 0 (omega arith)) g
 
 -- ---- lists written over lists
 pub length-over : {A : Type 0} (l xs : List A) → length (over l xs) ≡ length xs
@@ -214,6 +222,35 @@ written-said (suc n) (r ∷ l) real few =
 pub said-again : (l : List FaultRecord) (ws : List ℕ) → ws ≡ replicate 12288 0 → Real l → length l ≤ 4096 → said (over (join (map wordsOf l)) ws) ≡ l
 unfolding said count
 said-again l ws e real few = ap (λ (zs : List ℕ). said (over (join (map wordsOf l)) zs)) e ∙ written-said 4096 l real few
+
+-- the same of words with room for one record a node
+none-in : (n : ℕ) → countOf n [] ≡ 0
+unfolding countOf
+none-in zero = refl
+none-in (suc n) = refl
+
+count-more : (k n : ℕ) (ws : List ℕ) → length ws ≡ 3 * n → countOf (n + k) ws ≡ countOf n ws
+unfolding countOf
+count-more k zero [] h = ap (λ (m : ℕ). countOf m []) (zero-add k) ∙ none-in k
+count-more k zero (a ∷ ws) h = absurd (omega arith)
+count-more k (suc n) ws h =
+    ap (λ (m : ℕ). countOf m ws) (suc-add n k) ∙ ap (λ (m : ℕ). choose (eqb (getD ws 1 0) 0) 0 (suc m)) (count-more k n (drop 3 ws) (three-less ws h))
+  where
+    three-less : (ws : List ℕ) → length ws ≡ 3 * suc n → length (drop 3 ws) ≡ 3 * n
+    three-less [] h = absurd (omega arith)
+    three-less (a ∷ []) h = absurd (omega arith)
+    three-less (a ∷ b ∷ []) h = absurd (omega arith)
+    three-less (a ∷ b ∷ c ∷ ws) h = omega arith
+
+pub node-said-again : (l : List FaultRecord) (ws : List ℕ) → ws ≡ replicate 48 0 → Real l → length l ≤ 16 → said (over (join (map wordsOf l)) ws) ≡ l
+unfolding said count
+node-said-again l ws e real few =
+    ap (λ (zs : List ℕ). said (over (join (map wordsOf l)) zs)) e
+    ∙ (ap (records (over (join (map wordsOf l)) (replicate 48 0))) (count-more 4080 16 (over (join (map wordsOf l)) (replicate 48 0)) (length-over (join (map wordsOf l)) (replicate 48 0)))
+    ∙ written-said 16 l real few)
+
+pub no-node-again : (ws : List ℕ) → ws ≡ replicate 48 0 → said ws ≡ []
+no-node-again ws e = node-said-again [] ws e tt (omega arith)
 
 -- and words that say none say none
 pub none-again : (ws : List ℕ) → ws ≡ replicate 12288 0 → said ws ≡ []

@@ -127,7 +127,21 @@ fn check_one(
         return Tally::Deep;
     }
     let c = or_base(own);
-    let w = checking::check_equation(tags, values, names, env, ports, table, number, c, at, n);
+    // the sites are for planning, which does not ask for them yet
+    let mut sites = [0u32; 17];
+    let w = checking::check_equation(
+        tags,
+        values,
+        names,
+        env,
+        ports,
+        table,
+        &mut sites,
+        number,
+        c,
+        at,
+        n,
+    );
     Tally::Count(w.count)
 }
 

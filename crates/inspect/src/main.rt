@@ -1,9 +1,9 @@
 // Says what a sheet on standard input has: its sizes, its types and its nodes; or what it is refused for.
 use definitions::MOST_NODES;
+use definitions::MOST_TOKENS;
 use definitions::MOST_TYPES;
 use definitions::NodeKind;
 use definitions::Refusal;
-use definitions::WORKING_TOKENS;
 use layout::NodeLayout;
 use libc::STDERR_FILENO;
 use libc::STDIN_FILENO;
@@ -248,7 +248,7 @@ fn put_front(out: &mut [u8; 4096], bytes: &[u8], tags: &[u8], values: &[u32], si
     )
 }
 
-fn report(bytes: &[u8], tags: &[u8; WORKING_TOKENS], values: &[u32; WORKING_TOKENS], sizes: Sizes)
+fn report(bytes: &[u8], tags: &[u8; MOST_TOKENS], values: &[u32; MOST_TOKENS], sizes: Sizes)
     requires { ⌜ Accepted (now bytes) × (sizes ≡ sizesOf (now bytes)) ⌝ }
 {
     let mut out = [0u8; 4096];
@@ -264,8 +264,8 @@ fn refuse(r: Refusal) {
 }
 
 fn inspect(bytes: &[u8]) {
-    let mut tags = [0u8; WORKING_TOKENS];
-    let mut values = [0u32; WORKING_TOKENS];
+    let mut tags = [0u8; MOST_TOKENS];
+    let mut values = [0u32; MOST_TOKENS];
     let answer = sheet::read(bytes, &mut tags, &mut values);
     match answer {
         SheetAnswer::Refused(r) => refuse(r),

@@ -3,7 +3,6 @@ use definitions::MOST_LETTERS;
 use definitions::MOST_NAMES;
 use definitions::MOST_TOKENS;
 use definitions::Refusal;
-use definitions::WORKING_TOKENS;
 ghost use mathlib.Core.Path.{_≡_};
 ghost use Prim.Native.Nat.{_+_, _*_, _≤_, _<_};
 ghost use lib.ListN.{length, take, drop};
@@ -124,8 +123,8 @@ fn check_parts(sheet: &[u8]) -> PartsAnswer
 }
 
 // n bytes from a place of the sheet, over the front of the tags.
-fn copy_tags(sheet: &[u8], at: usize, n: usize, tags: &mut [u8; WORKING_TOKENS])
-    requires { ⌜ (at + n ≤ length (now sheet)) × (n ≤ 8192) ⌝ }
+fn copy_tags(sheet: &[u8], at: usize, n: usize, tags: &mut [u8; MOST_TOKENS])
+    requires { ⌜ (at + n ≤ length (now sheet)) × (n ≤ 4096) ⌝ }
     ensures { λ r. ⌜ now (tags .exit) ≡ over (take n (drop at (now (sheet .entry)))) (now (tags .entry)) ⌝ }
 {
     let mut k: usize = 0;
@@ -136,8 +135,8 @@ fn copy_tags(sheet: &[u8], at: usize, n: usize, tags: &mut [u8; WORKING_TOKENS])
 }
 
 // The n words from a place of the sheet to its end, over the front of the values.
-fn copy_values(sheet: &[u8], at: usize, n: usize, values: &mut [u32; WORKING_TOKENS])
-    requires { ⌜ (at + 4 * n ≡ length (now sheet)) × (n ≤ 8192) ⌝ }
+fn copy_values(sheet: &[u8], at: usize, n: usize, values: &mut [u32; MOST_TOKENS])
+    requires { ⌜ (at + 4 * n ≡ length (now sheet)) × (n ≤ 4096) ⌝ }
     ensures { λ r. ⌜ now (values .exit) ≡ over (fourByteWords (drop at (now (sheet .entry)))) (now (values .entry)) ⌝ }
 {
     let mut k: usize = 0;
@@ -150,8 +149,8 @@ fn copy_values(sheet: &[u8], at: usize, n: usize, values: &mut [u32; WORKING_TOK
 // A sheet's parts: turned down by 1 to 4, or its tokens stand in the working arrays.
 pub fn read_parts(
     sheet: &[u8],
-    tags: &mut [u8; WORKING_TOKENS],
-    values: &mut [u32; WORKING_TOKENS],
+    tags: &mut [u8; MOST_TOKENS],
+    values: &mut [u32; MOST_TOKENS],
 ) -> PartsAnswer
     ensures answer { λ r. ⌜ r ≡ partsAnswer (now (sheet .entry)) ⌝ }
     ensures tags { λ r. ⌜ now (tags .exit) ≡ tagsAfter (parts (now (sheet .entry))) (now (sheet .entry)) (now (tags .entry)) ⌝ }

@@ -240,6 +240,3 @@ roomy-of names k M many env table a b c d e = record { few = omega arith; clocks
 
 pub ample-of : (k : ℕ) (table rows chain : List ℕ) → k ≤ 4096 → length table ≡ 38 * k → length rows ≡ 17 * k → length chain ≡ k → Ample table rows chain
 ample-of k table rows chain a b c d = record { few = omega arith; chained = omega arith; ordered = omega arith }
-
-pub roomy : (M many : ℕ) (env table : List ℕ) → M ≤ 1024 → many ≤ 4096 → length env ≡ 17408 → length table ≡ 155648 → Roomy M many env table
-roomy M many env table a b c d = roomy-of 1024 4096 M many env table (omega arith) a b c d

@@ -1,8 +1,6 @@
 // What the questions on a sheet's nodes are answered from, over the working tables: a node found and clocked, its clocks and faults
 // as words, the listings of all nodes. `tags` and `values` are as long as each other; `names` is the number of names.
 use clock::Clock;
-use definitions::CLOCK_TABLE;
-use definitions::FINDING_TABLE;
 use definitions::MOST_NAMES;
 use definitions::MOST_NODES;
 use definitions::Refusal;
@@ -89,7 +87,7 @@ pub fn node_place(tags: &[u8], values: &[u32], names: u32, k: usize) -> NodePlac
 }
 
 // The first node in which too deep a clock is formed.
-fn first_deep(
+pub fn first_deep(
     tags: &[u8],
     values: &[u32],
     names: u32,
@@ -114,16 +112,6 @@ fn first_deep(
         &mut ports,
         table,
     )
-}
-
-// The same, with working tables of its own.
-pub fn deep_node(tags: &[u8], values: &[u32], names: u32) -> Deepest
-    requires { ⌜ length (now values) ≡ length (now tags) ⌝ }
-    ensures { λ r. ⌜ ((s : Sheet) (q : ℕ) → sheet names (tokens (now (tags .entry)) (now (values .entry))) 0 ≡ got s q → names ≤ 1024 → length (now (tags .entry)) ≤ 4096 → Deeply r (clockings 0 (s .nodes))) ⌝ }
-{
-    let mut env = [0u32; CLOCK_TABLE];
-    let mut table = [0u32; FINDING_TABLE];
-    first_deep(tags, values, names, &mut env, &mut table)
 }
 
 // Node k, which has this layout, clocked; or refusal 9 at it. Marks and ports, which are cleared for each node, are lent as far as names go.

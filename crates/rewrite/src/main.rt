@@ -6,7 +6,7 @@ use definitions::Refusal;
 use libc::STDERR_FILENO;
 use libc::STDIN_FILENO;
 use libc::STDOUT_FILENO;
-use pass::ListingAnswer;
+use listings::ListingAnswer;
 use rewriting::RewriteAnswer;
 
 fn help() {
@@ -79,7 +79,7 @@ fn show_count(count: usize) {
 // The text of a node's first fault.
 fn show_text(sheet: &[u8], node: usize) {
     let mut text = io::buffer();
-    let answer = pass_rewrite::text(sheet, node, 0, &mut text);
+    let answer = questions::text(sheet, node, 0, &mut text);
     if let ListingAnswer::Written(n) = answer {
         show(STDERR_FILENO, &text, n);
     }

@@ -2,12 +2,9 @@
 // `given` has the lengths of the sheet's names and `letters` their letters, `starts` where each name's letters start, `names` is how
 // many there are; `tags` and `values` are the sheet's tokens, as long as each other.
 use definitions::CLOCK_TABLE;
-use definitions::FINDING_TABLE;
 use definitions::MOST_LETTERS;
 use definitions::MOST_NAMES;
 use definitions::Refusal;
-use definitions::SMALL_FINDING_TABLE;
-use definitions::SMALL_TOKENS;
 use definitions::WORKING_TOKENS;
 use first_faults::NodesWalked;
 use fresh::Counts;
@@ -159,15 +156,15 @@ fn rewrite_faultless(
     write_arrays(&lengths, &text, c, &otags, &ovalues, n, out)
 }
 
-// Rewriting a sheet, with working tables: for the clocks of names, and for what is found in equations.
-fn rewrite_in(
+// Rewriting a sheet, with lent tables for the clocks of names and for what is found in equations: the output over the front of the lent
+// bytes; or a refusal, which under 10 alone writes each faulty node's first fault over the front of the lent list, three words a fault.
+pub fn rewrite_in(
     given: &[u8],
     starts: &[u32],
     letters: &[u8],
     tags: &[u8],
     values: &[u32],
     names: u32,
-    env: &mut [u32; CLOCK_TABLE],
     table: &mut [u32],
     out: &mut [u8],
     faults: &mut [u32],
@@ -176,98 +173,15 @@ fn rewrite_in(
     requires { ⌜ (sum (now given) ≡ length (now letters)) × (length (now given) ≤ 1024) × (length (now letters) ≤ 16384) ⌝ }
     ensures { λ a. ⌜ ((bytes : List ℕ) (r : Input) → Read (now (given .entry)) (now (starts .entry)) (now (letters .entry)) (now (tags .entry)) (now (values .entry)) names bytes r → 38 * length (now (tags .entry)) ≤ length (now (table .entry)) → RewriteInWords (rewriteAnswer bytes (length (now (out .entry)))) (now (out .entry)) (now (faults .entry)) (now (out .exit)) (now (faults .exit)) a) ⌝ }
 {
-    let walked = list_faults(given, letters, tags, values, names, env, table, faults);
+    let mut env = [0u32; CLOCK_TABLE];
+    let walked = list_faults(given, letters, tags, values, names, &mut env, table, faults);
     match walked {
         NodesWalked::Deep(i) => RewriteAnswer::Refused(Refusal::Deep(i)),
         NodesWalked::Faulty(faulty) => {
             if 0 < faulty {
                 return RewriteAnswer::Refused(Refusal::Faulty(faulty));
             }
-            rewrite_faultless(given, starts, letters, tags, values, names, env, out)
+            rewrite_faultless(given, starts, letters, tags, values, names, &mut env, out)
         }
     }
-}
-
-// The same of at most 256 tokens, which find little: a small table is made sooner.
-fn rewrite_small(
-    given: &[u8],
-    starts: &[u32],
-    letters: &[u8],
-    tags: &[u8],
-    values: &[u32],
-    names: u32,
-    out: &mut [u8],
-    faults: &mut [u32],
-) -> RewriteAnswer
-    requires { ⌜ length (now values) ≡ length (now tags) ⌝ }
-    requires { ⌜ (sum (now given) ≡ length (now letters)) × (length (now given) ≤ 1024) × (length (now letters) ≤ 16384) ⌝ }
-    ensures { λ a. ⌜ ((bytes : List ℕ) (r : Input) → Read (now (given .entry)) (now (starts .entry)) (now (letters .entry)) (now (tags .entry)) (now (values .entry)) names bytes r → length (now (tags .entry)) ≤ 256 → RewriteInWords (rewriteAnswer bytes (length (now (out .entry)))) (now (out .entry)) (now (faults .entry)) (now (out .exit)) (now (faults .exit)) a) ⌝ }
-{
-    let mut env = [0u32; CLOCK_TABLE];
-    let mut table = [0u32; SMALL_FINDING_TABLE];
-    rewrite_in(
-        given,
-        starts,
-        letters,
-        tags,
-        values,
-        names,
-        &mut env,
-        &mut table,
-        out,
-        faults,
-    )
-}
-
-// The same of as many tokens as a sheet may have.
-fn rewrite_large(
-    given: &[u8],
-    starts: &[u32],
-    letters: &[u8],
-    tags: &[u8],
-    values: &[u32],
-    names: u32,
-    out: &mut [u8],
-    faults: &mut [u32],
-) -> RewriteAnswer
-    requires { ⌜ length (now values) ≡ length (now tags) ⌝ }
-    requires { ⌜ (sum (now given) ≡ length (now letters)) × (length (now given) ≤ 1024) × (length (now letters) ≤ 16384) ⌝ }
-    ensures { λ a. ⌜ ((bytes : List ℕ) (r : Input) → Read (now (given .entry)) (now (starts .entry)) (now (letters .entry)) (now (tags .entry)) (now (values .entry)) names bytes r → RewriteInWords (rewriteAnswer bytes (length (now (out .entry)))) (now (out .entry)) (now (faults .entry)) (now (out .exit)) (now (faults .exit)) a) ⌝ }
-{
-    let mut env = [0u32; CLOCK_TABLE];
-    let mut table = [0u32; FINDING_TABLE];
-    rewrite_in(
-        given,
-        starts,
-        letters,
-        tags,
-        values,
-        names,
-        &mut env,
-        &mut table,
-        out,
-        faults,
-    )
-}
-
-// Rewriting a sheet: the output over the front of the lent bytes; or a refusal, which under 10 alone writes each faulty node's first
-// fault over the front of the lent list, three words a fault.
-pub fn rewrite_standing(
-    given: &[u8],
-    starts: &[u32],
-    letters: &[u8],
-    tags: &[u8],
-    values: &[u32],
-    names: u32,
-    out: &mut [u8],
-    faults: &mut [u32],
-) -> RewriteAnswer
-    requires { ⌜ length (now values) ≡ length (now tags) ⌝ }
-    requires { ⌜ (sum (now given) ≡ length (now letters)) × (length (now given) ≤ 1024) × (length (now letters) ≤ 16384) ⌝ }
-    ensures { λ a. ⌜ ((bytes : List ℕ) (r : Input) → Read (now (given .entry)) (now (starts .entry)) (now (letters .entry)) (now (tags .entry)) (now (values .entry)) names bytes r → RewriteInWords (rewriteAnswer bytes (length (now (out .entry)))) (now (out .entry)) (now (faults .entry)) (now (out .exit)) (now (faults .exit)) a) ⌝ }
-{
-    if tags.len() <= SMALL_TOKENS {
-        return rewrite_small(given, starts, letters, tags, values, names, out, faults);
-    }
-    rewrite_large(given, starts, letters, tags, values, names, out, faults)
 }

@@ -140,12 +140,12 @@ module _ (b : List ℕ) (s : Sizes) (e : PartsAnswer.Parts s ≡ partsAnswer b) 
   pub few : (s .names ≤ 1024) × (s .tokens ≤ 4096)
   few = (omega (arith, names-told b s sized, sized .names), omega (arith, tokens-told b s sized, sized .many))
 
-  module _ (ts vs ts′ vs′ : List ℕ) (et : ts′ ≡ tagsAfter (parts b) b ts) (ev : vs′ ≡ valuesAfter (parts b) b vs) (lt : length ts′ ≡ 8192) (lv : length vs′ ≡ 8192) where
+  module _ (ts vs ts′ vs′ : List ℕ) (et : ts′ ≡ tagsAfter (parts b) b ts) (ev : vs′ ≡ valuesAfter (parts b) b vs) (lt : length ts′ ≡ 4096) (lv : length vs′ ≡ 4096) where
     tags-front : take (T b) ts′ ≡ tags b
-    tags-front = front (tags b) ts ts′ (T b) 8192 (et ∙ ap (λ (a : Answer Parts). tagsAfter a b ts) (answer-parts b s e)) (tags-long b s sized) (omega (arith, sized .many)) lt
+    tags-front = front (tags b) ts ts′ (T b) 4096 (et ∙ ap (λ (a : Answer Parts). tagsAfter a b ts) (answer-parts b s e)) (tags-long b s sized) (omega (arith, sized .many)) lt
 
     values-front : take (T b) vs′ ≡ values b
-    values-front = front (values b) vs vs′ (T b) 8192 (ev ∙ ap (λ (a : Answer Parts). valuesAfter a b vs) (answer-parts b s e)) (values-long b s sized) (omega (arith, sized .many)) lv
+    values-front = front (values b) vs vs′ (T b) 4096 (ev ∙ ap (λ (a : Answer Parts). valuesAfter a b vs) (answer-parts b s e)) (values-long b s sized) (omega (arith, sized .many)) lv
 
     names-long : length (cut (lengths b) (letters b)) ≡ M b
     names-long = cut-count (lengths b) (letters b) ∙ lengths-long b s sized

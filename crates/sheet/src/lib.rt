@@ -1,7 +1,7 @@
 // A sheet's bytes are read: refusals 1 to 7, in checking order, of document 01, or its tokens stand in the working arrays.
+use definitions::MOST_TOKENS;
 use definitions::MOST_TYPES;
 use definitions::Refusal;
-use definitions::WORKING_TOKENS;
 use grammar::Read;
 use parts::PartsAnswer;
 use parts::Sizes;
@@ -73,8 +73,8 @@ fn check_front(tags: &[u8], values: &[u32], names: u32, n: usize) -> Checked
 // A sheet is read: what it is refused for, or its sizes, and its tokens stand at the front of the working arrays.
 pub fn read(
     sheet: &[u8],
-    tags: &mut [u8; WORKING_TOKENS],
-    values: &mut [u32; WORKING_TOKENS],
+    tags: &mut [u8; MOST_TOKENS],
+    values: &mut [u32; MOST_TOKENS],
 ) -> SheetAnswer
     ensures { λ r. ⌜ SheetRead (now (sheet .entry)) (now (tags .entry)) (now (values .entry)) (now (tags .exit)) (now (values .exit)) r ⌝ }
 {

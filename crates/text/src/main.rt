@@ -4,7 +4,7 @@ use definitions::Refusal;
 use libc::STDERR_FILENO;
 use libc::STDIN_FILENO;
 use libc::STDOUT_FILENO;
-use pass::ListingAnswer;
+use listings::ListingAnswer;
 
 fn help() {
     io::write_all(
@@ -39,7 +39,7 @@ fn refuse(r: Refusal) {
 
 // The text into the bytes lent, and a line feed.
 fn tell(sheet: &[u8], node: usize, fault: usize, out: &mut [u8]) {
-    let answer = pass_rewrite::text(sheet, node, fault, out);
+    let answer = questions::text(sheet, node, fault, out);
     match answer {
         ListingAnswer::Written(n) => {
             show(STDOUT_FILENO, out, n);

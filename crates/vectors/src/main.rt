@@ -4,12 +4,12 @@ use arguments::Word;
 use definitions::CHAIN_TABLE;
 use definitions::FaultRecord;
 use definitions::MOST_NODES;
+use definitions::MOST_TOKENS;
 use definitions::Refusal;
-use definitions::WORKING_TOKENS;
 use libc::STDIN_FILENO;
 use libc::STDOUT_FILENO;
-use pass::ClocksAnswer;
-use pass::ListingAnswer;
+use listings::ClocksAnswer;
+use listings::ListingAnswer;
 use query::NodeCounts;
 use rewriting::RewriteAnswer;
 use sheet::SheetAnswer;
@@ -259,7 +259,7 @@ fn is_rewritten(sheet: &[u8], out: &mut [u8], answer: &[u8]) -> bool {
 
 // Is the text of a fault into the bytes lent answered so?
 fn is_told(sheet: &[u8], node: usize, fault: usize, out: &mut [u8], answer: &[u8]) -> bool {
-    let given = pass_rewrite::text(sheet, node, fault, out);
+    let given = questions::text(sheet, node, fault, out);
     match given {
         ListingAnswer::Written(n) => is_written(out, n, answer),
         ListingAnswer::Refused(r) => is_refused(r, answer),
@@ -472,7 +472,7 @@ fn are_clocks(
     let mut listing = [0u8; 65536];
     let m = put_sheet_listing(&mut listing, sheet, counts, equations, chains);
     let mut text = [0u8; 65536];
-    match pass::listing(sheet, node, &mut text) {
+    match questions::listing(sheet, node, &mut text) {
         ListingAnswer::Refused(_) => false,
         ListingAnswer::Written(n) => {
             if !is_listing_front(&text, n, &listing, m, counts.faults as u64) {
@@ -486,7 +486,7 @@ fn are_clocks(
 // Is this what the listing is refused for?
 fn is_listing_refused(sheet: &[u8], node: usize, answer: &[u8]) -> bool {
     let mut text = [0u8; 65536];
-    match pass::listing(sheet, node, &mut text) {
+    match questions::listing(sheet, node, &mut text) {
         ListingAnswer::Refused(r) => is_refused(r, answer),
         ListingAnswer::Written(_) => false,
     }
@@ -585,8 +585,8 @@ fn check_text(line: &[u8]) -> Verdict {
 
 // What reading a sheet answers.
 fn reading(bytes: &[u8]) -> Told {
-    let mut tags = [0u8; WORKING_TOKENS];
-    let mut values = [0u32; WORKING_TOKENS];
+    let mut tags = [0u8; MOST_TOKENS];
+    let mut values = [0u32; MOST_TOKENS];
     let read = sheet::read(bytes, &mut tags, &mut values);
     match read {
         SheetAnswer::Sheet(_) => Told {

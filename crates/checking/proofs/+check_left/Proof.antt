@@ -1,6 +1,6 @@
 -- The left names, one after another.
 -- Assumes nothing.
-use mathlib.Core.Path.{refl, _∙_}
+use mathlib.Core.Path.{refl, sym, _∙_}
 use native.Mathlib.Omega.{arith}
 use denote.Ref.{now}
 use Rattle.definitions.specs.Grammar.{name}
@@ -36,17 +36,23 @@ check-left-uses t = (is-port-reads.Asked, is-port-reads.Learnt, left-on-reads.As
 check-left-returns : (t : ℕ) → check-left-lts.Need-returns (check-left-uses t) (check-left-at t) check-left.Post
 check-left-returns t c = (
   refl,
-  λ node clocks xs q fs a k g h.
-      let z = times-nil _ _ _ _ xs q (c .if1 .taken) g in
-      left-none clocks (c .before .before .before .before .before .before .args .equation) node (valueOf (c .before .before .before .before .before .before .args .on)) _ _ q fs xs _ _ (z .0) (z .1) refl h,
+  (
+    λ node clocks xs q fs a k g h.
+        let z = times-nil _ _ _ _ xs q (c .if1 .taken) g in
+        left-none clocks (c .before .before .before .before .before .before .args .equation) node (valueOf (c .before .before .before .before .before .before .args .on)) _ _ q fs xs _ _ (z .0) (z .1) refl h,
+    λ xs q g. sym (times-nil _ _ _ _ xs q (c .if1 .taken) g .1),
+  ),
 )
 
 check-left-returns-2 : (t : ℕ) → check-left-lts.Need-returns-2 (check-left-uses t) (check-left-at t) check-left.Post
 check-left-returns-2 t c = (
   refl,
-  λ node clocks xs q fs a k g h.
-      let s = (times-cons (name (c .before .before .before .before .before .before .before .args .names)) (tokens (now (c .before .before .before .before .before .before .before .args .tags)) (now (c .before .before .before .before .before .before .before .args .values))) (c .before .before .before .before .before .before .before .args .count) (c .before .before .before .before .before .before .before .args .at) xs q (c .before .if1 .left) g) in
-      absurd (omega (arith, (name-there (c .before .before .before .before .before .before .before .args .names) (now (c .before .before .before .before .before .before .before .args .tags)) (now (c .before .before .before .before .before .before .before .args .values)) (c .before .before .before .before .before .before .before .pre .1) (c .before .before .before .before .before .before .before .args .at) (s .0) (s .1) (s .3)) .1, c .if2 .taken)),
+  (
+    λ node clocks xs q fs a k g h.
+        let s = (times-cons (name (c .before .before .before .before .before .before .before .args .names)) (tokens (now (c .before .before .before .before .before .before .before .args .tags)) (now (c .before .before .before .before .before .before .before .args .values))) (c .before .before .before .before .before .before .before .args .count) (c .before .before .before .before .before .before .before .args .at) xs q (c .before .if1 .left) g) in
+        absurd (omega (arith, (name-there (c .before .before .before .before .before .before .before .args .names) (now (c .before .before .before .before .before .before .before .args .tags)) (now (c .before .before .before .before .before .before .before .args .values)) (c .before .before .before .before .before .before .before .pre .1) (c .before .before .before .before .before .before .before .args .at) (s .0) (s .1) (s .3)) .1, c .if2 .taken)),
+    λ xs q g. let s = times-cons (name (c .before .before .before .before .before .before .before .args .names)) (tokens (now (c .before .before .before .before .before .before .before .args .tags)) (now (c .before .before .before .before .before .before .before .args .values))) (c .before .before .before .before .before .before .before .args .count) (c .before .before .before .before .before .before .before .args .at) xs q (c .before .if1 .left) g in absurd (omega (arith, name-there (c .before .before .before .before .before .before .before .args .names) (now (c .before .before .before .before .before .before .before .args .tags)) (now (c .before .before .before .before .before .before .before .args .values)) (c .before .before .before .before .before .before .before .pre .1) (c .before .before .before .before .before .before .before .args .at) (s .0) (s .1) (s .3) .1, c .if2 .taken)),
+  ),
 )
 
 check-left-mul-x : (t : ℕ) → check-left-lts.Need-mul-x (check-left-uses t) (check-left-at t) check-left.Post
@@ -76,13 +82,16 @@ check-left-same-length t c = search needs
 check-left-returns-3 : (t : ℕ) → check-left-lts.Need-returns-3 (check-left-uses t) (check-left-at t) check-left.Post
 check-left-returns-3 t c = (
   c .before .before .check-left .ensures .0 ∙ c .before .before .before .before .before .before .left-on .ensures .0,
-  λ node clocks xs q fs a k g h.
-      let s = (times-cons (name (c .before .before .before .before .before .before .before .before .before .before .before .before .before .before .before .before .before .args .names)) (tokens (now (c .before .before .before .before .before .before .before .before .before .before .before .before .before .before .before .before .before .args .tags)) (now (c .before .before .before .before .before .before .before .before .before .before .before .before .before .before .before .before .before .args .values))) (c .before .before .before .before .before .before .before .before .before .before .before .before .before .before .before .before .before .args .count) (c .before .before .before .before .before .before .before .before .before .before .before .before .before .before .before .before .before .args .at) xs q (c .before .before .before .before .before .before .before .before .before .before .before .if1 .left) g) in
-      let y = (name-there (c .before .before .before .before .before .before .before .before .before .before .before .before .before .before .before .before .before .args .names) (now (c .before .before .before .before .before .before .before .before .before .before .before .before .before .before .before .before .before .args .tags)) (now (c .before .before .before .before .before .before .before .before .before .before .before .before .before .before .before .before .before .args .values)) (c .before .before .before .before .before .before .before .before .before .before .before .before .before .before .before .before .before .pre .1) (c .before .before .before .before .before .before .before .before .before .before .before .before .before .before .before .before .before .args .at) (s .0) (s .1) (s .3)) in
-      let e = y .2 in
-      let m = c .before .before .before .before .before .before .left-on .ensures .1 clocks fs (rw e (a .same (s .0) (y .3))) h in
-      left-more clocks (c .before .before .before .before .before .before .before .before .before .before .before .before .before .before .before .before .before .args .equation) node (valueOf (c .before .before .before .before .before .before .before .before .before .before .before .before .before .before .before .before .before .args .on)) _ _ q fs xs (s .0) _ (s .2) _ (s .5) e (c .before .before .before .before .before .before .before .is-port .ensures ∙ rw e (k .same (s .0) (y .3)))
-      (c .before .before .check-left .ensures .1 node clocks (s .2) q _ a k (rw (y .0) at (s .4)) m),
+  (
+    λ node clocks xs q fs a k g h.
+        let s = (times-cons (name (c .before .before .before .before .before .before .before .before .before .before .before .before .before .before .before .before .before .args .names)) (tokens (now (c .before .before .before .before .before .before .before .before .before .before .before .before .before .before .before .before .before .args .tags)) (now (c .before .before .before .before .before .before .before .before .before .before .before .before .before .before .before .before .before .args .values))) (c .before .before .before .before .before .before .before .before .before .before .before .before .before .before .before .before .before .args .count) (c .before .before .before .before .before .before .before .before .before .before .before .before .before .before .before .before .before .args .at) xs q (c .before .before .before .before .before .before .before .before .before .before .before .if1 .left) g) in
+        let y = (name-there (c .before .before .before .before .before .before .before .before .before .before .before .before .before .before .before .before .before .args .names) (now (c .before .before .before .before .before .before .before .before .before .before .before .before .before .before .before .before .before .args .tags)) (now (c .before .before .before .before .before .before .before .before .before .before .before .before .before .before .before .before .before .args .values)) (c .before .before .before .before .before .before .before .before .before .before .before .before .before .before .before .before .before .pre .1) (c .before .before .before .before .before .before .before .before .before .before .before .before .before .before .before .before .before .args .at) (s .0) (s .1) (s .3)) in
+        let e = y .2 in
+        let m = c .before .before .before .before .before .before .left-on .ensures .1 clocks fs (rw e (a .same (s .0) (y .3))) h in
+        left-more clocks (c .before .before .before .before .before .before .before .before .before .before .before .before .before .before .before .before .before .args .equation) node (valueOf (c .before .before .before .before .before .before .before .before .before .before .before .before .before .before .before .before .before .args .on)) _ _ q fs xs (s .0) _ (s .2) _ (s .5) e (c .before .before .before .before .before .before .before .is-port .ensures ∙ rw e (k .same (s .0) (y .3)))
+        (c .before .before .check-left .ensures .1 .0 node clocks (s .2) q _ a k (rw (y .0) at (s .4)) m),
+    λ xs q g. let s = times-cons (name (c .before .before .before .before .before .before .before .before .before .before .before .before .before .before .before .before .before .args .names)) (tokens (now (c .before .before .before .before .before .before .before .before .before .before .before .before .before .before .before .before .before .args .tags)) (now (c .before .before .before .before .before .before .before .before .before .before .before .before .before .before .before .before .before .args .values))) (c .before .before .before .before .before .before .before .before .before .before .before .before .before .before .before .before .before .args .count) (c .before .before .before .before .before .before .before .before .before .before .before .before .before .before .before .before .before .args .at) xs q (c .before .before .before .before .before .before .before .before .before .before .before .if1 .left) g in let y = name-there (c .before .before .before .before .before .before .before .before .before .before .before .before .before .before .before .before .before .args .names) (now (c .before .before .before .before .before .before .before .before .before .before .before .before .before .before .before .before .before .args .tags)) (now (c .before .before .before .before .before .before .before .before .before .before .before .before .before .before .before .before .before .args .values)) (c .before .before .before .before .before .before .before .before .before .before .before .before .before .before .before .before .before .pre .1) (c .before .before .before .before .before .before .before .before .before .before .before .before .before .before .before .before .before .args .at) (s .0) (s .1) (s .3) in c .before .before .check-left .ensures .1 .1 (s .2) q (rw (y .0) at (s .4)),
+  ),
 )
 
 pub +check-left-spec : {M : Type 1} → statement M

@@ -48,9 +48,9 @@ use denote.Signature.{Slot, plain, shrSliceOf}
 use Rattle.definitions.specs.declared.FaultRecord.{FaultRecord}
 use Rattle.definitions.specs.Lists.{over}
 use Rattle.definitions.proofs.FaultRecord as T
-use Rattle.pass.specs.declared.ClocksAnswer.{ClocksAnswer}
-use Rattle.pass.proofs.ClocksAnswer as E
-use Rattle.pass.proofs.ClocksAnswer.Laws as E′
+use Rattle.listings.specs.declared.ClocksAnswer.{ClocksAnswer}
+use Rattle.listings.proofs.ClocksAnswer as E
+use Rattle.listings.proofs.ClocksAnswer.Laws as E′
 use Rattle.fault_list.specs.Said.{said}
 use Rattle.fault_list.proofs.Lent.{lies-in, lies-out}
 use Rattle.definitions.specs.Answer.{clocksAnswer}

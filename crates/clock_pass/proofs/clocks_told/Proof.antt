@@ -53,9 +53,9 @@ use denote.Signature.{Slot, plain, shrSliceOf}
 use Rattle.definitions.specs.declared.FaultRecord.{FaultRecord}
 use Rattle.definitions.proofs.FaultRecord as T
 use Rattle.definitions.proofs.FaultRecord.Laws as T′
-use Rattle.pass.specs.declared.ClocksAnswer.{ClocksAnswer}
-use Rattle.pass.proofs.ClocksAnswer as E
-use Rattle.pass.proofs.ClocksAnswer.Laws as E′
+use Rattle.listings.specs.declared.ClocksAnswer.{ClocksAnswer}
+use Rattle.listings.proofs.ClocksAnswer as E
+use Rattle.listings.proofs.ClocksAnswer.Laws as E′
 use Rattle.clock_pass.specs.declared.ClocksTold.{ClocksTold}
 use Rattle.clock_pass.proofs.ClocksTold as S
 use Rattle.clock_pass.proofs.ClocksTold.Laws as S′

@@ -1,4 +1,4 @@
--- `clock_pass::rewrite` meets its contract: a walk of its MIR, by hand. The words are lent to `rewrite_words` for a lifetime that is made for the call, come back at what it wrote, and are lent again to `put_said`.
+-- `clock_pass::rewrite` meets its contract: a walk of its MIR, by hand. The words are lent to `rewrite_words` for a lifetime that is made for the call, come back at what it wrote, and are lent again to `put_node_said`.
 -- The lent bytes go to the first, the lent list to the second, each at its own lifetime, share and ghost name: they are given up for good. All that the proof knows of the three callees is that each meets its contract.
 -- Assumes nothing.
 use mathlib.Core.Path.{_≡_, refl, ap}
@@ -57,14 +57,14 @@ use Rattle.definitions.specs.Answer.{rewriteAnswer}
 use Rattle.runs.specs.Demand.{DemandThreeAt}
 use Rattle.clock_pass.specs.Given.{RewriteSaid, RewriteGiven}
 use Rattle.clock_pass.proofs.Given.{rewrite-listed}
-use Rattle.fault_list.proofs.none_said as none-said
-use Rattle.fault_list.proofs.none_said.Symbol as none-said-def
-use Rattle.fault_list.proofs.none_said.Symbol.{name as #fault-list·none-said}
-use Rattle.fault_list.proofs.none_said.Met as none-said-thm
-use Rattle.fault_list.proofs.put_said as put-said
-use Rattle.fault_list.proofs.put_said.Symbol as put-said-def
-use Rattle.fault_list.proofs.put_said.Symbol.{name as #fault-list·put-said}
-use Rattle.fault_list.proofs.put_said.Met as put-said-thm
+use Rattle.fault_list.proofs.no_node_said as no-node-said
+use Rattle.fault_list.proofs.no_node_said.Symbol as no-node-said-def
+use Rattle.fault_list.proofs.no_node_said.Symbol.{name as #fault-list·no-node-said}
+use Rattle.fault_list.proofs.no_node_said.Met as no-node-said-thm
+use Rattle.fault_list.proofs.put_node_said as put-node-said
+use Rattle.fault_list.proofs.put_node_said.Symbol as put-node-said-def
+use Rattle.fault_list.proofs.put_node_said.Symbol.{name as #fault-list·put-node-said}
+use Rattle.fault_list.proofs.put_node_said.Met as put-node-said-thm
 use Rattle.clock_pass.proofs.rewrite_words as rewrite-words
 use Rattle.clock_pass.proofs.rewrite_words.Symbol as rewrite-words-def
 use Rattle.clock_pass.proofs.rewrite_words.Symbol.{name as #clock-pass·rewrite-words}
@@ -78,7 +78,7 @@ abbrev R : RattleType
 R = T.the-row
 
 abbrev Words : RattleType
-Words = Array u32 12288
+Words = Array u32 48
 
 abbrev SheetS : Slot 3
 SheetS = shrSliceOf (0 ∷ []) tt (plain (λ _. u8))
@@ -88,21 +88,21 @@ stayed = (stay-dropped SheetS yes, (gave-slice (1 ∷ []) tt (plain (λ _. u8)),
 
 -- what `rewrite_words` says: of the bytes, the lent bytes before and after, the words before and after, and the answer
 abbrev Told : List ℕ → List ℕ → List ℕ → List ℕ → List ℕ → RewriteAnswer → Type 0
-Told sheet out out′ ws ws′ r = (ws ≡ replicate 12288 0 → RewriteSaid (rewriteAnswer sheet (length out)) out out′ ws′ r) × ((n : ℕ) → r ≡ RewriteAnswer.Written n → DemandThreeAt sheet (take n out′))
+Told sheet out out′ ws ws′ r = (ws ≡ replicate 48 0 → RewriteSaid (rewriteAnswer sheet (length out)) out out′ ws′ r) × ((n : ℕ) → r ≡ RewriteAnswer.Written n → DemandThreeAt sheet (take n out′))
 
 -- the contracts that the proof cites
 module _ {M : Type 1} (𝓤 : URA M) (H : Heap 𝓤) (A : Atoms 𝓤) (at-mem : Memory → SProp 𝓤) (run : Routine → Fun 𝓤) where
   abbrev NoneSaid : Contract 𝓤
-  NoneSaid = tripleOf 𝓤 H A none-said.signature (none-said.spec 𝓤 H A at-mem run)
+  NoneSaid = tripleOf 𝓤 H A no-node-said.signature (no-node-said.spec 𝓤 H A at-mem run)
 
   abbrev RewriteWords : Contract 𝓤
   RewriteWords = tripleOf 𝓤 H A rewrite-words.signature (rewrite-words.spec 𝓤 H A at-mem run)
 
   abbrev PutSaid : Contract 𝓤
-  PutSaid = tripleOf 𝓤 H A put-said.signature (put-said.spec 𝓤 H A at-mem run)
+  PutSaid = tripleOf 𝓤 H A put-node-said.signature (put-node-said.spec 𝓤 H A at-mem run)
 
-  none-of : (r : List ℕ) → ent 𝓤 (ensured 𝓤 H A none-said.ended (none-said.clauses 𝓤 H A at-mem run) tt tt tt r) (fact 𝓤 (r ≡ replicate 12288 0))
-  none-of r = exE 𝓤 _ (λ ws. snd∗ 𝓤 (sem 𝓤 H A (lasts none-said.ended tt tt ws)) (fact 𝓤 (r ≡ replicate 12288 0)))
+  none-of : (r : List ℕ) → ent 𝓤 (ensured 𝓤 H A no-node-said.ended (no-node-said.clauses 𝓤 H A at-mem run) tt tt tt r) (fact 𝓤 (r ≡ replicate 48 0))
+  none-of r = exE 𝓤 _ (λ ws. snd∗ 𝓤 (sem 𝓤 H A (lasts no-node-said.ended tt tt ws)) (fact 𝓤 (r ≡ replicate 48 0)))
 
 module _ {M : Type 1} (𝓤 : URA M) (H : Heap 𝓤) (A : Atoms 𝓤) (W : Given 𝓤 H A) (at-mem : Memory → SProp 𝓤) (run : Routine → Fun 𝓤) (κ₀ κ₁ κ₂ : Lft) (q₀ q₁ q₂ : Share)
     (b₀ o₀ : ℕ) (γ₀ : GName) (sheet : List ℕ) (b₁ o₁ : ℕ) (γ₁ : GName) (out : List ℕ) (b₂ o₂ : ℕ) (γ₂ : GName) (xs : List FaultRecord)
@@ -165,14 +165,14 @@ module _ {M : Type 1} (𝓤 : URA M) (H : Heap 𝓤) (A : Atoms 𝓤) (W : Given
   to-put l ν δ ws = (((κ₂, (ν ∷ [], tt)), (q₂, (fullShare, tt)), tt, (x₂, (xw l δ ws, tt)), (s₂ ∷ [], (vptr l 0 ∷ [], tt))), tt)
 
   -- the machine value of the words has the array's MIR type, and that of the answer the enum's
-  typed-words : (ws : List ℕ) (w : Val) → Is Words ws (w ∷ []) → Holds (hasTy (tyArray (tyInt w32) 12288) w) × WT w
-  typed-words ws w is = array-lawful 𝓤 H A W u32 (uint-lawful 𝓤 H A W w32) 12288 .typed ws _ is .0
+  typed-words : (ws : List ℕ) (w : Val) → Is Words ws (w ∷ []) → Holds (hasTy (tyArray (tyInt w32) 48) w) × WT w
+  typed-words ws w is = array-lawful 𝓤 H A W u32 (uint-lawful 𝓤 H A W w32) 48 .typed ws _ is .0
 
   typed-answer : (r : RewriteAnswer) (w : Val) → Is E.the-row r (w ∷ []) → Holds (hasTy E′.mir w) × WT w
   typed-answer r w is = EL.lawful E.the-type E′.the-laws 𝓤 H A W tt .typed r _ is .0
 
-  module _ (C : Calls 𝓤 H) (Λ : Loops 𝓤 H) (fm : FmC 𝓤 H (W .laws) C) (known-none : Triple 𝓤 (C #fault-list·none-said) (NoneSaid 𝓤 H A at-mem run)) (known-words : Triple 𝓤 (C #clock-pass·rewrite-words) (RewriteWords 𝓤 H A at-mem run))
-      (known-put : Triple 𝓤 (C #fault-list·put-said) (PutSaid 𝓤 H A at-mem run)) where
+  module _ (C : Calls 𝓤 H) (Λ : Loops 𝓤 H) (fm : FmC 𝓤 H (W .laws) C) (known-none : Triple 𝓤 (C #fault-list·no-node-said) (NoneSaid 𝓤 H A at-mem run)) (known-words : Triple 𝓤 (C #clock-pass·rewrite-words) (RewriteWords 𝓤 H A at-mem run))
+      (known-put : Triple 𝓤 (C #fault-list·put-node-said) (PutSaid 𝓤 H A at-mem run)) where
     walk : ent 𝓤 (onEntry 𝓤 H A rewrite.signature (κ₀, (κ₁, (κ₂, tt))) (q₀, (q₁, (q₂, tt))) a at) (WpFn 𝓤 H C Λ code.function (s₀ ∷ s₁ ∷ s₂ ∷ []) Post)
     walk =
         qed W ((‵ (flft κ₀ q₀) ⊛ ‵ (flft κ₁ q₁) ⊛ ‵ (flft κ₂ q₂) ⊛ ‵ ftrue) ∷ ‵ (owns (ShrSlice (named 0) κ₀ u8 ∷ MutSlice (named 1) κ₁ u8 ∷ MutSlice (named 2) κ₂ R ∷ []) a at) ∷ []) ∵ enter ! C Λ code.function (s₀ ∷ s₁ ∷ s₂ ∷ []) _ $
@@ -181,8 +181,8 @@ module _ {M : Type 1} (𝓤 : URA M) (H : Heap 𝓤) (A : Atoms 𝓤) (W : Given
         -- [_13; …; _12; …; _11; …; _10; …; _9; …; _8; …; _7; …; _6; …; _5; …; _4; …; _3; …; _2; …; _1; …; room for _0; …; the tokens; what sheet, out and faults own]
         use0 W (raw (NoneSaid 𝓤 H A at-mem run .pre to-none)) goes-none $
         calls-at ! fm (NoneSaid 𝓤 H A at-mem run) known-none to-none (no-more !) (λ w₀.
-        use1 W (later (some (λ (r : List ℕ). (‵ ftrue ⊛ ‵ (Words .own r (w₀ ∷ []))) ⊛ raw (ensured 𝓤 H A none-said.ended (none-said.clauses 𝓤 H A at-mem run) tt tt tt r)))) (id⊢ 𝓤 _) $ await ! tt $ pick ! (λ ws.
-        split ! $ move ! (1 ∷ []) $ use1 W (raw (fact 𝓤 (ws ≡ replicate 12288 0))) (none-of 𝓤 H A at-mem run ws) $ heard ! (ws ≡ replicate 12288 0) (λ none.
+        use1 W (later (some (λ (r : List ℕ). (‵ ftrue ⊛ ‵ (Words .own r (w₀ ∷ []))) ⊛ raw (ensured 𝓤 H A no-node-said.ended (no-node-said.clauses 𝓤 H A at-mem run) tt tt tt r)))) (id⊢ 𝓤 _) $ await ! tt $ pick ! (λ ws.
+        split ! $ move ! (1 ∷ []) $ use1 W (raw (fact 𝓤 (ws ≡ replicate 48 0))) (none-of 𝓤 H A at-mem run ws) $ heard ! (ws ≡ replicate 48 0) (λ none.
         split ! $ drop ! $ peeks ! Words (Is Words) (shows 𝓤 H A Words) ws (w₀ ∷ []) (λ is₀.
         -- [what the words own; _13; …]
         land ! (from ! (stop !)) (init ! 15 refl (typed-words ws w₀ is₀)) $
@@ -191,7 +191,7 @@ module _ {M : Type 1} (𝓤 : URA M) (H : Heap 𝓤) (A : Atoms 𝓤) (W : Given
         assigns ! (agg ! (and-then ! (load ! (from ! (stop !)) (look ! 13 refl)) (and-then ! (load ! (from ! (fld ! refl (stop !))) (look-in ! 23 (sub ! 1 refl (whole !)))) (no-more !)))) (from ! (stop !)) (init ! 11 refl (tt, (tt, (record { fits = room₁ .0 }, tt)))) $
         assigns ! (addr ! (from ! (stop !))) (from ! (stop !)) (init ! 9 refl (tt, tt)) $
         -- the words are lent for a lifetime ν of the call
-        move ! (19 ∷ 0 ∷ []) $ use2 W (‵ (partAt Words fullShare ws l₄ 0)) (lies-in 𝓤 H A W u32 12288 ws l₄ 0 w₀) $ lft-new ! tt (λ ν. move ! (1 ∷ []) $
+        move ! (19 ∷ 0 ∷ []) $ use2 W (‵ (partAt Words fullShare ws l₄ 0)) (lies-in 𝓤 H A W u32 48 ws l₄ 0 w₀) $ lft-new ! tt (λ ν. move ! (1 ∷ []) $
         use1 W (later (some (λ (δ : GName). ‵ (MutRef (named 2) (ν ∷ []) Words .own (xw l₄ δ ws) (vptr l₄ 0 ∷ [])) ⊛ ‵ (flent (ν ∷ []) (Body (mem Words) l₄ 0 δ))))) (lends-ref 𝓤 H A W Words (named 2) (ν ∷ []) ws l₄ 0) $ await ! tt $ pick ! (λ δ. split ! $
         -- [what the loan owns; the lender's part; ν; _13; …; _5; …; _4's end; _3; …; _0; …; the tokens; what sheet, out and faults own]
         move ! (31 ∷ []) $ fsplit ! $ move ! (1 ∷ []) $ fsplit ! $ move ! (1 ∷ []) $ fsplit ! $ move ! (34 ∷ []) $ split ! $ move ! (1 ∷ []) $ split ! $ move ! (1 ∷ []) $ split ! $
@@ -223,15 +223,15 @@ module _ {M : Type 1} (𝓤 : URA M) (H : Heap 𝓤) (A : Atoms 𝓤) (W : Given
         nothing ! $ move ! (1 ∷ 0 ∷ []) $ fjoin ! $ move ! (4 ∷ 0 ∷ []) $ fjoin ! $ nothing ! $ move ! (3 ∷ 0 ∷ []) $ join ! $ move ! (3 ∷ 0 ∷ []) $ join ! $
         use2 W (raw (PutSaid 𝓤 H A at-mem run .pre (to-put l₄ μ δ′ (zs .1 .1 .0)))) (∗emp 𝓤 _) $
         calls-at ! fm (PutSaid 𝓤 H A at-mem run) known-put (to-put l₄ μ δ′ (zs .1 .1 .0)) (and-then ! (load ! (from ! (stop !)) (look ! 8 refl)) (and-then ! (load ! (from ! (stop !)) (look ! 6 refl)) (no-more !))) (λ w′.
-        use1 W (later (some (λ (u : Unit {0}). ((‵ (flft κ₂ q₂) ⊛ ‵ (flft (μ ∷ []) fullShare) ⊛ ‵ ftrue) ⊛ ‵ (Nothing .own u (w′ ∷ []))) ⊛ raw (ensured 𝓤 H A put-said.ended (put-said.clauses 𝓤 H A at-mem run) (κ₂, (μ ∷ [], tt)) (x₂, (xw l₄ δ′ (zs .1 .1 .0), tt)) tt u)))) (id⊢ 𝓤 _) $ await ! tt $ pick ! (λ u.
-        split ! $ move ! (1 ∷ []) $ use1 W (some (λ (ys : List FaultRecord × (Unit {0} × Unit {0})). ‵ (lasts put-said.ended (κ₂, (μ ∷ [], tt)) (x₂, (xw l₄ δ′ (zs .1 .1 .0), tt)) ys) ⊛ raw (fact 𝓤 (ys .0 ≡ over (said (zs .1 .1 .0)) xs)))) (id⊢ 𝓤 _) $ pick ! (λ ys.
+        use1 W (later (some (λ (u : Unit {0}). ((‵ (flft κ₂ q₂) ⊛ ‵ (flft (μ ∷ []) fullShare) ⊛ ‵ ftrue) ⊛ ‵ (Nothing .own u (w′ ∷ []))) ⊛ raw (ensured 𝓤 H A put-node-said.ended (put-node-said.clauses 𝓤 H A at-mem run) (κ₂, (μ ∷ [], tt)) (x₂, (xw l₄ δ′ (zs .1 .1 .0), tt)) tt u)))) (id⊢ 𝓤 _) $ await ! tt $ pick ! (λ u.
+        split ! $ move ! (1 ∷ []) $ use1 W (some (λ (ys : List FaultRecord × (Unit {0} × Unit {0})). ‵ (lasts put-node-said.ended (κ₂, (μ ∷ [], tt)) (x₂, (xw l₄ δ′ (zs .1 .1 .0), tt)) ys) ⊛ raw (fact 𝓤 (ys .0 ≡ over (said (zs .1 .1 .0)) xs)))) (id⊢ 𝓤 _) $ pick ! (λ ys.
         split ! $ move ! (1 ∷ []) $ heard ! (ys .0 ≡ over (said (zs .1 .1 .0)) xs) (λ put.
         fsplit ! $ fsplit ! $ move ! (1 ∷ []) $ feqL ! (λ long₂.
         -- [faults' last list; …; the tokens and the unit; the lender's part; κ₀; κ₁; the answer; out's last list; _13; …]
         move ! (2 ∷ []) $ split ! $ move ! (1 ∷ []) $ peeks ! Nothing (Is Nothing) (shows 𝓤 H A Nothing) u (w′ ∷ []) (λ is′.
         land ! (from ! (stop !)) (init ! 15 refl (nothing-lawful 𝓤 H A W .typed u _ is′ .0)) $
         drop ! $ split ! $ move ! (1 ∷ []) $ split ! $ lft-end ! tt $ move ! (0 ∷ 5 ∷ []) $ lent-back ! tt $
-        use1 W (some (λ (us : List Val). ‵ (fat fullShare (tyArray (tyInt w32) 12288) l₄ 0 (arrayVal us)) ⊛ ‵ (Words .own (zs .1 .1 .0) (arrayVal us ∷ [])))) (lies-out 𝓤 H A W u32 12288 (zs .1 .1 .0) l₄ 0) $ pick ! (λ us. split ! $
+        use1 W (some (λ (us : List Val). ‵ (fat fullShare (tyArray (tyInt w32) 48) l₄ 0 (arrayVal us)) ⊛ ‵ (Words .own (zs .1 .1 .0) (arrayVal us ∷ [])))) (lies-out 𝓤 H A W u32 48 (zs .1 .1 .0) l₄ 0) $ pick ! (λ us. split ! $
         -- [_4; what the words own; true; κ₂; faults' last list; …; κ₀; κ₁; the answer; out's last list; _13; …; _5; …; _4's end; _3; …; _0; …]
         assigns ! (of-opd ! (load ! (from ! (stop !)) (look ! 26 refl))) (from ! (stop !)) (init ! 35 refl (typed-answer r w is)) $
         returns ! (look ! 35 refl) $ forget ! 0 refl $ forget ! 10 refl $ forget ! 12 refl $ forget ! 14 refl $ forget ! 16 refl $ forget ! 18 refl $ forget ! 20 refl $ forget ! 22 refl $ forget ! 24 refl $ forget ! 26 refl $ forget ! 29 refl $ forget ! 31 refl $ forget ! 33 refl $ forget ! 35 refl $
@@ -240,7 +240,7 @@ module _ {M : Type 1} (𝓤 : URA M) (H : Heap 𝓤) (A : Atoms 𝓤) (W : Given
         keep ! (5 ∷ 6 ∷ 2 ∷ 8 ∷ 3 ∷ 7 ∷ []) $ by ! (exits r w (zs .1 .0) (ys .0) long₁ long₂ (rewrite-listed (rewriteAnswer sheet (length out)) out (zs .1 .0) (zs .1 .1 .0) xs (ys .0) r (told .0 none) put) (told .1)))))))))))))))))))))))))))))))))))))
 
 module _ {M : Type 1} (𝓤 : URA M) (H : Heap 𝓤) (A : Atoms 𝓤) (W : Given 𝓤 H A) (mem : Memory → SProp 𝓤) (run : Routine → Fun 𝓤) where
-  rewrite-walks : (C : Calls 𝓤 H) (Λ : Loops 𝓤 H) → FmC 𝓤 H (W .laws) C → Triple 𝓤 (C #fault-list·none-said) (NoneSaid 𝓤 H A mem run) → Triple 𝓤 (C #clock-pass·rewrite-words) (RewriteWords 𝓤 H A mem run) → Triple 𝓤 (C #fault-list·put-said) (PutSaid 𝓤 H A mem run)
+  rewrite-walks : (C : Calls 𝓤 H) (Λ : Loops 𝓤 H) → FmC 𝓤 H (W .laws) C → Triple 𝓤 (C #fault-list·no-node-said) (NoneSaid 𝓤 H A mem run) → Triple 𝓤 (C #clock-pass·rewrite-words) (RewriteWords 𝓤 H A mem run) → Triple 𝓤 (C #fault-list·put-node-said) (PutSaid 𝓤 H A mem run)
       → Walks 𝓤 H A rewrite.ended stayed (WpFn 𝓤 H C Λ code.function) (rewrite.clauses 𝓤 H A mem run)
   rewrite-walks C Λ fm known-none known-words known-put = walked 𝓤 H A rewrite.ended stayed (rewrite.clauses 𝓤 H A mem run) (WpFn 𝓤 H C Λ code.function)
       (λ κs. (slice-vals, (slice-vals, (slice-vals, tt)))) (λ κs. (shr-slice-tells (named 0) (κs .0) u8, (mut-slice-tells (named 1) (κs .1 .0) u8, (mut-slice-tells (named 2) (κs .1 .1 .0) R, tt))))
@@ -248,8 +248,8 @@ module _ {M : Type 1} (𝓤 : URA M) (H : Heap 𝓤) (A : Atoms 𝓤) (W : Given
       (walk 𝓤 H A W mem run (κs .0) (κs .1 .0) (κs .1 .1 .0) (qs .0) (qs .1 .0) (qs .1 .1 .0) (a .0 .ptr .0) (a .0 .ptr .1) (a .0 .name) (a .0 .now) (a .1 .0 .ptr .0) (a .1 .0 .ptr .1) (a .1 .0 .name) (a .1 .0 .now)
       (a .1 .1 .0 .ptr .0) (a .1 .1 .0 .ptr .1) (a .1 .1 .0 .name) (a .1 .1 .0 .now) (are .0 .0 .1) (are .1 .0 .0 .1) (are .1 .1 .0 .0 .1) C Λ fm known-none known-words known-put))
 
-rewrite-meets : {M : Type 1} (𝓤 : URA M) (H : Heap 𝓤) (A : Atoms 𝓤) → Given 𝓤 H A → (mem : Memory → SProp 𝓤) (run : Routine → Fun 𝓤) (𝓣 : Tables 𝓤 H) → Triple 𝓤 (𝓣 .C #fault-list·none-said) (NoneSaid 𝓤 H A mem run) → Triple 𝓤 (𝓣 .C #clock-pass·rewrite-words) (RewriteWords 𝓤 H A mem run)
-    → Triple 𝓤 (𝓣 .C #fault-list·put-said) (PutSaid 𝓤 H A mem run) → Meets 𝓤 H A rewrite.signature (WpFn 𝓤 H (𝓣 .C) (𝓣 .Λ) code.function) (rewrite.spec 𝓤 H A mem run)
+rewrite-meets : {M : Type 1} (𝓤 : URA M) (H : Heap 𝓤) (A : Atoms 𝓤) → Given 𝓤 H A → (mem : Memory → SProp 𝓤) (run : Routine → Fun 𝓤) (𝓣 : Tables 𝓤 H) → Triple 𝓤 (𝓣 .C #fault-list·no-node-said) (NoneSaid 𝓤 H A mem run) → Triple 𝓤 (𝓣 .C #clock-pass·rewrite-words) (RewriteWords 𝓤 H A mem run)
+    → Triple 𝓤 (𝓣 .C #fault-list·put-node-said) (PutSaid 𝓤 H A mem run) → Meets 𝓤 H A rewrite.signature (WpFn 𝓤 H (𝓣 .C) (𝓣 .Λ) code.function) (rewrite.spec 𝓤 H A mem run)
 rewrite-meets 𝓤 H A W mem run 𝓣 known-none known-words known-put =
     walk-meets 𝓤 H A rewrite.ended stayed W (goes-dropped 𝓤 H A W 3 SheetS yes (λ κs x f. refl), (goes-gave-slice 𝓤 H A W 3 1 tt (plain (λ _. u8)), (goes-gave-slice 𝓤 H A W 3 2 tt (plain (λ _. R)), tt))) (rewrite.clauses 𝓤 H A mem run)
     (WpFn 𝓤 H (𝓣 .C) (𝓣 .Λ) code.function) (WpFn-mono 𝓤 H (W .laws) 𝓣 code.function) (rewrite-walks 𝓤 H A W mem run (𝓣 .C) (𝓣 .Λ) (fmOf 𝓤 H (W .laws) 𝓣) known-none known-words known-put)
@@ -260,6 +260,6 @@ rewrite-spec 𝓤 H 𝓜 𝓖 𝓡 =
     entered 𝓤 H (tripleOf 𝓤 H (𝓖 .A) rewrite.signature (rewrite.spec 𝓤 H (𝓖 .A) (𝓜 .mem) (𝓡 .run)))
     (tables 𝓤 H 𝓜 𝓡 code.env .C) (tables 𝓤 H 𝓜 𝓡 code.env .Λ) #clock-pass·rewrite code.function (code.unfolded 𝓤 H 𝓜 𝓡)
     (rewrite-meets 𝓤 H (𝓖 .A) (givenOf 𝓤 H 𝓜 𝓖) (𝓜 .mem) (𝓡 .run) (tablesOf 𝓤 H 𝓜 (tables 𝓤 H 𝓜 𝓡 code.env))
-    (cited 𝓤 H (NoneSaid 𝓤 H (𝓖 .A) (𝓜 .mem) (𝓡 .run)) 𝓜 𝓡 code.env #fault-list·none-said none-said-def.routine code.calls-fault-list·none-said (none-said-thm.met 𝓤 H 𝓜 𝓖 𝓡))
+    (cited 𝓤 H (NoneSaid 𝓤 H (𝓖 .A) (𝓜 .mem) (𝓡 .run)) 𝓜 𝓡 code.env #fault-list·no-node-said no-node-said-def.routine code.calls-fault-list·no-node-said (no-node-said-thm.met 𝓤 H 𝓜 𝓖 𝓡))
     (cited 𝓤 H (RewriteWords 𝓤 H (𝓖 .A) (𝓜 .mem) (𝓡 .run)) 𝓜 𝓡 code.env #clock-pass·rewrite-words rewrite-words-def.routine code.calls-clock-pass·rewrite-words (rewrite-words-thm.met 𝓤 H 𝓜 𝓖 𝓡))
-    (cited 𝓤 H (PutSaid 𝓤 H (𝓖 .A) (𝓜 .mem) (𝓡 .run)) 𝓜 𝓡 code.env #fault-list·put-said put-said-def.routine code.calls-fault-list·put-said (put-said-thm.met 𝓤 H 𝓜 𝓖 𝓡)))
+    (cited 𝓤 H (PutSaid 𝓤 H (𝓖 .A) (𝓜 .mem) (𝓡 .run)) 𝓜 𝓡 code.env #fault-list·put-node-said put-node-said-def.routine code.calls-fault-list·put-node-said (put-node-said-thm.met 𝓤 H 𝓜 𝓖 𝓡)))

@@ -42,9 +42,9 @@ use denote.Exit.{yes}
 use denote.Signature.{Slot, plain, shrSliceOf}
 use Rattle.definitions.specs.declared.FaultRecord.{FaultRecord}
 use Rattle.definitions.proofs.FaultRecord as T
-use Rattle.pass.specs.declared.ClocksAnswer.{ClocksAnswer}
-use Rattle.pass.proofs.ClocksAnswer as E
-use Rattle.pass.proofs.ClocksAnswer.Laws as E′
+use Rattle.listings.specs.declared.ClocksAnswer.{ClocksAnswer}
+use Rattle.listings.proofs.ClocksAnswer as E
+use Rattle.listings.proofs.ClocksAnswer.Laws as E′
 use Rattle.definitions.specs.Answer.{clocksAnswer}
 use Rattle.clock_pass.specs.Given.{ClocksGiven}
 use Rattle.declock_library.specs.Numbers.{ClocksTold, clocksNumber, clocksPlace, clocksCounts}

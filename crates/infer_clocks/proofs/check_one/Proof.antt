@@ -17,6 +17,9 @@ returns c = λ node clocks e q fs a b g h w. one-deep node clocks _ fs _ e _ _ (
 or-base-requires : tie.Need-or-base-requires
 or-base-requires c κs = search needs
 
+slice-aggregate-check-equation : tie.Need-slice-aggregate-check-equation
+slice-aggregate-check-equation c = search needs
+
 check-equation-requires : tie.Need-check-equation-requires
 check-equation-requires c κs = search needs
 
@@ -24,7 +27,7 @@ same-length : tie.Need-same-length
 same-length c = search needs
 
 returns-2 : tie.Need-returns-2
-returns-2 c = λ node clocks e q fs a b g h w. one-found node clocks _ fs _ e _ _ _ _ (c .before .before .before .before .before .before .before .natural-clock .ensures (e .right) q clocks h a) (c .before .before .before .before .before .before .is-deep .ensures) (c .before .before .before .before .before .if1 .left) (c .before .before .before .before .or-base .ensures) (c .before .before .check-equation .ensures .1 node clocks e q fs a b g w .holds)
+returns-2 c = λ node clocks e q fs a b g h w. one-found node clocks _ fs _ e _ _ _ _ (c .before .before .before .before .before .before .before .before .before .natural-clock .ensures (e .right) q clocks h a) (c .before .before .before .before .before .before .before .before .is-deep .ensures) (c .before .before .before .before .before .before .before .if1 .left) (c .before .before .before .before .before .before .or-base .ensures) (c .before .before .before .check-equation .ensures .1 .0 node clocks e q fs a b g w .holds)
 
 pub check-one-spec : {M : Type 1} → statement M
 check-one-spec =
@@ -34,6 +37,7 @@ check-one-spec =
     is-deep-requires
     returns
     or-base-requires
+    slice-aggregate-check-equation
     check-equation-requires
     same-length
     returns-2)

@@ -1,0 +1,309 @@
+// The clocks and the listings of a sheet's nodes, which stands in the working tables: `starts` says where the letters of each name start in
+// `letters`, `names` how many there are; `tags` and `values` are the sheet's tokens, as long as each other. The tables are lent from
+// above: `env` for the clocks of names, `table` for what is found in equations, `rows` and `chain` for chains and their order.
+use definitions::Refusal;
+use listing::Told;
+use query::Measured;
+use query::NodeAnswer;
+use query::NodeCounts;
+use texts::Lending;
+ghost use mathlib.Core.Path.{_≡_};
+ghost use mathlib.Core.List.{List, [], _∷_, _++_};
+ghost use Prim.Native.Nat.{ℕ, _+_, _≤_, _<_, _^_};
+ghost use lib.ListN.{length};
+ghost use Rattle.definitions.specs.Bytes.{tokens};
+ghost use Rattle.definitions.specs.Lists.{join, numbered};
+ghost use Rattle.definitions.specs.Tree.{Node};
+ghost use Rattle.definitions.specs.Reading.{got, times};
+ghost use Rattle.definitions.specs.Grammar.{node};
+ghost use Rattle.definitions.specs.Refusals.{accepted};
+ghost use Rattle.definitions.specs.Output.{ClockedNode};
+ghost use Rattle.definitions.specs.Answer.{Input, clockings, nodeListing};
+ghost use Rattle.fresh.specs.Places.{lettersAt};
+ghost use Rattle.spelling.specs.Writing.{farthest};
+ghost use Rattle.texts.specs.Lending.{lentText};
+ghost use Rattle.query.specs.Standing.{Standing, Roomy, Ample, NodeWithClocks};
+ghost use Rattle.listings.specs.Answers.{clocksOf, listingOf, nodesListed, listingsOf, ClocksInWords, ListingGiven};
+
+// A node's name, passes and counts, or turned down.
+pub enum ClocksAnswer {
+    Clocks(NodeCounts),
+    Refused(Refusal),
+}
+
+// The number of bytes written, or turned down.
+pub enum ListingAnswer {
+    Written(usize),
+    Refused(Refusal),
+}
+
+// The clocks of node k.
+pub fn clocks_in(
+    starts: &[u32],
+    letters: &[u8],
+    tags: &[u8],
+    values: &[u32],
+    names: u32,
+    k: usize,
+    env: &mut [u32],
+    table: &mut [u32],
+    rows: &mut [u32],
+    chain: &mut [u32],
+    equations: &mut [u32],
+    chains: &mut [u32],
+    faults: &mut [u32],
+) -> ClocksAnswer
+    requires { ⌜ length (now values) ≡ length (now tags) ⌝ }
+    ensures { λ r. ⌜ ((i : Input) → Standing (now (starts .entry)) (now (letters .entry)) (now (tags .entry)) (now (values .entry)) names i → Roomy names (length (now (tags .entry))) (now (env .entry)) (now (table .entry)) → Ample (now (table .entry)) (now (rows .entry)) (now (chain .entry)) → ClocksInWords k (clocksOf i k) (now (equations .entry)) (now (chains .entry)) (now (faults .entry)) (now (equations .exit)) (now (chains .exit)) (now (faults .exit)) r) ⌝ }
+{
+    let found = query::clock_at(tags, values, names, k, env, table);
+    match found {
+        NodeAnswer::Refused(r) => ClocksAnswer::Refused(r),
+        NodeAnswer::Node(told) => ClocksAnswer::Clocks(query::write_clocks(
+            starts,
+            letters,
+            tags,
+            values,
+            env,
+            table,
+            told,
+            rows,
+            chain,
+            equations,
+            chains,
+            faults,
+        )),
+    }
+}
+
+// The listing of a node that is clocked over the front of the lent bytes, if these are enough.
+fn listing_told(
+    out: &mut [u8],
+    starts: &[u32],
+    letters: &[u8],
+    tags: &[u8],
+    values: &[u32],
+    env: &[u32],
+    table: &[u32],
+    told: Told,
+    rows: &mut [u32],
+    chain: &mut [u32],
+) -> ListingAnswer
+    requires { ⌜ length (now values) ≡ length (now tags) ⌝ }
+    ensures { λ r. ⌜ ((n : ClockedNode) → NodeWithClocks (told .names) (tokens (now (tags .entry)) (now (values .entry))) (now (env .entry)) (now (table .entry)) (told .number) told n → Ample (now (table .entry)) (now (rows .entry)) (now (chain .entry)) → length (now (letters .entry)) ≤ 16384 → length (now (tags .entry)) ≤ 4096 → ListingGiven (lentText (nodeListing (lettersAt (now (starts .entry)) (now (letters .entry))) (told .number) n) (length (now (out .entry)))) (now (out .entry)) (now (out .exit)) r) ⌝ }
+{
+    let lent = listing::node_into(
+        out,
+        starts,
+        letters,
+        tags,
+        values,
+        env,
+        table,
+        told,
+        rows,
+        chain,
+    );
+    match lent {
+        Lending::Written(n) => ListingAnswer::Written(n),
+        Lending::Lent(n) => ListingAnswer::Refused(Refusal::Lent(n)),
+    }
+}
+
+// The listing of node k, over the front of the lent bytes.
+pub fn listing_in(
+    out: &mut [u8],
+    starts: &[u32],
+    letters: &[u8],
+    tags: &[u8],
+    values: &[u32],
+    names: u32,
+    k: usize,
+    env: &mut [u32],
+    table: &mut [u32],
+    rows: &mut [u32],
+    chain: &mut [u32],
+) -> ListingAnswer
+    requires { ⌜ length (now values) ≡ length (now tags) ⌝ }
+    ensures { λ r. ⌜ ((i : Input) → Standing (now (starts .entry)) (now (letters .entry)) (now (tags .entry)) (now (values .entry)) names i → Roomy names (length (now (tags .entry))) (now (env .entry)) (now (table .entry)) → Ample (now (table .entry)) (now (rows .entry)) (now (chain .entry)) → ListingGiven (listingOf i k (length (now (out .entry)))) (now (out .entry)) (now (out .exit)) r) ⌝ }
+{
+    let found = query::clock_at(tags, values, names, k, env, table);
+    match found {
+        NodeAnswer::Refused(r) => ListingAnswer::Refused(r),
+        NodeAnswer::Node(told) => {
+            listing_told(
+                out,
+                starts,
+                letters,
+                tags,
+                values,
+                env,
+                table,
+                told,
+                rows,
+                chain,
+            )
+        }
+    }
+}
+
+// The listings of n nodes, of which the first stands at `from` and which take so many bytes, and behind them that of a clocked node,
+// which is written first, while its clocks stand in the working tables.
+fn listings_told(
+    out: &mut [u8],
+    starts: &[u32],
+    letters: &[u8],
+    tags: &[u8],
+    values: &[u32],
+    names: u32,
+    n: u32,
+    from: usize,
+    before: usize,
+    told: Told,
+    env: &mut [u32],
+    table: &mut [u32],
+    rows: &mut [u32],
+    chain: &mut [u32],
+) -> ListingAnswer
+    requires { ⌜ length (now values) ≡ length (now tags) ⌝ }
+    requires { ⌜ before + farthest < 2 ^ 64 ⌝ }
+    ensures { λ r. ⌜ ((ns : List Node) (q : ℕ) (l : List ClockedNode) (last : ClockedNode) → times n (node names) (tokens (now (tags .entry)) (now (values .entry))) from ≡ got ns q → clockings 0 ns ≡ accepted l → before ≡ length (join (numbered (nodeListing (lettersAt (now (starts .entry)) (now (letters .entry)))) 0 l)) → NodeWithClocks (told .names) (tokens (now (tags .entry)) (now (values .entry))) (now (env .entry)) (now (table .entry)) (told .number) told last → Roomy names (length (now (tags .entry))) (now (env .entry)) (now (table .entry)) → Ample (now (table .entry)) (now (rows .entry)) (now (chain .entry)) → length (now (letters .entry)) ≤ 16384 → length (now (tags .entry)) ≤ 4096 → ListingGiven (lentText (join (numbered (nodeListing (lettersAt (now (starts .entry)) (now (letters .entry)))) 0 l) ++ nodeListing (lettersAt (now (starts .entry)) (now (letters .entry))) (told .number) last) (length (now (out .entry)))) (now (out .entry)) (now (out .exit)) r) ⌝ }
+{
+    let s = query::measure_told(starts, letters, tags, values, env, table, told, rows, chain);
+    let m = before + s.listing;
+    if out.len() < m {
+        return ListingAnswer::Refused(Refusal::Lent(m));
+    }
+    query::put_told(
+        out,
+        before,
+        starts,
+        letters,
+        tags,
+        values,
+        env,
+        table,
+        told,
+        rows,
+        chain,
+        s.chains,
+    );
+    query::put_listings(
+        out,
+        starts,
+        letters,
+        tags,
+        values,
+        names,
+        n,
+        from,
+        env,
+        table,
+        rows,
+        chain,
+    );
+    ListingAnswer::Written(m)
+}
+
+// The listings of n nodes, of which the first stands at `from` and which take so many bytes, and of one more, which stands at `place`.
+fn listings_last(
+    out: &mut [u8],
+    starts: &[u32],
+    letters: &[u8],
+    tags: &[u8],
+    values: &[u32],
+    names: u32,
+    n: u32,
+    from: usize,
+    before: usize,
+    place: usize,
+    env: &mut [u32],
+    table: &mut [u32],
+    rows: &mut [u32],
+    chain: &mut [u32],
+) -> ListingAnswer
+    requires { ⌜ length (now values) ≡ length (now tags) ⌝ }
+    requires { ⌜ before + farthest < 2 ^ 64 ⌝ }
+    ensures { λ r. ⌜ ((ns : List Node) (l : List ClockedNode) (last : Node) (q : ℕ) → times n (node names) (tokens (now (tags .entry)) (now (values .entry))) from ≡ got ns place → node names (tokens (now (tags .entry)) (now (values .entry))) place ≡ got last q → clockings 0 ns ≡ accepted l → before ≡ length (join (numbered (nodeListing (lettersAt (now (starts .entry)) (now (letters .entry)))) 0 l)) → Roomy names (length (now (tags .entry))) (now (env .entry)) (now (table .entry)) → Ample (now (table .entry)) (now (rows .entry)) (now (chain .entry)) → length (now (letters .entry)) ≤ 16384 → length (now (tags .entry)) ≤ 4096 → ListingGiven (nodesListed (lettersAt (now (starts .entry)) (now (letters .entry))) (ns ++ (last ∷ [])) (length (now (out .entry)))) (now (out .entry)) (now (out .exit)) r) ⌝ }
+{
+    let last = layout::node_at(tags, values, names, place);
+    let answer = query::clock_laid(tags, values, names, last, widths::wide(n), env, table);
+    match answer {
+        NodeAnswer::Refused(r) => ListingAnswer::Refused(r),
+        NodeAnswer::Node(told) => {
+            listings_told(
+                out,
+                starts,
+                letters,
+                tags,
+                values,
+                names,
+                n,
+                from,
+                before,
+                told,
+                env,
+                table,
+                rows,
+                chain,
+            )
+        }
+    }
+}
+
+// The listings of all nodes, in order, over the front of the lent bytes: those before the last are measured first.
+pub fn listings_in(
+    out: &mut [u8],
+    starts: &[u32],
+    letters: &[u8],
+    tags: &[u8],
+    values: &[u32],
+    names: u32,
+    env: &mut [u32],
+    table: &mut [u32],
+    rows: &mut [u32],
+    chain: &mut [u32],
+) -> ListingAnswer
+    requires { ⌜ length (now values) ≡ length (now tags) ⌝ }
+    ensures { λ r. ⌜ ((i : Input) → Standing (now (starts .entry)) (now (letters .entry)) (now (tags .entry)) (now (values .entry)) names i → Roomy names (length (now (tags .entry))) (now (env .entry)) (now (table .entry)) → Ample (now (table .entry)) (now (rows .entry)) (now (chain .entry)) → ListingGiven (listingsOf i (length (now (out .entry)))) (now (out .entry)) (now (out .exit)) r) ⌝ }
+{
+    let whole = layout::sheet_at(tags, values, names);
+    let nodes = whole.nodes;
+    let from = nodes.at;
+    if nodes.count == 0 {
+        return ListingAnswer::Written(0);
+    }
+    let n = nodes.count - 1;
+    let measured = query::measure_listings(
+        starts,
+        letters,
+        tags,
+        values,
+        names,
+        n,
+        from,
+        env,
+        table,
+        rows,
+        chain,
+    );
+    match measured {
+        Measured::Deep(i) => ListingAnswer::Refused(Refusal::Deep(i)),
+        Measured::Size(before, place) => listings_last(
+            out,
+            starts,
+            letters,
+            tags,
+            values,
+            names,
+            n,
+            from,
+            before,
+            place,
+            env,
+            table,
+            rows,
+            chain,
+        ),
+    }
+}

@@ -1,4 +1,0 @@
--- What the proofs of several functions use.
-pub mod Front
-pub mod Given
-pub mod Last

@@ -1,0 +1,52 @@
+-- `questions::ask_large` meets its contract. Assumes nothing.
+use mathlib.Core.Path.{refl}
+use native.Mathlib.Omega.{arith}
+use Rattle.query.proofs.Listings.{roomy-of, ample-of}
+use borrow.Author.Needs.{needs}
+use Rattle.questions.proofs.ask_large.Statement.{statement}
+use Rattle.questions.proofs.ask_large.Tie as tie
+
+slice-aggregate-ask-in : tie.Need-slice-aggregate-ask-in
+slice-aggregate-ask-in c = search needs
+
+slice-aggregate-ask-in-2 : tie.Need-slice-aggregate-ask-in-2
+slice-aggregate-ask-in-2 c = search needs
+
+slice-aggregate-ask-in-3 : tie.Need-slice-aggregate-ask-in-3
+slice-aggregate-ask-in-3 c = search needs
+
+slice-aggregate-ask-in-4 : tie.Need-slice-aggregate-ask-in-4
+slice-aggregate-ask-in-4 c = search needs
+
+ask-in-requires : tie.Need-ask-in-requires
+ask-in-requires c κs = search needs
+
+same-length : tie.Need-same-length
+same-length c = search needs
+
+same-length-2 : tie.Need-same-length-2
+same-length-2 c = search needs
+
+same-length-3 : tie.Need-same-length-3
+same-length-3 c = search needs
+
+same-length-4 : tie.Need-same-length-4
+same-length-4 c = search needs
+
+returns : tie.Need-returns
+returns c = λ bytes i h. c .before .before .before .before .before .before .before .before .before .before .before .before .ask-in .ensures bytes i h (record { found = roomy-of 1024 4096 _ _ _ _ (omega arith) (h .standing .few-names) (h .standing .few-tokens) refl refl; chained = ample-of 4096 _ _ _ (omega arith) refl refl refl })
+
+pub ask-large-spec : {M : Type 1} → statement M
+ask-large-spec =
+    tie.close
+    (tie.spec
+    slice-aggregate-ask-in
+    slice-aggregate-ask-in-2
+    slice-aggregate-ask-in-3
+    slice-aggregate-ask-in-4
+    ask-in-requires
+    same-length
+    same-length-2
+    same-length-3
+    same-length-4
+    returns)

@@ -1,0 +1,2 @@
+-- What each question asks, and what its answer is.
+pub mod Asked

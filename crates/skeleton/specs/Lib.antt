@@ -1,0 +1,2 @@
+pub mod Lies
+pub mod Sites

@@ -10,7 +10,7 @@ use Rattle.definitions.specs.declared.Token.{Token}
 use Rattle.definitions.specs.Lists.{join, Letters}
 use Rattle.definitions.specs.Tree.{TypeDef, Equation, Node}
 use Rattle.definitions.specs.Clock.{Clock, chainOrder, insert, inChainOrder}
-use Rattle.definitions.specs.InferClocks.{Formed, deep, formed, _>>=_, Natural, Clocks, Clocked, natural, orBase, clockedBy}
+use Rattle.definitions.specs.InferClocks.{Clocked}
 use Rattle.definitions.specs.Declock.{Stem, ck, first, hold, Hold, nothingNeeded}
 use Rattle.definitions.specs.Output.{declaredTokens, countedTokens, equationTokens, probeTokens, nodeTokens}
 use Rattle.order.specs.Order.{picked}
@@ -165,15 +165,3 @@ module _ (types : List TypeDef) (nodes : List Node) (node : Node) (condact : ℕ
         let y = old-yields types nodes tabled condact node ids _ a 0 cs (d .0) nothingNeeded (d .1) (d .2) (leads-self _) in
         let h : length (d .1 .holds) ≡ w .holds = ap (λ (v : Needs). v .holds) e in
         (sym (ap length (y .1)) ∙ h, sym (y .2) ∙ h)
-
--- as many equations have clocks as there are
-pub clocked-length : (clocks : Clocks) (es : List Equation) (cs : List Clocked) → clockedBy clocks es ≡ formed cs → length cs ≡ length es
-unfolding clockedBy
-clocked-length clocks [] cs e = ap (λ (f : Formed (List Clocked)). elim f as (λ x. ℕ) [ deep ↦ 0 | formed l ↦ length l ]) (sym e)
-clocked-length clocks (x ∷ es) cs e = go (natural clocks (x .right)) (clockedBy clocks es) (clocked-length clocks es) e
-  where
-    go : (n : Natural) (f : Formed (List Clocked)) → ((l : List Clocked) → f ≡ formed l → length l ≡ length es)
-        → (n >>= λ o. f >>= λ rest. formed (record { clock = orBase o; equation = x } ∷ rest)) ≡ formed cs → length cs ≡ suc (length es)
-    go deep f h q = absurd (let z : _≡_ {A = ℕ} 0 1 = cc in omega arith)
-    go (formed o) deep h q = absurd (let z : _≡_ {A = ℕ} 0 1 = cc in omega arith)
-    go (formed o) (formed l) h q = sym (ap (λ (f : Formed (List Clocked)). elim f as (λ x. ℕ) [ deep ↦ 0 | formed l ↦ length l ]) q) ∙ ap suc (h l refl)

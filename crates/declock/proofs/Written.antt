@@ -1,43 +1,40 @@
 -- A node with its working tables: what each part that is written says of it.
 -- Assumes nothing.
 use Prim.Native.Nat.{ℕ, _+_, _≤_, _<_}
-use mathlib.Core.Path.{_≡_, refl, sym, ap, ap₂, _∙_, subst}
+use mathlib.Core.Path.{_≡_, sym, ap, ap₂, _∙_, subst}
 use mathlib.Core.List.{List, [], _∷_, _++_, map}
-use mathlib.Core.Bool.{false}
+use mathlib.Core.Option.{none}
 use native.Mathlib.Omega.{arith}
-use lib.ListN.{length, length-append}
+use lib.ListN.{length, length-append, getD}
 use Rattle.definitions.specs.declared.Token.{Token}
 use Rattle.definitions.specs.Lists.{join, Letters}
 use Rattle.definitions.specs.Tree.{Equation, Node}
 use Rattle.definitions.specs.Clock.{Clock, inChainOrder}
 use Rattle.definitions.specs.Output.{lettersOf, declaredTokens, countedTokens, equationTokens, probeTokens, nodeTokens}
-use Rattle.definitions.specs.Declock.{Hold}
 use Rattle.layout.specs.declared.NodeLayout.{NodeLayout}
 use Rattle.order.specs.Order.{rowOf, picked}
 use Rattle.emit.specs.Out.{Out, emits}
-use Rattle.emit.proofs.Laws.{emits-none}
 use Rattle.needs.specs.Need.{Needs}
 use Rattle.stateless.specs.Yield.{Ids, Yield}
 use Rattle.stateless.specs.Faults.{oldFault}
 use Rattle.stateless.specs.Locals.{idsIn, Local, flagLocals, firstLocals, holdLocals, localDeclared, localEquation}
 use Rattle.stateless.specs.Rewritten.{localsBy, nodeBy}
-use Rattle.openings.specs.declared.Mode.{Mode}
-use Rattle.openings.specs.declared.Sizes.{Sizes}
-use Rattle.openings.specs.Planned.{idsOf}
-use Rattle.openings.specs.Shown.{isTree, told}
-use Rattle.expressions.specs.declared.WrittenTo.{WrittenTo}
-use Rattle.equations.specs.Old.{Shows, FineOld}
+use Rattle.planned.specs.declared.Sizes.{Sizes}
+use Rattle.planned.specs.Held.{HeldFrom}
+use Rattle.frames.specs.Planned.{EquationsPlanned}
+use Rattle.holds.specs.Shown.{holdDeclarations, holdEquations}
 use Rattle.flags.specs.Tabled.{FlagIds}
 use Rattle.new_names.specs.declared.Locals.{Locals}
 use Rattle.declock.specs.Parts.{frontTokens, bodyTokens}
-use Rattle.declock.specs.Ready.{NodeReady, needsIn, yieldIn}
-use Rattle.declock.proofs.Laws.{front-written, body-written, node-written, ordered-count, new-count, yield-length, clocked-length, holds-made}
+use Rattle.declock.specs.declared.Rows.{Rows}
+use Rattle.declock.specs.Ready.{idsOf, NodeReady, needsIn, yieldIn}
+use Rattle.declock.proofs.Laws.{front-written, body-written, node-written, ordered-count, new-count, yield-length, holds-made}
 
-module _ (names : List Letters) {gs vs places typePlaces env flags firsts flagOrder firstOrder : List ℕ} {k : Sizes} {l : Locals} {layout : NodeLayout}
-    (h : NodeReady names gs vs places typePlaces env flags firsts flagOrder firstOrder k l layout)
-    (flagIds firstIds holdIds : List ℕ) (ids : Ids) (q : ids ≡ idsOf flags firsts flagIds firstIds holdIds k) where
+module _ (names : List Letters) {gs vs places typePlaces flags firsts flagOrder firstOrder flagIds firstIds holdIds plan holds types : List ℕ} {k : Sizes} {n : Rows} {l : Locals} {layout : NodeLayout}
+    (h : NodeReady names gs vs places typePlaces flags firsts flagOrder firstOrder flagIds firstIds holdIds plan holds types k n l layout)
+    (ids : Ids) (q : ids ≡ idsOf flags firsts flagIds firstIds holdIds n (k .condact)) where
   abbrev node : Node
-  node = h .grounds .node
+  node = h .writer .node
 
   abbrev w : Needs
   w = needsIn h
@@ -52,11 +49,11 @@ module _ (names : List Letters) {gs vs places typePlaces env flags firsts flagOr
   abbrev firstly : List Clock
   firstly = inChainOrder (lettersOf names) (w .firsts)
 
-  pub flags-tabled : FlagIds flags (k .flags) flagIds (ids .flag)
-  flags-tabled = record { room = h .grounds .flags-fit; stands = λ c. ap (λ (i : Ids). i .flag c) q }
+  pub flags-tabled : FlagIds flags (n .flags) flagIds (ids .flag)
+  flags-tabled = record { room = h .tables .flags-fit; stands = λ c. ap (λ (i : Ids). i .flag c) q }
 
-  pub firsts-tabled : FlagIds firsts (k .firsts) firstIds (ids .first)
-  firsts-tabled = record { room = h .grounds .firsts-fit; stands = λ c. ap (λ (i : Ids). i .first c) q }
+  pub firsts-tabled : FlagIds firsts (n .firsts) firstIds (ids .first)
+  firsts-tabled = record { room = h .tables .firsts-fit; stands = λ c. ap (λ (i : Ids). i .first c) q }
 
   -- as many holds as are needed
   made : (length (y .holds) ≡ w .holds) × (y .after ≡ w .holds)
@@ -65,18 +62,24 @@ module _ (names : List Letters) {gs vs places typePlaces env flags firsts flagOr
       let e : idsIn (w .flags) (w .firsts) flagIds firstIds holdIds (k .condact) ≡ ids =
       ap₂ (λ (a b : List Clock). idsIn a b flagIds firstIds holdIds (k .condact)) (sym (t .flagged)) (sym (t .first-flagged)) ∙ sym q in
       subst (λ (i : Ids). (length (yieldIn h i .holds) ≡ w .holds) × (yieldIn h i .after ≡ w .holds)) e
-      (holds-made (h .grounds .types) (h .grounds .nodes) node (k .condact) (h .equations) (h .faultless) flagIds firstIds holdIds)
+      (holds-made (h .writer .types) (h .writer .nodes) node (k .condact) (h .equations) (h .faultless) flagIds firstIds holdIds)
 
-  -- the old equations are what is asked of them
-  pub fine : FineOld (h .grounds .types) (h .grounds .nodes) node ids env (k .names) (h .clocks) 0 (h .equations)
-  fine =
-      record {
-        agree = h .agree;
-        each = h .each;
-        within-all = h .within-all;
-        faultless = ap (λ (i : Ids). oldFault (h .grounds .types) (h .grounds .nodes) node (i .condact) 0 (h .equations)) q ∙ h .faultless;
-        few = omega (arith, made .1, h .tables .few-holds);
-      }
+  -- the ids of holds and of `condact`
+  pub hold-ids : (j : ℕ) → ids .hold j ≡ getD holdIds j 0
+  hold-ids j = ap (λ (i : Ids). i .hold j) q
+
+  pub condact-id : ids .condact ≡ h .writer .condact
+  condact-id = ap (λ (i : Ids). i .condact) q ∙ sym (h .grounds .stands .condact)
+
+  -- its holds and its equations are planned, by these ids
+  pub ready-holds : HeldFrom (k .names) gs vs (h .writer) plan holds 0 (y .holds)
+  ready-holds = subst (λ (i : Ids). HeldFrom (k .names) gs vs (h .writer) plan holds 0 (yieldIn h i .holds)) (sym q) (h .held)
+
+  pub ready-equations : EquationsPlanned (k .names) gs vs (h .writer) plan (h .writer .condact) ids 0 (h .equations) (layout .equations .at) (layout .equations .end)
+  ready-equations = subst (λ (i : Ids). EquationsPlanned (k .names) gs vs (h .writer) plan (h .writer .condact) i 0 (h .equations) (layout .equations .at) (layout .equations .end)) (sym q) (h .planned)
+
+  pub ready-faultless : oldFault (h .writer .types) (h .writer .nodes) node (h .writer .condact) 0 (h .equations) ≡ none
+  ready-faultless = ap (λ (x : ℕ). oldFault (h .writer .types) (h .writer .nodes) node x 0 (h .equations)) (h .grounds .stands .condact) ∙ h .faultless
 
   -- how many there are
   counts : (length flagged ≡ l .flags) × (length firstly ≡ l .firsts) × (length (y .holds) ≡ l .holds) × (l .flags ≤ 1024) × (l .firsts ≤ 1024) × (l .holds ≤ 1024)
@@ -102,31 +105,8 @@ module _ (names : List Letters) {gs vs places typePlaces env flags firsts flagOr
   few-locals : length (node .locals) ≤ 128
   few-locals = omega (arith, h .few-declared, length-append (node .inputs) (node .outputs ++ node .locals), length-append (node .outputs) (node .locals))
 
-  -- what the old equations show of their holds
-  pub holds-shown : (m : Mode) (o : Out) {o′ : Out} {end : ℕ} {r : WrittenTo} → isTree m ≡ false → Shows m ids 0 y end o o′ r → o′ ≡ emits o (told m [] ids 0 (y .holds))
-  unfolding told
-  holds-shown m o f s = s .written ∙ ap (emits o) (untold m f)
-    where
-      untold : (m : Mode) → isTree m ≡ false → told m (join (map equationTokens (y .value))) ids 0 (y .holds) ≡ told m [] ids 0 (y .holds)
-      untold Mode.Nothing f = refl
-      untold Mode.Tree f = let z : _≡_ {A = ℕ} 0 1 = cc in absurd (omega arith)
-      untold Mode.Equations f = refl
-      untold Mode.Declarations f = refl
-
-  -- where none is needed, nothing
-  pub holds-none : (m : Mode) (o : Out) → isTree m ≡ false → l .holds ≡ 0 → o ≡ emits o (told m [] ids 0 (y .holds))
-  unfolding told
-  holds-none m o f z = sym (ap (λ (hs : List Hold). emits o (told m [] ids 0 hs)) (none-of (y .holds) (counts .2 ∙ z)) ∙ (ap (emits o) (untold m) ∙ emits-none o))
-    where
-      none-of : (hs : List Hold) → length hs ≡ 0 → hs ≡ []
-      none-of [] e = refl
-      none-of (x ∷ hs) e = absurd (omega (arith, e))
-
-      untold : (m : Mode) → told m [] ids 0 [] ≡ []
-      untold Mode.Nothing = refl
-      untold Mode.Tree = refl
-      untold Mode.Equations = refl
-      untold Mode.Declarations = refl
+  pub held-many : length (y .holds) ≡ l .holds
+  held-many = counts .2
 
   -- the front
   pub ready-front : (o : Out) {o₁ o₂ o₃ o₄ o₅ : Out} {more : ℕ} → Counts 0 more
@@ -134,8 +114,7 @@ module _ (names : List Letters) {gs vs places typePlaces env flags firsts flagOr
       → (length (node .locals) + more < 4294967296 → o₂ ≡ emits o₁ (Token.Count (length (node .locals) + more) ∷ join (map declaredTokens (node .locals))))
       → o₃ ≡ emits o₂ (join (map declaredTokens (map localDeclared (flagLocals ids (picked (rowOf flags) flagOrder 0 (l .flags))))))
       → o₄ ≡ emits o₃ (join (map declaredTokens (map localDeclared (firstLocals ids (picked (rowOf firsts) firstOrder 0 (l .firsts))))))
-      → o₅ ≡ emits o₄ (told Mode.Declarations [] ids 0 (y .holds)) → o₅ ≡ emits o (frontTokens node new)
-  unfolding told
+      → o₅ ≡ emits o₄ (holdDeclarations ids 0 (y .holds)) → o₅ ≡ emits o (frontTokens node new)
   ready-front o {o₁} {o₂} {o₃} {o₄} {o₅} {more} n a b c d s =
       let t = h .tables in
       let m : more ≡ length new = counted 0 more (omega arith) n ∙ omega arith in
@@ -146,19 +125,18 @@ module _ (names : List Letters) {gs vs places typePlaces env flags firsts flagOr
       s
 
   -- the body
-  pub ready-body : (o : Out) {o₁ o₂ o₃ o₄ o₅ : Out} {old total end : ℕ} {r : WrittenTo} → old ≡ length (node .equations) → Counts old total → o₁ ≡ emits o (Token.Count total ∷ [])
+  pub ready-body : (o : Out) {o₁ o₂ o₃ o₄ o₅ : Out} {old total : ℕ} → old ≡ layout .equations .count → Counts old total → o₁ ≡ emits o (Token.Count total ∷ [])
       → o₂ ≡ emits o₁ (join (map equationTokens (map localEquation (flagLocals ids (picked (rowOf flags) flagOrder 0 (l .flags))))))
       → o₃ ≡ emits o₂ (join (map equationTokens (map localEquation (firstLocals ids (picked (rowOf firsts) firstOrder 0 (l .firsts))))))
-      → o₄ ≡ emits o₃ (told Mode.Equations [] ids 0 (y .holds)) → Shows Mode.Tree ids 0 y end o₄ o₅ r → o₅ ≡ emits o (bodyTokens new (y .value))
-  unfolding told
+      → o₄ ≡ emits o₃ (holdEquations ids 0 (y .holds)) → o₅ ≡ emits o₄ (join (map equationTokens (y .value))) → o₅ ≡ emits o (bodyTokens new (y .value))
   ready-body o {o₁} {o₂} {o₃} {o₄} {o₅} {old} {total} u n a b c s s′ =
       let t = h .tables in
-      let v : old ≡ length (y .value) = u ∙ sym (yield-length (h .grounds .types) (h .grounds .nodes) node (k .condact) ids 0 (h .equations) ∙ clocked-length (h .clocks) (node .equations) (h .equations) (h .each)) in
-      let m : total ≡ length new + length (y .value) = counted old total (omega (arith, u, h .few-equations)) n ∙ ap (λ (x : ℕ). length new + x) v in
+      let v : old ≡ length (y .value) = u ∙ sym (yield-length (h .writer .types) (h .writer .nodes) node (k .condact) ids 0 (h .equations) ∙ h .many) in
+      let m : total ≡ length new + length (y .value) = counted old total (omega (arith, u, h .grounds .laid .equations .many, h .few-equations)) n ∙ ap (λ (x : ℕ). length new + x) v in
       body-written node (flagLocals ids flagged) (firstLocals ids firstly) (holdLocals ids 0 (y .holds)) o o₁ o₂ o₃ o₄ o₅ (y .value) total m a
       (b ∙ ap (λ (cs : List Clock). emits o₁ (join (map equationTokens (map localEquation (flagLocals ids cs))))) (t .flag-order .sorted))
       (c ∙ ap (λ (cs : List Clock). emits o₂ (join (map equationTokens (map localEquation (firstLocals ids cs))))) (t .first-order .sorted))
-      s (s′ .written)
+      s s′
 
   -- the whole node
   pub ready-node : (o : Out) {o₁ o₂ o₃ : Out} → o₁ ≡ emits o (frontTokens node new) → o₂ ≡ emits o₁ (bodyTokens new (y .value)) → o₃ ≡ emits o₂ (countedTokens probeTokens (node .probes))

@@ -1,8 +1,8 @@
-// The tokens of the whole output, of an accepted sheet without faults, written into the output's arrays.
-// `starts` and `letters` are the input's names; `lengths` and `text`, with counts, the output's. `places` and `type_places` are
-// where the sheet's nodes and type definitions stand. `otags` and `ovalues` are the output's tokens, of which w are written.
-// `env`, `flags` and `firsts` are working tables, lent so that they are made once.
-use definitions::CLOCK_TABLE;
+// The output's names and tokens, node by node, of an accepted sheet.
+// `starts` and `letters` are the input's names; `lengths` and `text`, with counts, the output's so far. `places` and `type_places` are
+// where the sheet's nodes and type definitions stand. `flags`, `firsts`, `holds` and `plan` are what planning the node left, `types` the
+// declared types of its names. `otags` and `ovalues` are the output's tokens.
+use declock::Rows;
 use definitions::MOST_LETTERS;
 use definitions::MOST_NAMES;
 use definitions::MOST_NODES;
@@ -11,32 +11,29 @@ use definitions::WORKING_TOKENS;
 use fresh::Counts;
 use layout::NodeLayout;
 use node_tables::Tables;
-use openings::Sizes;
+use planned::Sizes;
 use spelling::StemName;
 ghost use mathlib.Core.Path.{_≡_};
 ghost use mathlib.Core.List.{List};
-ghost use mathlib.Core.Bool.{true, false};
+ghost use mathlib.Core.Bool.{false};
 ghost use Prim.Native.Nat.{ℕ, _≤_};
 ghost use lib.ListN.{length};
 ghost use Rattle.definitions.specs.Lists.{Letters};
-ghost use Rattle.definitions.specs.Bytes.{tokens};
 ghost use Rattle.definitions.specs.Tree.{Sheet};
-ghost use Rattle.definitions.specs.Reading.{got};
-ghost use Rattle.definitions.specs.Grammar.{node};
-ghost use Rattle.definitions.specs.InferClocks.{usesClocks};
-ghost use Rattle.definitions.specs.Output.{ClockedNode, outputNode, nodeTokens, namesOut, sheetOut, sheetTokens};
-ghost use Rattle.definitions.specs.Answer.{Input};
-ghost use Rattle.environment.specs.Environment.{Agrees};
+ghost use Rattle.definitions.specs.Output.{ClockedNode, outputNode, nodeTokens};
+ghost use Rattle.needs.specs.declared.Counts as needed;
 ghost use Rattle.fresh.specs.Table.{Sound, NamesHeld};
-ghost use Rattle.layout.specs.Laid.{LaidNode};
-ghost use Rattle.infer_clocks.specs.Clocked.{Sole};
 ghost use Rattle.emit.specs.Out.{out, emits};
-ghost use Rattle.stateless.specs.Whole.{noNeeds, oldNeeds};
 ghost use Rattle.node_tables.specs.Filled.{Filled};
-ghost use Rattle.output_names.specs.Faultless.{Faultless};
-ghost use Rattle.declock_sheet.specs.Clocked.{FaultlessNode};
+ghost use Rattle.declock_sheet.specs.Planned.{nodeNeeds, namesWith, PlannedNode, NamesAhead};
 
-// A node whose tables are filled, rewritten: its new names have their ids among the output's.
+// Where the output's names and its tokens have got to.
+pub struct Progress {
+    pub names: Counts,
+    pub next: usize,
+}
+
+// A node whose tables are filled, written: its new names have their ids among those so far.
 fn put_filled(
     tags: &[u8],
     values: &[u32],
@@ -45,14 +42,16 @@ fn put_filled(
     lengths: &[u8; MOST_NAMES],
     text: &[u8; MOST_LETTERS],
     c: Counts,
-    env: &[u32; CLOCK_TABLE],
-    flags: &[u32; CLOCK_TABLE],
-    firsts: &[u32; CLOCK_TABLE],
+    flags: &[u32],
+    firsts: &[u32],
     flag_order: &[u32; MOST_NAMES],
     first_order: &[u32; MOST_NAMES],
     flag_numbers: &[u32; MOST_NAMES],
     first_numbers: &[u32; MOST_NAMES],
     hold_numbers: &[u32; MOST_NAMES],
+    plan: &[u32],
+    holds: &[u32],
+    types: &[u32],
     otags: &mut [u8; WORKING_TOKENS],
     ovalues: &mut [u32; WORKING_TOKENS],
     k: Sizes,
@@ -63,7 +62,7 @@ fn put_filled(
     requires { ⌜ length (now values) ≡ length (now tags) ⌝ }
     requires { ⌜ (k .nodes ≤ 16) × (k .types ≤ 32) ⌝ }
     requires { ⌜ Sound (now lengths) (now text) c ⌝ }
-    ensures { λ r. ⌜ ((starts letters : List ℕ) (names all : List Letters) (s : Sheet) (n : ClockedNode) (p q : ℕ) → FaultlessNode starts letters (now (tags .entry)) (now (values .entry)) (now (places .entry)) (now («type_places» .entry)) (now (lengths .entry)) (now (text .entry)) c k names all s n → usesClocks (n .node) ≡ true → node (k .names) (tokens (now (tags .entry)) (now (values .entry))) p ≡ got (n .node) q → LaidNode (k .names) (tokens (now (tags .entry)) (now (values .entry))) (n .node) q l → Agrees (now (env .entry)) (k .names) (n .clocking .names) → Filled names (n .node) (oldNeeds (s .types) (s .nodes) (n .node) (k .condact) (n .clocking .equations) noNeeds) (now (flags .entry)) (now (firsts .entry)) (now («flag_order» .entry)) (now («first_order» .entry)) (now («flag_numbers» .entry)) (now («first_numbers» .entry)) (now («hold_numbers» .entry)) (t .rows) (t .locals) → out (now (otags .exit)) (now (ovalues .exit)) r ≡ emits (out (now (otags .entry)) (now (ovalues .entry)) w) (nodeTokens (outputNode names s all n))) ⌝ }
+    ensures { λ r. ⌜ ((starts letters : List ℕ) (s : needed.Counts) (names before all : List Letters) (sheet : Sheet) (n : ClockedNode) → PlannedNode starts letters (now (tags .entry)) (now (values .entry)) (now (places .entry)) (now («type_places» .entry)) (now (plan .entry)) (now (flags .entry)) (now (firsts .entry)) (now (holds .entry)) (now (types .entry)) k s l names sheet n → Filled names (n .node) (nodeNeeds names sheet n) (now (flags .entry)) (now (firsts .entry)) (now («flag_order» .entry)) (now («first_order» .entry)) (now («flag_numbers» .entry)) (now («first_numbers» .entry)) (now («hold_numbers» .entry)) (t .rows) (t .locals) → NamesHeld (now (lengths .entry)) (now (text .entry)) c (namesWith names before sheet n) → c .full ≡ false → NamesAhead names before sheet n all → out (now (otags .exit)) (now (ovalues .exit)) r ≡ emits (out (now (otags .entry)) (now (ovalues .entry)) w) (nodeTokens (outputNode names sheet all n))) ⌝ }
 {
     let rows = t.rows;
     let locals = t.locals;
@@ -99,13 +98,16 @@ fn put_filled(
         locals.holds,
         &mut hold_ids,
     );
+    let condact = new_names::condact_id(lengths, text, c);
     let sizes = Sizes {
         names: k.names,
         nodes: k.nodes,
         types: k.types,
+        condact,
+    };
+    let many = Rows {
         flags: n,
         firsts: m,
-        condact: k.condact,
     };
     declock::declock_node(
         tags,
@@ -119,40 +121,47 @@ fn put_filled(
         &flag_ids,
         &first_ids,
         &hold_ids,
-        env,
+        plan,
+        holds,
+        types,
         otags,
         ovalues,
         sizes,
+        many,
         locals,
         l,
         w,
     )
 }
 
-// A node that uses clocks, with this layout, rewritten; `env` has the clocks of its names.
-fn put_clocked(
+// A planned node: its new names behind those so far, then its tokens. Where the names are too many no token is written.
+pub fn write_planned(
     starts: &[u32],
     letters: &[u8],
     tags: &[u8],
     values: &[u32],
     places: &[usize; MOST_NODES],
     type_places: &[usize; MOST_TYPES],
-    lengths: &[u8; MOST_NAMES],
-    text: &[u8; MOST_LETTERS],
-    c: Counts,
-    env: &[u32; CLOCK_TABLE],
-    flags: &mut [u32; CLOCK_TABLE],
-    firsts: &mut [u32; CLOCK_TABLE],
+    plan: &[u32],
+    flags: &[u32],
+    firsts: &[u32],
+    holds: &[u32],
+    types: &[u32],
+    lengths: &mut [u8; MOST_NAMES],
+    text: &mut [u8; MOST_LETTERS],
     otags: &mut [u8; WORKING_TOKENS],
     ovalues: &mut [u32; WORKING_TOKENS],
     k: Sizes,
+    s: needs::Counts,
     l: NodeLayout,
-    w: usize,
-) -> usize
+    p: Progress,
+) -> Progress
     requires { ⌜ length (now values) ≡ length (now tags) ⌝ }
     requires { ⌜ (k .nodes ≤ 16) × (k .types ≤ 32) ⌝ }
-    requires { ⌜ Sound (now lengths) (now text) c ⌝ }
-    ensures { λ r. ⌜ ((names all : List Letters) (s : Sheet) (n : ClockedNode) (p q : ℕ) → FaultlessNode (now (starts .entry)) (now (letters .entry)) (now (tags .entry)) (now (values .entry)) (now (places .entry)) (now («type_places» .entry)) (now (lengths .entry)) (now (text .entry)) c k names all s n → usesClocks (n .node) ≡ true → node (k .names) (tokens (now (tags .entry)) (now (values .entry))) p ≡ got (n .node) q → LaidNode (k .names) (tokens (now (tags .entry)) (now (values .entry))) (n .node) q l → Agrees (now (env .entry)) (k .names) (n .clocking .names) → out (now (otags .exit)) (now (ovalues .exit)) r ≡ emits (out (now (otags .entry)) (now (ovalues .entry)) w) (nodeTokens (outputNode names s all n))) ⌝ }
+    requires { ⌜ Sound (now lengths) (now text) (p .names) ⌝ }
+    ensures { λ r. ⌜ Sound (now (lengths .exit)) (now (text .exit)) (r .names) ⌝ }
+    ensures { λ r. ⌜ ((names before : List Letters) (sheet : Sheet) (n : ClockedNode) → PlannedNode (now (starts .entry)) (now (letters .entry)) (now (tags .entry)) (now (values .entry)) (now (places .entry)) (now («type_places» .entry)) (now (plan .entry)) (now (flags .entry)) (now (firsts .entry)) (now (holds .entry)) (now (types .entry)) k s l names sheet n → NamesHeld (now (lengths .entry)) (now (text .entry)) (p .names) before → NamesHeld (now (lengths .exit)) (now (text .exit)) (r .names) (namesWith names before sheet n)) ⌝ }
+    ensures { λ r. ⌜ ((names before all : List Letters) (sheet : Sheet) (n : ClockedNode) → PlannedNode (now (starts .entry)) (now (letters .entry)) (now (tags .entry)) (now (values .entry)) (now (places .entry)) (now («type_places» .entry)) (now (plan .entry)) (now (flags .entry)) (now (firsts .entry)) (now (holds .entry)) (now (types .entry)) k s l names sheet n → NamesHeld (now (lengths .entry)) (now (text .entry)) (p .names) before → NamesAhead names before sheet n all → r .names .full ≡ false → out (now (otags .exit)) (now (ovalues .exit)) (r .next) ≡ emits (out (now (otags .entry)) (now (ovalues .entry)) (p .next)) (nodeTokens (outputNode names sheet all n))) ⌝ }
 {
     let mut flag_order = [0u32; MOST_NAMES];
     let mut first_order = [0u32; MOST_NAMES];
@@ -165,23 +174,33 @@ fn put_clocked(
         tags,
         values,
         k.names,
-        places,
-        k.nodes,
         l,
-        env,
-        k.condact,
         flags,
         firsts,
+        s,
         &mut flag_order,
         &mut first_order,
         &mut flag_numbers,
         &mut first_numbers,
         &mut hold_numbers,
     );
-    if t.full {
-        return w;
+    let before = p.names;
+    let c = output_names::add_tables(
+        lengths,
+        text,
+        before,
+        t,
+        &flag_numbers,
+        &flag_order,
+        &first_numbers,
+        &first_order,
+        &hold_numbers,
+    );
+    let at = p.next;
+    if c.full {
+        return Progress { names: c, next: at };
     }
-    put_filled(
+    let next = put_filled(
         tags,
         values,
         places,
@@ -189,7 +208,6 @@ fn put_clocked(
         lengths,
         text,
         c,
-        env,
         flags,
         firsts,
         &flag_order,
@@ -197,138 +215,15 @@ fn put_clocked(
         &flag_numbers,
         &first_numbers,
         &hold_numbers,
+        plan,
+        holds,
+        types,
         otags,
         ovalues,
         k,
         t,
         l,
-        w,
-    )
-}
-
-// The node at a place: rewritten, or, if it uses no clocks, as it came.
-fn put_node(
-    starts: &[u32],
-    letters: &[u8],
-    tags: &[u8],
-    values: &[u32],
-    places: &[usize; MOST_NODES],
-    type_places: &[usize; MOST_TYPES],
-    lengths: &[u8; MOST_NAMES],
-    text: &[u8; MOST_LETTERS],
-    c: Counts,
-    env: &mut [u32; CLOCK_TABLE],
-    flags: &mut [u32; CLOCK_TABLE],
-    firsts: &mut [u32; CLOCK_TABLE],
-    otags: &mut [u8; WORKING_TOKENS],
-    ovalues: &mut [u32; WORKING_TOKENS],
-    k: Sizes,
-    at: usize,
-    w: usize,
-) -> usize
-    requires { ⌜ length (now values) ≡ length (now tags) ⌝ }
-    requires { ⌜ (k .nodes ≤ 16) × (k .types ≤ 32) ⌝ }
-    requires { ⌜ Sound (now lengths) (now text) c ⌝ }
-    ensures { λ _. ⌜ (k .nodes ≤ 1 → now (env .exit) ≡ now (env .entry)) ⌝ }
-    ensures { λ r. ⌜ ((names all : List Letters) (s : Sheet) (n : ClockedNode) (q : ℕ) → FaultlessNode (now (starts .entry)) (now (letters .entry)) (now (tags .entry)) (now (values .entry)) (now (places .entry)) (now («type_places» .entry)) (now (lengths .entry)) (now (text .entry)) c k names all s n → node (k .names) (tokens (now (tags .entry)) (now (values .entry))) at ≡ got (n .node) q → (k .nodes ≤ 1 → usesClocks (n .node) ≡ true → Agrees (now (env .entry)) (k .names) (n .clocking .names)) → out (now (otags .exit)) (now (ovalues .exit)) r ≡ emits (out (now (otags .entry)) (now (ovalues .entry)) w) (nodeTokens (outputNode names s all n))) ⌝ }
-{
-    let names = k.names;
-    let l = layout::node_at(tags, values, names, at);
-    let uses = sheet::node_uses_clocks(tags, values, names, at);
-    if uses {
-        // an only node's clocks are there already
-        let held = k.nodes <= 1;
-        infer_clocks::name_clocks(tags, values, names, l, env, held);
-        return put_clocked(
-            starts,
-            letters,
-            tags,
-            values,
-            places,
-            type_places,
-            lengths,
-            text,
-            c,
-            env,
-            flags,
-            firsts,
-            otags,
-            ovalues,
-            k,
-            l,
-            w,
-        );
-    }
-    node_parts::put_node_as_it_came(otags, ovalues, w, tags, values, l)
-}
-
-// The output: its types, then each node. The place after the last token; 8,193, where they do not fit. `env` has the clocks of an only
-// node.
-pub fn declock_sheet(
-    starts: &[u32],
-    letters: &[u8],
-    tags: &[u8],
-    values: &[u32],
-    names: u32,
-    lengths: &[u8; MOST_NAMES],
-    text: &[u8; MOST_LETTERS],
-    c: Counts,
-    env: &mut [u32; CLOCK_TABLE],
-    flags: &mut [u32; CLOCK_TABLE],
-    firsts: &mut [u32; CLOCK_TABLE],
-    otags: &mut [u8; WORKING_TOKENS],
-    ovalues: &mut [u32; WORKING_TOKENS],
-) -> usize
-    requires { ⌜ length (now values) ≡ length (now tags) ⌝ }
-    requires { ⌜ Sound (now lengths) (now text) c ⌝ }
-    ensures { λ r. ⌜ ((bytes : List ℕ) (i : Input) (ns : List ClockedNode) → Faultless (now (starts .entry)) (now (letters .entry)) (now (tags .entry)) (now (values .entry)) names bytes i ns → Sole (now (env .entry)) names (i .sheet .nodes) → NamesHeld (now (lengths .entry)) (now (text .entry)) c (namesOut (i .names) (i .sheet) ns) → c .full ≡ false → out (now (otags .exit)) (now (ovalues .exit)) r ≡ emits (out (now (otags .entry)) (now (ovalues .entry)) 0) (sheetTokens (sheetOut (i .names) (i .sheet) ns))) ⌝ }
-{
-    let whole = layout::sheet_at(tags, values, names);
-    let types = whole.types;
-    let span = whole.nodes;
-    let n = widths::wide(span.count);
-    let m = widths::wide(types.count);
-    if MOST_NODES < n {
-        return 0;
-    }
-    if MOST_TYPES < m {
-        return 0;
-    }
-    let places = layout::node_places(tags, values, names, n, span.at);
-    let type_places = layout::definition_places(tags, values, names, m, types.at);
-    let condact = new_names::condact_id(lengths, text, c);
-    let k = Sizes {
-        names,
-        nodes: n,
-        types: m,
-        flags: 0,
-        firsts: 0,
-        condact,
-    };
-    let mut w = node_parts::put_types(otags, ovalues, 0, tags, values, whole);
-    let mut i: usize = 0;
-    while i < n {
-        let at = places[i];
-        w = put_node(
-            starts,
-            letters,
-            tags,
-            values,
-            &places,
-            &type_places,
-            lengths,
-            text,
-            c,
-            env,
-            flags,
-            firsts,
-            otags,
-            ovalues,
-            k,
-            at,
-            w,
-        );
-        i += 1;
-    }
-    w
+        at,
+    );
+    Progress { names: c, next }
 }

@@ -13,7 +13,7 @@ ghost use Rattle.emit.specs.Out.{out, puts, emits};
 pub const FULL: usize = 8193;
 
 // A tag and a value.
-fn put(
+pub fn put(
     otags: &mut [u8; WORKING_TOKENS],
     ovalues: &mut [u32; WORKING_TOKENS],
     at: usize,

@@ -1,139 +1,91 @@
--- A right side in its frame, and an equation behind its left names, by mode.
+-- An equation: its left names, and its right side in its frame.
 -- Assumes nothing.
-use Prim.Native.Nat.{ℕ, _+_, _≤_}
-use mathlib.Core.Path.{_≡_, sym, _∙_, ap, subst}
-use mathlib.Core.List.{List, [], _∷_, _++_}
+use Prim.Native.Nat.{ℕ, _+_, _≤_, _<_}
+use mathlib.Core.Path.{_≡_, refl, sym, _∙_, ap, subst}
+use mathlib.Core.List.{List, _∷_, _++_, map}
+use mathlib.Core.Option.{none}
 use native.Mathlib.Omega.{arith}
-use lib.ListN.{length}
+use lib.ListN.{length, getD}
 use Rattle.definitions.specs.declared.Token.{Token}
-use Rattle.definitions.specs.Tokens.{TagValue}
-use Rattle.definitions.specs.Tree.{TypeDef, Expr, Equation, Node}
+use Rattle.definitions.specs.Tokens.{TagValue, codeOf}
+use Rattle.definitions.specs.Bytes.{tokens}
+use Rattle.definitions.specs.Tree.{Equation}
 use Rattle.definitions.specs.Reading.{got}
 use Rattle.definitions.specs.Grammar.{name, equation}
 use Rattle.definitions.specs.Clock.{Clock, isBase}
-use Rattle.definitions.specs.InferClocks.{Clocks, orBase}
-use Rattle.definitions.specs.Declock.{Hold}
 use Rattle.definitions.specs.Output.{nameTokens, exprTokens, equationTokens}
 use Rattle.grammar.proofs.Parts.{counted-within}
-use Rattle.grammar.proofs.Laws.{times-length}
-use Rattle.grammar.proofs.Got.{equation-got}
-use Rattle.operands.specs.Spread.{tree}
+use Rattle.grammar.proofs.Laws.{times-length, tokens-length}
+use Rattle.grammar.proofs.Longer.{counted-grows}
+use Rattle.grammar.proofs.Got.{equation-got, counted-value}
 use Rattle.layout.specs.declared.Span.{Span}
-use Rattle.layout.specs.declared.EquationLayout.{EquationLayout}
-use Rattle.layout.specs.Spans.{Spans}
-use Rattle.layout.specs.Laid.{LaidEquation}
+use Rattle.layout.specs.Spans.{Spanned, Spans}
+use Rattle.layout.proofs.Laws.{span-at, names-stand}
 use Rattle.stateless.specs.Yield.{Ids, shapeAfter, yield, rightYield}
+use Rattle.stateless.specs.Faults.{rightFault}
 use Rattle.emit.specs.Out.{Out, emits}
-use Rattle.emit.proofs.Laws.{emits-none}
-use Rattle.openings.specs.declared.Mode.{Mode}
-use Rattle.openings.specs.Shown.{inTree, told}
-use Rattle.openings.specs.Planned.{twoMore}
-use Rattle.openings.proofs.Laws.{emits-then}
-use Rattle.expressions.specs.declared.WrittenTo.{WrittenTo}
-use Rattle.expressions.specs.Made.{Made, Fine}
+use Rattle.emit.proofs.Laws.{emits-codes}
+use Rattle.planned.specs.Writes.{Writer, Writes}
+use Rattle.planned.specs.Opening.{twoMore, WrittenAs}
 use Rattle.frames.specs.declared.Frame.{Frame}
-use Rattle.frames.specs.Framed.{frameOf, leadIn, LeadOut, Framed}
-use Rattle.frames.proofs.Rights.{right-inner, right-framed}
-use Rattle.equations.specs.Old.{ShowsOne, FineRight, FineEquation}
+use Rattle.frames.specs.Framed.{frameIn, frameOf, leadIn, LeadOut, Framed}
+use Rattle.frames.specs.Planned.{EquationPlanned}
+use Rattle.frames.proofs.Laws.{emits-then}
+use Rattle.frames.proofs.Rights.{right-framed}
 
--- ---- with the expression itself, before and behind it
-skip : (o o₁ o₂ : Out) (l : List Token) → o₁ ≡ emits o [] → o₂ ≡ emits o₁ l → o₂ ≡ emits o l
-skip o o₁ o₂ l f g = g ∙ ap (λ (x : Out). emits x l) (f ∙ emits-none o)
+-- ---- where the parts of an equation stand
+pub record PartsAt (M : ℕ) (ts : List TagValue) (p : ℕ) (e : Equation) (left : Span) : Type 0 where
+  pub names : Spans (name M) ts (e .left) left
+  pub right : left .end ≡ p + 1 + length (e .left)
+  pub few : length (e .left) ≤ 8
 
-stop : (o o₁ o₂ : Out) (l : List Token) → o₁ ≡ emits o l → o₂ ≡ emits o₁ [] → o₂ ≡ emits o l
-stop o o₁ o₂ l f g = g ∙ (emits-none o₁ ∙ f)
+pub parts-at : (M : ℕ) (gs vs : List ℕ) → length vs ≡ length gs → (p : ℕ) (e : Equation) (q : ℕ) (left : Span) → equation M (tokens gs vs) p ≡ got e q → Spanned (name M) gs vs p left → PartsAt M (tokens gs vs) p e left
+parts-at M gs vs same p e q left g l =
+    let t = equation-got M (tokens gs vs) p e q g in
+    let s = span-at gs vs same (name M) p 3 1 8 (t .0) (t .1) (t .2) (t .3) (t .5) (t .6) left p l refl in
+    let w = counted-grows 3 1 8 (tokens gs vs) p (t .0) (t .1) (t .5) in
+    let b : p < length gs = omega (arith, w .0, w .1, tokens-length gs vs same) in
+    let v = counted-value gs vs same p 3 1 8 (t .0) (t .1) b (t .5) in
+    let n = names-stand gs vs same M (t .0) (t .1) (t .2) (t .3) (t .6) in
+    let m = times-length (name M) (tokens gs vs) (t .0) (t .1) (t .2) (t .3) (t .6) in
+    let c = counted-within 3 1 8 (tokens gs vs) p (t .0) (t .1) (t .5) in
+    let f : t .2 ≡ e .left = sym (ap (λ (y : Equation). y .left) (t .8)) in
+    let h = ap length f in
+    record { names = subst (λ (y : List ℕ). Spans (name M) (tokens gs vs) y left) f (s .0); right = omega (arith, s .1, v .2, n .1, m, h); few = omega (arith, c .1, m, h) }
 
-module _ (ids : Ids) (n : ℕ) (hs : List Hold) (o o₁ o₂ : Out) (a b : List Token) where
-  lead-told : (m : Mode) → o₁ ≡ emits o (inTree m a) → o₂ ≡ emits o₁ (told m b ids n hs) → o₂ ≡ emits o (told m (a ++ b) ids n hs)
-  unfolding inTree told
-  lead-told Mode.Nothing f g = skip o o₁ o₂ _ f g
-  lead-told Mode.Tree f g = emits-then o o₁ o₂ a b f g
-  lead-told Mode.Equations f g = skip o o₁ o₂ _ f g
-  lead-told Mode.Declarations f g = skip o o₁ o₂ _ f g
+-- ---- an equation
+module _ (M : ℕ) (gs vs : List ℕ) (W : Writer) (plan : List ℕ) (ids : Ids) (n p : ℕ) (c : Clock) (e : Equation) (q : ℕ) (same : ids .condact ≡ W .condact)
+    (free : rightFault (W .types) (W .nodes) (W .node) (W .condact) c (e .left) (e .right) ≡ none) (h : EquationPlanned M gs vs W plan (W .condact) ids n c e p q) where
+  abbrev inner : List Token
+  inner = exprTokens (yield (W .types) (W .nodes) (W .node) ids c n (e .right) .value)
 
-  tail-told : (m : Mode) → o₁ ≡ emits o (told m a ids n hs) → o₂ ≡ emits o₁ (inTree m b) → o₂ ≡ emits o (told m (a ++ b) ids n hs)
-  unfolding inTree told
-  tail-told Mode.Nothing f g = stop o o₁ o₂ _ f g
-  tail-told Mode.Tree f g = emits-then o o₁ o₂ a b f g
-  tail-told Mode.Equations f g = stop o o₁ o₂ _ f g
-  tail-told Mode.Declarations f g = stop o o₁ o₂ _ f g
+  abbrev whole : List Token
+  whole = exprTokens (rightYield (W .types) (W .nodes) (W .node) ids c (e .left) n (e .right) .value)
 
--- ---- a right side
-two-more : (k n : ℕ) → k ≡ n → n ≤ 8 → twoMore k ≡ n + 2
-two-more k n e h = omega arith
+  -- its right side in the frame that its word says
+  framed : Framed (W .types) (W .nodes) (W .node) (W .condact) (frameIn (W .flagIds) (length (e .left)) (getD plan p 0)) (e .left) inner whole
+  framed =
+      rw (h .framed) (
+      subst (λ (k : ℕ). Framed (W .types) (W .nodes) (W .node) k (frameOf (isBase c) k (ids .flag c) (e .left) (shapeAfter (W .types) (W .nodes) (W .node) k c (e .right))) (e .left) inner whole)
+      same
+      (right-framed (W .types) (W .nodes) (W .node) ids c (e .left) n (e .right) (ap (λ (k : ℕ). rightFault (W .types) (W .nodes) (W .node) k c (e .left) (e .right)) same ∙ free))
+      )
 
-module _ (types : List TypeDef) (nodes : List Node) (node : Node) (ids : Ids) (M : ℕ) (ts : List TagValue) where
-  module _ (c : Clock) (n : ℕ) (left : Span) (xs : List ℕ) (p : ℕ) (e : Expr) (q : ℕ) (fine : FineRight types nodes node ids M ts c n left xs p e q) where
-    -- what is asked of its expression
-    pub fine-inner : Fine M ts types nodes node ids c n p e q
-    unfolding rightYield
-    fine-inner = record { stands = fine .stands; clocks = fine .clocks; faultless = right-inner types nodes node ids c xs n e (fine .faultless); few = fine .few }
-
-    -- the expression's tokens in the frame that the code found
-    module _ (f : Frame) (j : Ids) (same : ids ≡ j) (is-frame : f ≡ frameOf (isBase c) (j .condact) (j .flag c) xs (shapeAfter types nodes node (j .condact) c e)) where
-      framed : Framed types nodes node (j .condact) f xs (exprTokens (yield types nodes node ids c n e .value)) (exprTokens (rightYield types nodes node ids c xs n e .value))
-      framed =
-          rw is-frame (
-          subst (λ (k : Ids). Framed types nodes node (k .condact) (frameOf (isBase c) (k .condact) (k .flag c) xs (shapeAfter types nodes node (k .condact) c e)) xs (exprTokens (yield types nodes node ids c n e .value)) (exprTokens (rightYield types nodes node ids c xs n e .value)))
-          same
-          (right-framed types nodes node ids c xs n e (fine .faultless))
-          )
-
-      pub right-made : (m : Mode) (o o₁ o₂ o₃ : Out) (r r′ : WrittenTo) → o₁ ≡ emits o (inTree m (leadIn (j .condact) (twoMore (left .count)) f)) → Made m ids n (yield types nodes node ids c n e) q o₁ o₂ r
-          → ((l : List Token) → LeadOut types nodes node f xs l → o₃ ≡ emits o₂ (inTree m l)) → r′ .holds ≡ r .holds → r′ .end ≡ r .end → Made m ids n (rightYield types nodes node ids c xs n e) q o o₃ r′
-      unfolding rightYield
-      right-made m o o₁ o₂ o₃ r r′ before made behind same-holds same-end =
-          let t : twoMore (left .count) ≡ length xs + 2 = two-more (left .count) (length xs) (fine .left-stand .many) (fine .few-left) in
-          let i : leadIn (j .condact) (twoMore (left .count)) f ++ (exprTokens (yield types nodes node ids c n e .value) ++ framed .behind) ≡ exprTokens (rightYield types nodes node ids c xs n e .value) =
-          ap (λ (k : ℕ). leadIn (j .condact) k f ++ (exprTokens (yield types nodes node ids c n e .value) ++ framed .behind)) t ∙ sym (framed .whole) in
-          record {
-            written =
-                lead-told ids n (yield types nodes node ids c n e .holds) o o₁ o₃ (leadIn (j .condact) (twoMore (left .count)) f) (exprTokens (yield types nodes node ids c n e .value) ++ framed .behind) m before
-                (tail-told ids n (yield types nodes node ids c n e .holds) o₁ o₂ o₃ (exprTokens (yield types nodes node ids c n e .value)) (framed .behind) m (made .written) (behind (framed .behind) (framed .leads-out)))
-                ∙ ap (λ (l : List Token). emits o (told m l ids n (yield types nodes node ids c n e .holds))) i;
-            holds = same-holds ∙ made .holds;
-            end = same-end ∙ made .end;
-          }
-
-  -- ---- an equation
-  module _ (clocks : Clocks) (n p : ℕ) (e : Equation) (c : Clock) (q : ℕ) (fine : FineEquation types nodes node ids M ts clocks n p e c q) (v : Clock) where
-    few-left : length (e .left) ≤ 8
-    few-left =
-        let t = equation-got M ts p e q (fine .stands) in
-        let k = counted-within 3 1 8 ts p (t .0) (t .1) (t .5) in
-        let l = times-length (name M) ts (t .0) (t .1) (t .2) (t .3) (t .6) in
-        let s : e .left ≡ t .2 = ap (λ (y : Equation). y .left) (t .8) in
-        omega (arith, k .1, l, ap length s)
-
-    module _ (on : v ≡ c) where
-      -- what is asked of its right side
-      fine-right : (l : EquationLayout) → LaidEquation M ts e q l → FineRight types nodes node ids M ts v n (l .left) (e .left) (l .right) (e .right) q
-      fine-right l laid =
-          record {
-            left-stand = laid .left;
-            few-left = few-left;
-            stands = laid .right;
-            clocks = rw on (fine .within-all);
-            faultless = rw on (fine .faultless);
-            few = rw on (fine .few);
-          }
-
-      equation-made : (m : Mode) (o o₁ o₂ : Out) (r : WrittenTo) → o₁ ≡ emits o (inTree m (Token.Count (length (e .left)) ∷ nameTokens (e .left))) → Made m ids n (rightYield types nodes node ids v (e .left) n (e .right)) q o₁ o₂ r
-          → ShowsOne m ids n (e .left) (rightYield types nodes node ids c (e .left) n (e .right)) q o o₂ r
-      unfolding equationTokens
-      equation-made m o o₁ o₂ r heading made =
-          let made′ : Made m ids n (rightYield types nodes node ids c (e .left) n (e .right)) q o₁ o₂ r = rw on at made in
-          record {
-            written = lead-told ids n (rightYield types nodes node ids c (e .left) n (e .right) .holds) o o₁ o₂ (Token.Count (length (e .left)) ∷ nameTokens (e .left)) (exprTokens (rightYield types nodes node ids c (e .left) n (e .right) .value)) m heading (made′ .written);
-            holds = made′ .holds;
-            end = made′ .end;
-          }
-
-    -- by what the code found: where its parts stand, and its clock
-    pub equation-done : (l : EquationLayout) → LaidEquation M ts e q l → (tree M ts (l .right) ≡ got (e .right) q → v ≡ orBase (fine .known)) → (m : Mode) (o o₁ o₂ : Out) (r : WrittenTo)
-        → (Spans (name M) ts (e .left) (l .left) → o₁ ≡ emits o (inTree m (Token.Count (length (e .left)) ∷ nameTokens (e .left))))
-        → (FineRight types nodes node ids M ts v n (l .left) (e .left) (l .right) (e .right) q → Made m ids n (rightYield types nodes node ids v (e .left) n (e .right)) q o₁ o₂ r)
-        → ShowsOne m ids n (e .left) (rightYield types nodes node ids c (e .left) n (e .right)) q o o₂ r
-    equation-done l laid clock m o o₁ o₂ r heading made =
-        let on : v ≡ c = clock (laid .right) ∙ sym (fine .on) in
-        equation-made on m o o₁ o₂ r (heading (laid .left)) (made (fine-right on l laid))
+  pub equation-written : (left : Span) → PartsAt M (tokens gs vs) p e left → (flagIds : List ℕ) → W .flagIds ≡ flagIds → (condact : ℕ) → W .condact ≡ condact → (word : ℕ) → word ≡ getD plan p 0 → (f : Frame) → f ≡ frameIn flagIds (left .count) word →
+      (o o₁ o₂ o₃ o₄ : Out) (end : ℕ) → o₁ ≡ emits o (Token.Count (length (e .left)) ∷ nameTokens (e .left)) → o₂ ≡ emits o₁ (leadIn condact (twoMore (left .count)) f) → WrittenAs gs vs W plan (left .end) 1 o₂ o₃ end →
+      ((ks : List Token) → LeadOut (W .types) (W .nodes) (W .node) f (e .left) ks → o₄ ≡ emits o₃ ks) →
+      (o₄ ≡ emits o (equationTokens (record { left = e .left; right = rightYield (W .types) (W .nodes) (W .node) ids c (e .left) n (e .right) .value }))) × (end ≡ q)
+  unfolding equationTokens
+  equation-written left s flagIds i condact j word u f v o o₁ o₂ o₃ o₄ end a b d g =
+      let m = s .names .many in
+      let is : f ≡ frameIn (W .flagIds) (length (e .left)) (getD plan p 0) = v ∙ rw (i, m, u) in
+      let w = d .same q (map codeOf inner) (subst (λ (x : ℕ). Writes gs vs W plan x 1 q (map codeOf inner)) (sym (s .right)) (h .written)) in
+      let t : twoMore (left .count) ≡ length (e .left) + 2 = omega (arith, m, s .few) in
+      let l : leadIn condact (twoMore (left .count)) f ≡ leadIn (W .condact) (length (e .left) + 2) (frameIn (W .flagIds) (length (e .left)) (getD plan p 0)) = rw (t, j, is) in
+      let k = g (framed .behind) (subst (λ (x : Frame). LeadOut (W .types) (W .nodes) (W .node) x (e .left) (framed .behind)) (sym is) (framed .leads-out)) in
+      let z : o₃ ≡ emits o₂ inner = w .0 ∙ emits-codes o₂ (map codeOf inner) inner refl in (
+        emits-then o o₁ o₄ (Token.Count (length (e .left)) ∷ nameTokens (e .left)) whole a
+            (emits-then o₁ o₂ o₄ (leadIn condact (twoMore (left .count)) f) (inner ++ framed .behind) b (emits-then o₂ o₃ o₄ inner (framed .behind) z k)
+            ∙ ap (emits o₁) (ap (λ (x : List Token). x ++ (inner ++ framed .behind)) l ∙ sym (framed .whole))),
+        w .1,
+      )

@@ -1,1 +1,1 @@
-pub mod Old
+pub mod Grounds

@@ -120,7 +120,7 @@ pub fn follow(table: &[u8; 72], tag: u8, value: u32) -> u32
 }
 
 // The place after so many parts that stand from a place on.
-fn past(tags: &[u8], values: &[u32], many: usize, at: usize) -> usize
+pub fn past(tags: &[u8], values: &[u32], many: usize, at: usize) -> usize
     requires { ⌜ length (now values) ≡ length (now tags) ⌝ }
     ensures { λ r. ⌜ ((q : ℕ) → Owed (now (tags .entry)) (now (values .entry)) at many q → r ≡ q) ⌝ }
 {

@@ -1,6 +1,6 @@
 -- The text of a fault, refusal by refusal. Assumes nothing.
 use Prim.Native.Nat.{ℕ, zero, suc, _<_}
-use mathlib.Core.Path.{_≡_, refl, sym, ap, _∙_}
+use mathlib.Core.Path.{_≡_, refl, sym, ap, _∙_, subst}
 use mathlib.Core.List.{List, [], _∷_}
 use mathlib.Core.Bool.{true, false}
 use mathlib.Core.Option.{Option, some}
@@ -22,9 +22,9 @@ use Rattle.stateless.proofs.Answers.{node-there, text-refused}
 use Rattle.texts.specs.Lending.{lentText, Gives}
 use Rattle.texts.specs.declared.Lending.{Lending}
 use Rattle.query.specs.declared.NodePlace.{NodePlace}
-use Rattle.query.specs.Standing.{Located}
+use Rattle.query.specs.Standing.{Roomy, Located}
 use Rattle.first_faults.specs.declared.FaultFound.{FaultFound}
-use Rattle.first_faults.specs.Faults.{foundOf, faultIn}
+use Rattle.first_faults.specs.Faults.{foundOf, faultIn, RoomToPlan}
 use Rattle.listings.specs.declared.ListingAnswer.{ListingAnswer}
 use Rattle.listings.specs.Answers.{ListingGiven}
 use Rattle.listings.proofs.Given.{given-written, given-lent}
@@ -106,3 +106,17 @@ module _ (names : List Letters) (letters : ℕ → Letters) (e : letters ≡ let
 
     pub text-lent : (n : ℕ) → r ≡ Lending.Lent n → ListingGiven (textIn names (foundOf a) (length lent)) lent after (ListingAnswer.Refused (Refusal.Lent n))
     text-lent n h = rw said (given-lent (faultText letters (faultOf (a .fault))) lent after n r h g)
+
+-- ---- room to plan
+-- by the number of names that the index has
+pub plan-named : {M m many : ℕ} {env table sites types plan : List ℕ} → m ≡ M → RoomToPlan M many env table sites types plan → RoomToPlan m many env table sites types plan
+plan-named {many} {env} {table} {sites} {types} {plan} e r = subst (λ (i : ℕ). RoomToPlan i many env table sites types plan) (sym e) r
+
+-- is room to clock
+pub plan-clocks : {M many : ℕ} {env table sites types plan : List ℕ} → RoomToPlan M many env table sites types plan → Roomy M many env table sites
+plan-clocks r = record { few = r .few; clocks = r .clocks; found = r .found; sited = r .sited }
+
+-- and stays
+pub plan-kept : {M many : ℕ} {env table sites types plan : List ℕ} (env′ table′ sites′ : List ℕ) → RoomToPlan M many env table sites types plan → length env′ ≡ length env → length table′ ≡ length table → length sites′ ≡ length sites → RoomToPlan M many env′ table′ sites′ types plan
+plan-kept env′ table′ sites′ r a b c =
+    record { few = r .few; few-tokens = r .few-tokens; clocks = omega (arith, r .clocks, a); found = omega (arith, r .found, b); sited = omega (arith, r .sited, c); typed = r .typed; planned = r .planned }

@@ -19,25 +19,25 @@ use Rattle.definitions.specs.Output.{condactId, ClockedNode, nodeFaults}
 use Rattle.definitions.specs.Answer.{Input, clockings}
 use Rattle.shapes.proofs.Clockless.{no-node-faults}
 use Rattle.layout.specs.declared.NodeLayout.{NodeLayout}
-use Rattle.layout.specs.declared.SheetLayout.{SheetLayout}
-use Rattle.layout.specs.Laid.{LaidNode, LaidSheet, Places}
-use Rattle.typedefs.specs.Table.{Table}
-use Rattle.defaults.specs.Has.{DefaultsKnown}
+use Rattle.layout.specs.Laid.{LaidNode}
 use Rattle.listing.proofs.Laws.{clocked-many}
+use Rattle.fault.specs.Value.{faultOf}
 use Rattle.findings.specs.Findings.{findingsIn, noFault}
 use Rattle.infer_clocks.specs.declared.NodeClocked.{NodeClocked}
-use Rattle.infer_clocks.specs.Clocked.{ClocksStand, Sole, ClockedOrDeep}
-use Rattle.stateless.specs.Faults.{rightFault, atEquation, oldFault}
-use Rattle.stateless.specs.Sheets.{withinAll, oneOf, faultsBy}
-use Rattle.stateless.proofs.Nodes.{clockings-form, node-here, same-clocking, not-too-deep, clocked, all-within, node-faults, rewriting-faulty}
+use Rattle.infer_clocks.specs.Clocked.{ClocksStand, ClockedOrDeep, SitesTold}
+use Rattle.checking.proofs.Only.{sites-alone}
+use Rattle.skeleton.specs.Sites.{EquationsSited}
+use Rattle.stateless.specs.Faults.{oldFault}
+use Rattle.stateless.specs.Sheets.{oneOf, faultsBy}
+use Rattle.stateless.proofs.Nodes.{clockings-form, node-here, node-checks, same-clocking, not-too-deep, clocked, node-faults, rewriting-faulty, faultless}
 use Rattle.stateless.proofs.Stops as stops
-use Rattle.fault.specs.Value.{faultOf}
-use Rattle.environment.specs.Environment.{Agrees}
-use Rattle.rewriting_faults.specs.declared.FirstFault.{FirstFault}
-use Rattle.rewriting_faults.specs.Met.{firstFaultOf, InScope}
-use Rattle.query.specs.Standing.{Roomy}
-use Rattle.first_faults.specs.declared.Tables.{Tables}
-use Rattle.first_faults.specs.Faults.{SheetTables, faultIn}
+use Rattle.index.specs.declared.Index.{Index}
+use Rattle.index.specs.Indexed.{Indexed}
+use Rattle.node_plan.specs.declared.Outcome.{Outcome}
+use Rattle.node_plan.specs.Outcomes.{inEquation, metBy, NodePlanned, PlansNode}
+use Rattle.first_faults.specs.declared.FaultFound.{FaultFound}
+use Rattle.first_faults.specs.declared.NodeFound.{NodeFound}
+use Rattle.first_faults.specs.Faults.{foundOf, faultIn, FoundIn}
 
 -- ---- an item of a list
 pub item-none : {A : Type 0} (l : List A) (j : ℕ) → length l ≤ j → getElem? l j ≡ none
@@ -60,47 +60,6 @@ module _ (t : List ℕ) (n m j : ℕ) (e : m ≡ length (clockFaults (findingsIn
 
   pub item-past : (o : Option NodeFault) → o ≡ none → m ≤ j → o ≡ getElem? (clockFaults (findingsIn t n)) j
   item-past o f h = f ∙ sym (item-none (clockFaults (findingsIn t n)) j (omega arith))
-
--- the same fault, its equation as a word
-pub same-fault : (b : Bool) (w e n : ℕ) (f : Fault) → (b ≡ true → e < n) → (e < n → w ≡ e)
-    → _≡_ {A = Option NodeFault} (choose b (some (record { equation = w; fault = f })) none) (choose b (some (record { equation = e; fault = f })) none)
-same-fault true w e n f h k = ap (λ (x : ℕ). some (record { equation = x; fault = f })) (k (h refl))
-same-fault false w e n f h k = refl
-
--- ---- the fault that rewriting meets is in one of the node's equations
-module _ (types : List TypeDef) (nodes : List Node) (n : Node) (condact : ℕ) where
-  old-within : (i : ℕ) (cs : List Clocked) (f : NodeFault) → oldFault types nodes n condact i cs ≡ some f → f .equation < i + length cs
-  unfolding oldFault
-  old-within i [] f h = absurd (Option·none-ne-some f h)
-  old-within i (c ∷ cs) f h = go (rightFault types nodes n condact (c .clock) (c .equation .left) (c .equation .right)) h (old-within (suc i) cs f)
-    where
-      go : (o : Option Fault) → orElse (atEquation types nodes n i o) (oldFault types nodes n condact (suc i) cs) ≡ some f
-          → (oldFault types nodes n condact (suc i) cs ≡ some f → f .equation < suc i + length cs) → f .equation < i + suc (length cs)
-      go none e r = omega (arith, r e)
-      go (some g) e r = let x = ap (λ (y : NodeFault). y .equation) (Option·some-injective (record { equation = i; fault = g }) f e) in omega (arith, x)
-
--- the sheet and a node of it
-in-scope : (gs vs : List ℕ) (t : Tables) (r : Input) (n : Node) (q : ℕ) (l : NodeLayout) → SheetTables gs vs t r → LaidNode (t .names) (tokens gs vs) n q l
-    → InScope gs vs (t .places) (t .defs) (t .has) (record { names = t .names; nodes = t .nodes; types = t .types; layout = l }) (r .sheet .types) (r .sheet .nodes) n
-in-scope gs vs t r n q l h d = record { standing = h .nodes; end = q; laid = d; table = h .types; defaulted = h .defaulted }
-
--- the first fault that rewriting meets, told with one of the node's equations
-module _ (gs vs env : List ℕ) (t : Tables) (r : Input) (n : Node) (q : ℕ) (l : NodeLayout) (k : Clocking) (h : SheetTables gs vs t r) (d : LaidNode (t .names) (tokens gs vs) n q l) (c : clocking n ≡ formed k) where
-  told-within : (b : Bool) (e : ℕ) (f : Fault)
-      → choose b (some (record { equation = e; fault = f })) none ≡ oldFault (r .sheet .types) (r .sheet .nodes) n (condactId (r .names)) 0 (k .equations) → b ≡ true → e < l .equations .count
-  told-within true e f o u =
-      let a = old-within (r .sheet .types) (r .sheet .nodes) n (condactId (r .names)) 0 (k .equations) (record { equation = e; fault = f }) (sym o) in
-      let b = clocked-many (k .names) (n .equations) (k .equations) (clocked n k c) in
-      omega (arith, a, b, length-map (k .equations) (λ (x : Clocked). x .clock), d .equations .many)
-  told-within false e f o u = let z : _≡_ {A = ℕ} 0 1 = cc in absurd (omega arith)
-
-  pub rewriting-met : (f : FirstFault) (o : Option NodeFault) → Agrees env (t .names) (k .names) → clockFaults (k .findings) ≡ []
-      → ((types : List TypeDef) (nodes : List Node) (n : Node) (clocks : Clocks) (cs : List Clocked) → InScope gs vs (t .places) (t .defs) (t .has) (record { names = t .names; nodes = t .nodes; types = t .types; layout = l }) types nodes n → Agrees env (t .names) clocks → clockedBy clocks (n .equations) ≡ formed cs → withinAll cs ≡ true → firstFaultOf f ≡ oldFault types nodes n (t .condact) 0 cs)
-      → ((f .found ≡ true → f .equation < l .equations .count) → o ≡ firstFaultOf f)
-      → o ≡ oldFault (r .sheet .types) (r .sheet .nodes) n (condactId (r .names)) 0 (k .equations)
-  rewriting-met f o a z F W =
-      let m = F (r .sheet .types) (r .sheet .nodes) n (k .names) (k .equations) (in-scope gs vs t r n q l h d) a (clocked n k c) (all-within n k c z) ∙ ap (λ (x : ℕ). oldFault (r .sheet .types) (r .sheet .nodes) n x 0 (k .equations)) (h .condact) in
-      W (told-within (f .found) (f .equation) (faultOf (f .fault)) m) ∙ m
 
 -- ---- which fault is fault j
 none-in : {A : Type 0} (l : List A) → length l ≤ 0 → l ≡ []
@@ -168,8 +127,57 @@ module _ (env tb : List ℕ) (M : ℕ) (n : Node) (k : Clocking) (a : NodeClocke
       let c = clocks-as env tb M a (NodeClocked.Clocked passes m) (clocking n) e C in
       subst (λ (x : Clocking). ClocksStand env tb M passes m x) (same-clocking n (c .0) k (c .1) f) (c .2)
 
+-- ---- what planning met
+told-met : (b : Bool) (e : ℕ) (f : Fault) → _≡_ {A = Option NodeFault} (choose b (some (record { equation = e; fault = f })) none) (inEquation e (choose b (some f) none))
+told-met true e f = refl
+told-met false e f = refl
+
+pub met-as : (a : FaultFound) (o : Outcome) → a .found ≡ o .met .found → a .equation ≡ o .equation → a .fault ≡ o .met .fault → foundOf a ≡ metBy o
+met-as a o x y z = rw (x, y, z) (told-met (o .met .found) (o .equation) (faultOf (o .met .fault)))
+
+-- by the id of `condact` that the index has
+pub by-condact : (M : ℕ) (gs vs plan flags firsts holds types : List ℕ) (tys : List TypeDef) (ns : List Node) (n : Node) (g h : ℕ) (cs : List Clocked) (p q : ℕ) (o : Outcome) → g ≡ h
+    → PlansNode M gs vs plan flags firsts holds types tys ns n g cs p q o → PlansNode M gs vs plan flags firsts holds types tys ns n h cs p q o
+by-condact M gs vs plan flags firsts holds types tys ns n g h cs p q o e x = subst (λ (i : ℕ). PlansNode M gs vs plan flags firsts holds types tys ns n i cs p q o) e x
+
+-- as many equations with clocks as the layout says
+pub as-many : (M : ℕ) (ts : List TagValue) (n : Node) (q : ℕ) (l : NodeLayout) (k : Clocking) → LaidNode M ts n q l → clocking n ≡ formed k → length (k .equations) ≡ l .equations .count
+as-many M ts n q l k d f =
+    let b = clocked-many (k .names) (n .equations) (k .equations) (clocked n k f) in
+    omega (arith, b, length-map (k .equations) (λ (x : Clocked). x .clock), d .equations .many)
+
+-- every site has its clock, where there is no clock fault
+pub all-sited : (M : ℕ) (gs vs sites : List ℕ) (n : Node) (k : Clocking) (p q : ℕ) → clocking n ≡ formed k → clockFaults (k .findings) ≡ [] → SitesTold M gs vs sites (k .findings) (k .equations) p q → EquationsSited M gs vs sites (k .equations) p q
+all-sited M gs vs sites n k p q f z s = s .sited (sites-alone (k .findings) z (node-checks n k f .shallow))
+
+-- ---- what is found in a clocked node
+module _ (M : ℕ) (gs vs plan flags firsts holds types : List ℕ) (r : Input) (n : Node) (k : Clocking) (l : NodeLayout) (t : List ℕ) (m count j : ℕ) (all : findingsIn t m ≡ k .findings)
+    (counted : count ≡ length (clockFaults (findingsIn t m))) (uses : usesClocks n ≡ true) where
+  abbrev this : ClockedNode
+  this = record { node = n; clocking = k }
+
+  -- a clock fault: the node has faults
+  pub found-clock : (a : NodeFound) (o : FaultFound) → a .fault ≡ o → 0 < count → foundOf o ≡ getElem? (clockFaults (findingsIn t m)) j → FoundIn M gs vs plan flags firsts holds types r this l j a
+  found-clock a o same h e = record {
+    fault = ap foundOf same ∙ from-clocks r n k t m count j (foundOf o) all counted h e;
+    planned = λ z none. absurd (omega (arith, h, counted, ap (λ (x : List Finding). length (clockFaults x)) all, ap length (faultless (r .names) (r .sheet) this none .0)));
+  }
+
+  -- none but the first
+  pub found-later : (a : NodeFound) → count ≤ 0 → 0 < j → foundOf (a .fault) ≡ none → FoundIn M gs vs plan flags firsts holds types r this l j a
+  found-later a h later e = record { fault = none-later r n k t m count j (foundOf (a .fault)) all counted h later e; planned = λ z none. absurd (omega arith) }
+
+  -- what planning met
+  pub found-planned : (a : NodeFound) (o : Outcome) → foundOf (a .fault) ≡ metBy o → a .counts ≡ o .counts → count ≤ 0 → j ≤ 0
+      → PlansNode M gs vs plan flags firsts holds types (r .sheet .types) (r .sheet .nodes) n (condactId (r .names)) (k .equations) (l .equations .at) (l .equations .end) o
+      → FoundIn M gs vs plan flags firsts holds types r this l j a
+  found-planned a o same counts h first p = record {
+    fault = from-rewriting r n k t m count j (foundOf (a .fault)) all counted h first uses (same ∙ p .met);
+    planned = λ z none. rw counts (p .planned (faultless (r .names) (r .sheet) this none .1 uses));
+  }
+
 -- ---- node k
-module _ (gs vs : List ℕ) (t : Tables) (r : Input) (ns : List ClockedNode) (h : SheetTables gs vs t r) (f : clockings 0 (r .sheet .nodes) ≡ accepted ns) (k j : ℕ) where
+module _ (gs vs : List ℕ) (t : Index) (r : Input) (ns : List ClockedNode) (h : Indexed gs vs t r) (f : clockings 0 (r .sheet .nodes) ≡ accepted ns) (k j : ℕ) where
   pub past-nodes : (o : Option NodeFault) → t .nodes ≤ k → o ≡ none → o ≡ faultIn r (getElem? ns k) j
   past-nodes o l e = e ∙ sym (ap (λ (x : Option ClockedNode). faultIn r x j) (item-none ns k (omega (arith, l, clockings-form 0 (r .sheet .nodes) ns f .same-length, h .nodes .count))))
 
@@ -184,38 +192,7 @@ module _ (gs vs : List ℕ) (t : Tables) (r : Input) (ns : List ClockedNode) (h 
       ∙ sym (ap (λ (x : Option ClockedNode). faultIn r x j) (here .here))
 
 -- it is laid out where it stands
-pub laid-at : {P : Type 0} (gs vs : List ℕ) (t : Tables) (r : Input) → SheetTables gs vs t r → (k : ℕ) (n : Node) → getElem? (r .sheet .nodes) k ≡ some n → (l : NodeLayout)
+pub laid-at : {P : Type 0} (gs vs : List ℕ) (t : Index) (r : Input) → Indexed gs vs t r → (k : ℕ) (n : Node) → getElem? (r .sheet .nodes) k ≡ some n → (l : NodeLayout)
     → ((n : Node) (q : ℕ) → node (t .names) (tokens gs vs) (getD (t .places) k 0) ≡ got n q → LaidNode (t .names) (tokens gs vs) n q l)
     → ((q : ℕ) → LaidNode (t .names) (tokens gs vs) n q l → P) → P
 laid-at gs vs t r h k n e l L F = let p = h .nodes .each .stands k n e in F (p .0) (L n (p .0) (p .1))
-
--- the clocks of the only node are those of node k
-pub sole-at : (env : List ℕ) (M : ℕ) (nodes : List Node) (k : ℕ) → k < length nodes
-    → ((n : Node) (c : Clocking) → getElem? nodes k ≡ some n → clocking n ≡ formed c → usesClocks n ≡ true → Agrees env M (c .names)) → Sole env M nodes
-sole-at env M nodes k few F =
-    record { known = λ n c e f u. let z : k ≡ 0 = omega (arith, few, ap length e) in F n c (ap₂ (λ (l : List Node) (i : ℕ). getElem? l i) e z) f u }
-
--- of other sheets nothing is said
-pub sole-else : (env : List ℕ) (M : ℕ) (nodes : List Node) → (length nodes ≡ 1 → Sole env M nodes) → Sole env M nodes
-sole-else env M nodes F = record { known = λ n c e f u. F (ap length e) .known n c e f u }
-
--- ---- the tables of a sheet
-same-times : {A : Type 0} (R : Reader A) (ts : List TagValue) (n w count at q : ℕ) (l : List A) → w ≡ count → (w ≤ 32 → n ≡ w) → count ≤ 32 → times count R ts at ≡ got l q → times n R ts at ≡ got l q
-same-times R ts n w count at q l a b c g = let e : n ≡ count = b (omega arith) ∙ a in rw e g
-
-pub tabled : (gs vs : List ℕ) (M condact types nodes w v : ℕ) (places defs has : List ℕ) (s : SheetLayout) (r : Input) → LaidSheet M (tokens gs vs) (r .sheet) s
-    → w ≡ s .types .count → (types ≤ 32) × (w ≤ 32 → types ≡ w) → v ≡ s .nodes .count → (nodes ≤ 16) × (v ≤ 16 → nodes ≡ v)
-    → ((l : List TypeDef) (q : ℕ) → times types (typeDef M) (tokens gs vs) (s .types .at) ≡ got l q → Table M (tokens gs vs) defs types l)
-    → ((l : List TypeDef) → Table M (tokens gs vs) defs types l → DefaultsKnown l types types has)
-    → ((l : List Node) (q : ℕ) → times nodes (node M) (tokens gs vs) (s .nodes .at) ≡ got l q → Places (node M) (tokens gs vs) places l)
-    → condact ≡ condactId (r .names) → SheetTables gs vs (record { names = M; condact = condact; nodes = nodes; types = types; places = places; defs = defs; has = has }) r
-tabled gs vs M condact types nodes w v places defs has s r h a b c d D H P e =
-    let table = D (r .sheet .types) (s .types .end) (same-times (typeDef M) (tokens gs vs) types w (s .types .count) (s .types .at) (s .types .end) (r .sheet .types) a (b .1) (h .few-types) (h .types .items)) in
-    let few = h .few-nodes in
-    let each = P (r .sheet .nodes) (s .nodes .end) (same-times (node M) (tokens gs vs) nodes v (s .nodes .count) (s .nodes .at) (s .nodes .end) (r .sheet .nodes) c (λ y. d .1 (omega arith)) (omega arith) (h .nodes .items)) in
-    let many : length (r .sheet .nodes) ≡ nodes = let x : nodes ≡ v = d .1 (omega arith) in omega (arith, x, c, h .nodes .many) in
-    record { nodes = record { count = many; each = each }; types = table; defaulted = H (r .sheet .types) table; condact = e }
-
--- the working tables keep their room
-pub roomy-still : (M many : ℕ) (env table env′ table′ : List ℕ) → Roomy M many env table → length env′ ≡ length env → length table′ ≡ length table → Roomy M many env′ table′
-roomy-still M many env table env′ table′ r a b = record { few = r .few; clocks = omega (arith, r .clocks, a); found = omega (arith, r .found, b) }

@@ -1,4 +1,4 @@
--- Fault records put over the front of a lent list, one after another, node after node up to the first in which too deep a clock is formed.
+-- Fault records put over the front of a lent list, one after another, node after node.
 -- Assumes nothing.
 use Prim.Native.Nat.{ℕ, zero, suc, _+_, _*_, _/_, _≤_, _<_, min}
 use mathlib.Core.Path.{_≡_, refl, sym, ap, _∙_, subst}
@@ -6,28 +6,23 @@ use mathlib.Core.List.{List, [], _∷_, _++_, map, append-nil}
 use mathlib.Core.Bool.{Bool, true, false}
 use mathlib.Core.Option.{Option, none, some}
 use native.Mathlib.Omega.{arith}
-use native.Mathlib.Numerals.{add-one}
 use lib.Dec.{leb}
 use borrow.Author.Tests.{leb-true, leb-false}
-use lib.ListN.{length, take, drop, getElem?, length-append, length-map, drop-of-length-le}
+use lib.ListN.{length, take, getElem?, length-append, length-map}
 use lib.Seq.{take-all}
 use Rattle.definitions.specs.declared.FaultRecord.{FaultRecord}
 use Rattle.definitions.specs.Lists.{choose, join, over}
-use Rattle.definitions.specs.Tree.{Node}
 use Rattle.definitions.specs.Refusals.{accepted}
-use Rattle.definitions.specs.InferClocks.{Fault, NodeFault, faultNumber, clocking}
+use Rattle.definitions.specs.InferClocks.{Fault, NodeFault, faultNumber}
 use Rattle.definitions.specs.Output.{ClockedNode, nodeFaults}
 use Rattle.definitions.specs.Answer.{Input, clockings, firstOf}
 use Rattle.spelling.specs.Writing.{overAt}
 use Rattle.spelling.proofs.Writing.{over-front, over-then, length-over}
-use Rattle.infer_clocks.specs.Clocked.{isDeep, Deeply}
-use Rattle.infer_clocks.proofs.Laws.{Ahead, ahead-end, ahead-step, ahead-deep}
 use Rattle.stateless.specs.Sheets.{firstFaultsFrom}
 use Rattle.stateless.proofs.Nodes.{clockings-form, node-here, all-before, faults-end, faults-front}
 use Rattle.query.specs.Words.{recordWords, entriesOver}
 use Rattle.query.proofs.Words.{join-last}
-use Rattle.first_faults.specs.declared.NodesWalked.{NodesWalked}
-use Rattle.first_faults.specs.Faults.{faultIn, Recorded, Walks}
+use Rattle.first_faults.specs.Faults.{faultIn, Recorded}
 
 -- ---- entries over a list
 words-long : (l : List FaultRecord) → length (join (map recordWords l)) ≡ 3 * length l
@@ -172,49 +167,3 @@ module _ (r : Input) (ns : List ClockedNode) (clocks : clockings 0 (r .sheet .no
 
   pub first-end : (k m : ℕ) (now : List ℕ) → length (r .sheet .nodes) ≤ k → Recorded lent (firstFaultsFrom r 0 (take k ns)) m now → Recorded lent (firstFaultsFrom r 0 ns) m now
   first-end k m now past h = let e = all-before (clockings-form 0 (r .sheet .nodes) ns clocks) k past in rw e at h
-
--- the item at a place, and those left
-item-here : {A : Type 0} (l : List A) (k : ℕ) → k < length l → (a : A) × (getElem? l k ≡ some a) × (drop k l ≡ a ∷ drop (suc k) l)
-item-here [] k h = absurd (omega arith)
-item-here (a ∷ l) zero h = (a, refl, refl)
-item-here (a ∷ l) (suc k) h = item-here l k (omega arith)
-
-module _ (r : Input) (k : ℕ) (ahead : Ahead k (drop k (r .sheet .nodes)) (clockings 0 (r .sheet .nodes))) where
-  module _ (b : Bool) (few : k < length (r .sheet .nodes)) (told : (n : Node) → getElem? (r .sheet .nodes) k ≡ some n → b ≡ isDeep (clocking n)) where
-    here : (n : Node) × (drop k (r .sheet .nodes) ≡ n ∷ drop (k + 1) (r .sheet .nodes)) × (b ≡ isDeep (clocking n))
-    here = let x = item-here (r .sheet .nodes) k few in (x .0, x .2 ∙ ap (λ (i : ℕ). x .0 ∷ drop i (r .sheet .nodes)) (sym (add-one k)), told (x .0) (x .1))
-
-    pub walk-step : b ≡ false → Ahead (k + 1) (drop (k + 1) (r .sheet .nodes)) (clockings 0 (r .sheet .nodes))
-    walk-step e = ahead-step k (drop k (r .sheet .nodes)) (clockings 0 (r .sheet .nodes)) ahead (here .0) (drop (k + 1) (r .sheet .nodes)) (here .1) b (here .2) e
-
-    pub walk-deep : (lent now : List ℕ) → b ≡ true → Walks r lent now (NodesWalked.Deep k)
-    unfolding Walks Deeply
-    walk-deep lent now e = ahead-deep k (drop k (r .sheet .nodes)) (clockings 0 (r .sheet .nodes)) ahead (here .0) (drop (k + 1) (r .sheet .nodes)) (here .1) b (here .2) e
-
-  pub walk-end : (lent now : List ℕ) (m : ℕ) → length (r .sheet .nodes) ≤ k → ((ns : List ClockedNode) → clockings 0 (r .sheet .nodes) ≡ accepted ns → Recorded lent (firstFaultsFrom r 0 (take k ns)) m now) → Walks r lent now (NodesWalked.Faulty m)
-  unfolding Walks Deeply
-  walk-end lent now m past f =
-      let n = ahead-end k (drop k (r .sheet .nodes)) (clockings 0 (r .sheet .nodes)) ahead (drop-of-length-le (r .sheet .nodes) {i = k} past) in
-      (n .0, n .1, first-end r (n .0) (n .1) lent k m now past (f (n .0) (n .1)))
-
--- ---- what was found, recorded in one list and copied over another
-module _ (w : NodesWalked) where
-  pub walks-deep : (r : Input) (first kept lent now : List ℕ) (k : ℕ) → w ≡ NodesWalked.Deep k → Walks r first kept w → Walks r lent now (NodesWalked.Deep k)
-  unfolding Walks
-  walks-deep r first kept lent now k e h = rw e at h
-
-  pub walks-copied : (r : Input) (first kept lent now : List ℕ) (m : ℕ) → w ≡ NodesWalked.Faulty m → Walks r first kept w → ((lent′ : List ℕ) (l : List FaultRecord) → Recorded lent′ l m kept → Recorded lent l m now) → Walks r lent now (NodesWalked.Faulty m)
-  unfolding Walks
-  walks-copied r first kept lent now m e h copy =
-      let x : Walks r first kept (NodesWalked.Faulty m) = rw e at h in
-      (x .0, x .1, copy first (firstFaultsFrom r 0 (x .0)) (x .2))
-
--- which of the two it is
-pub deep-uncounted : (k m : ℕ) → NodesWalked.Deep k ≡ NodesWalked.Faulty m → m ≤ 16
-deep-uncounted k m e = let z : _≡_ {A = ℕ} 0 1 = cc in absurd (omega arith)
-
-pub faulty-counted : (n : ℕ) → n ≤ 16 → (m : ℕ) → NodesWalked.Faulty n ≡ NodesWalked.Faulty m → m ≤ 16
-faulty-counted n h m e = let x : n ≡ m = cc in omega arith
-
-pub not-deep : {A : Type 0} (m k : ℕ) → NodesWalked.Faulty m ≡ NodesWalked.Deep k → A
-not-deep m k e = let z : _≡_ {A = ℕ} 0 1 = cc in absurd (omega arith)

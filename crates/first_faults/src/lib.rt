@@ -1,14 +1,14 @@
-// The faults of an accepted sheet's nodes: fault j of node k, where all clocks are formed; and each faulty node's first fault, or the
-// first node in which too deep a clock is formed.
-// `tags` and `values` are as long as each other. `env` and `table` are the tables that clocks and findings stand in.
+// The faults of an accepted sheet's nodes: a node clocked and planned, and its faults; and a list of faulty nodes' first ones.
+// `tags` and `values` are as long as each other. `env`, `table` and `sites` are the tables that clocks, findings and sites stand in;
+// `types`, `plan`, `flags`, `firsts` and `holds` are those that a node is planned in.
 use definitions::MOST_NAMES;
-use definitions::MOST_NODES;
-use definitions::MOST_TYPES;
 use fault::Fault;
+use index::Index;
 use infer_clocks::NodeClocked;
 use layout::NodeLayout;
-use rewriting_faults::FirstFault;
-use rewriting_faults::Scope;
+use needs::Counts;
+use node_plan::Outcome;
+use plan::Extent;
 ghost use mathlib.Core.Path.{_≡_};
 ghost use mathlib.Core.List.{List, [], _∷_, _++_};
 ghost use mathlib.Core.Bool.{true, false};
@@ -18,39 +18,18 @@ ghost use lib.ListN.{length, take, getElem?};
 ghost use Rattle.definitions.specs.declared.FaultRecord.{FaultRecord};
 ghost use Rattle.definitions.specs.Bytes.{tokens};
 ghost use Rattle.definitions.specs.Tree.{Node};
-ghost use Rattle.definitions.specs.Reading.{got};
-ghost use Rattle.definitions.specs.Grammar.{sheet};
-ghost use Rattle.definitions.specs.InferClocks.{NodeFault, Clocking, formed, clocking, clockFaults, usesClocks};
+ghost use Rattle.definitions.specs.InferClocks.{NodeFault, Clocked, Clocking, formed, clocking, clockFaults, usesClocks};
 ghost use Rattle.definitions.specs.Refusals.{accepted};
 ghost use Rattle.definitions.specs.Output.{condactId, ClockedNode, nodeFaults};
 ghost use Rattle.definitions.specs.Answer.{Input, clockings, firstOf};
-ghost use Rattle.environment.specs.Environment.{Agrees};
 ghost use Rattle.spelling.specs.Writing.{overAt};
 ghost use Rattle.findings.specs.Findings.{findingsIn};
 ghost use Rattle.layout.specs.Laid.{LaidNode};
-ghost use Rattle.infer_clocks.specs.Clocked.{isDeep, ClocksStand, Sole};
-ghost use Rattle.stateless.specs.Faults.{oldFault};
-ghost use Rattle.rewriting_faults.specs.Met.{firstFaultOf};
-ghost use Rattle.query.specs.Standing.{Roomy};
-ghost use Rattle.first_faults.specs.Faults.{SheetTables, foundOf, faultIn, Recorded, Walks};
-
-// The most nodes, as a word.
-const NODES: u32 = MOST_NODES as u32;
-
-// The words of a record for each node.
-const KEPT: usize = 3 * MOST_NODES;
-
-// A sheet: how many names it has and the id of `condact` among them, how many nodes and types' definitions; where each of these
-// stands, and for each definition 1 if it has a default.
-pub struct Tables {
-    pub names: u32,
-    pub condact: u32,
-    pub nodes: usize,
-    pub types: usize,
-    pub places: [usize; MOST_NODES],
-    pub defs: [usize; MOST_TYPES],
-    pub has: [u8; MOST_TYPES],
-}
+ghost use Rattle.infer_clocks.specs.Clocked.{isDeep, ClocksStand, SitesTold};
+ghost use Rattle.skeleton.specs.Sites.{EquationsSited};
+ghost use Rattle.index.specs.Indexed.{Indexed};
+ghost use Rattle.node_plan.specs.Outcomes.{metBy, NodePlanned, PlansNode};
+ghost use Rattle.first_faults.specs.Faults.{foundOf, faultIn, FoundIn, Recorded, RoomToPlan};
 
 // Whether there is such a fault, in which equation, and which it is.
 pub struct FaultFound {
@@ -59,51 +38,11 @@ pub struct FaultFound {
     pub fault: Fault,
 }
 
-// A node: whether too deep a clock is formed in it, and else a fault of it.
+// A node: whether too deep a clock is formed in it, and else a fault of it; and how much is needed, where it was planned without one.
 pub struct NodeFound {
     pub deep: bool,
     pub fault: FaultFound,
-}
-
-// A sheet: the first node in which too deep a clock is formed, or how many nodes are faulty.
-pub enum NodesWalked {
-    Deep(usize),
-    Faulty(usize),
-}
-
-// A number below n as a word.
-fn word_below(x: usize, n: u32) -> u32
-    ensures { λ r. ⌜ (x < n → r ≡ x) ⌝ }
-{
-    if x < widths::wide(n) {
-        return x as u32;
-    }
-    0
-}
-
-// The tables of a sheet.
-pub fn tables_of(tags: &[u8], values: &[u32], names: u32, condact: u32) -> Tables
-    requires { ⌜ length (now values) ≡ length (now tags) ⌝ }
-    ensures { λ r. ⌜ (r .names ≡ names) × (r .nodes ≤ 16) × (r .types ≤ 32) ⌝ }
-    ensures { λ r. ⌜ ((i : Input) (q : ℕ) → sheet names (tokens (now (tags .entry)) (now (values .entry))) 0 ≡ got (i .sheet) q → condact ≡ condactId (i .names) → SheetTables (now (tags .entry)) (now (values .entry)) r i) ⌝ }
-{
-    let whole = layout::sheet_at(tags, values, names);
-    let t = whole.types;
-    let n = whole.nodes;
-    let types = widths::least(widths::wide(t.count), MOST_TYPES);
-    let nodes = widths::least(widths::wide(n.count), MOST_NODES);
-    let defs = layout::definition_places(tags, values, names, types, t.at);
-    let has = defaults::has_defaults(tags, values, names, &defs, types);
-    let places = layout::node_places(tags, values, names, nodes, n.at);
-    Tables {
-        names,
-        condact,
-        nodes,
-        types,
-        places,
-        defs,
-        has,
-    }
+    pub counts: Counts,
 }
 
 // No such fault.
@@ -118,12 +57,29 @@ fn no_fault() -> FaultFound
     }
 }
 
-// No such fault, and no clock that is too deep.
-fn nothing_found() -> NodeFound
-    ensures { λ r. ⌜ (r .deep ≡ false) × (foundOf (r .fault) ≡ none) ⌝ }
+// A fault of a node that is not planned.
+fn unplanned(deep: bool, fault: FaultFound) -> NodeFound
+    ensures { λ r. ⌜ (r .deep ≡ deep) × (r .fault ≡ fault) ⌝ }
+{
+    let counts = Counts {
+        flags: 0,
+        firsts: 0,
+        holds: 0,
+        condact: false,
+    };
+    NodeFound {
+        deep,
+        fault,
+        counts,
+    }
+}
+
+// No such fault, of a node that is not planned.
+pub fn nothing_found(deep: bool) -> NodeFound
+    ensures { λ r. ⌜ (r .deep ≡ deep) × (foundOf (r .fault) ≡ none) ⌝ }
 {
     let fault = no_fault();
-    NodeFound { deep: false, fault }
+    unplanned(deep, fault)
 }
 
 // Clock fault j by n findings, among which there are m faults.
@@ -142,81 +98,124 @@ fn clock_fault(table: &[u32], n: usize, m: usize, j: usize) -> FaultFound
     }
 }
 
-// What rewriting met in one of so many equations.
-fn met_fault(f: FirstFault, count: u32) -> FaultFound
-    ensures { λ r. ⌜ ((f .found ≡ true → f .equation < count) → foundOf r ≡ firstFaultOf f) ⌝ }
+// What planning met.
+fn met_fault(o: Outcome) -> FaultFound
+    ensures { λ r. ⌜ foundOf r ≡ metBy o ⌝ }
 {
-    let found = f.found;
-    let fault = f.fault;
-    let equation = word_below(f.equation, count);
+    let met = o.met;
+    let fault = met.fault;
     FaultFound {
-        found,
-        equation,
+        found: met.found,
+        equation: o.equation,
         fault,
     }
 }
 
-// The first fault that rewriting meets in a node with this layout, whose clocks fit.
-fn rewriting_fault(tags: &[u8], values: &[u32], t: Tables, l: NodeLayout, env: &[u32]) -> FaultFound
+// A node with this layout, whose sites have their clocks, planned among the nodes and types of its sheet.
+fn plan_of(
+    tags: &[u8],
+    values: &[u32],
+    t: Index,
+    l: NodeLayout,
+    sites: &[u32],
+    types: &mut [u32],
+    plan: &mut [u32],
+    flags: &mut [u32],
+    firsts: &mut [u32],
+    holds: &mut [u32],
+) -> Outcome
     requires { ⌜ length (now values) ≡ length (now tags) ⌝ }
     requires { ⌜ (t .nodes ≤ 16) × (t .types ≤ 32) ⌝ }
-    ensures { λ r. ⌜ ((i : Input) (n : Node) (q : ℕ) (k : Clocking) → SheetTables (now (tags .entry)) (now (values .entry)) t i → LaidNode (t .names) (tokens (now (tags .entry)) (now (values .entry))) n q l → clocking n ≡ formed k → Agrees (now (env .entry)) (t .names) (k .names) → clockFaults (k .findings) ≡ [] → foundOf r ≡ oldFault (i .sheet .types) (i .sheet .nodes) n (condactId (i .names)) 0 (k .equations)) ⌝ }
+    ensures { λ r. ⌜ ((i : Input) (node : Node) (q : ℕ) (cs : List Clocked) → Indexed (now (tags .entry)) (now (values .entry)) t i → LaidNode (t .names) (tokens (now (tags .entry)) (now (values .entry))) node q l → EquationsSited (t .names) (now (tags .entry)) (now (values .entry)) (now (sites .entry)) cs (l .equations .at) (l .equations .end) → length cs ≡ l .equations .count → t .names ≤ length (now (types .entry)) → length (now (tags .entry)) ≤ length (now (plan .entry)) → length (now (tags .entry)) ≤ 4096 → PlansNode (t .names) (now (tags .entry)) (now (values .entry)) (now (plan .exit)) (now (flags .exit)) (now (firsts .exit)) (now (holds .exit)) (now (types .exit)) (i .sheet .types) (i .sheet .nodes) node (condactId (i .names)) cs (l .equations .at) (l .equations .end) r) ⌝ }
 {
+    let table = extents::parts_table();
     let places = t.places;
     let defs = t.defs;
     let has = t.has;
-    let s = Scope {
+    let k = Extent {
         names: t.names,
         nodes: t.nodes,
         types: t.types,
-        layout: l,
     };
-    let f = rewriting_faults::first_fault(tags, values, &places, &defs, &has, env, s, t.condact);
-    let e = l.equations;
-    met_fault(f, e.count)
+    node_plan::plan_laid(
+        tags,
+        values,
+        &table,
+        sites,
+        &places,
+        &defs,
+        &has,
+        types,
+        plan,
+        flags,
+        firsts,
+        holds,
+        k,
+        l,
+        t.condact,
+    )
 }
 
-// Fault j of a node with this layout that uses clocks, whose clocks are inferred and which has n findings: its clock faults, else
-// rewriting's first.
-fn clocked_fault(
+// Fault j of a node with this layout that uses clocks, whose clocks are inferred and which has n findings: its clock faults, else the
+// first that planning meets. It is planned where it has no clock fault and j is 0.
+fn clocked_found(
     tags: &[u8],
     values: &[u32],
-    t: Tables,
+    t: Index,
     l: NodeLayout,
-    env: &[u32],
-    table: &[u32],
     n: usize,
     j: usize,
-) -> FaultFound
+    table: &[u32],
+    sites: &[u32],
+    types: &mut [u32],
+    plan: &mut [u32],
+    flags: &mut [u32],
+    firsts: &mut [u32],
+    holds: &mut [u32],
+) -> NodeFound
     requires { ⌜ length (now values) ≡ length (now tags) ⌝ }
     requires { ⌜ (t .nodes ≤ 16) × (t .types ≤ 32) ⌝ }
-    ensures { λ r. ⌜ ((i : Input) (node : Node) (q : ℕ) (k : Clocking) (passes : ℕ) → SheetTables (now (tags .entry)) (now (values .entry)) t i → LaidNode (t .names) (tokens (now (tags .entry)) (now (values .entry))) node q l → usesClocks node ≡ true → clocking node ≡ formed k → ClocksStand (now (env .entry)) (now (table .entry)) (t .names) passes n k → foundOf r ≡ getElem? (nodeFaults (i .names) (i .sheet) (record { node = node; clocking = k })) j) ⌝ }
+    ensures { λ r. ⌜ r .deep ≡ false ⌝ }
+    ensures { λ r. ⌜ ((i : Input) (node : Node) (q : ℕ) (k : Clocking) (env : List ℕ) (passes : ℕ) → Indexed (now (tags .entry)) (now (values .entry)) t i → LaidNode (t .names) (tokens (now (tags .entry)) (now (values .entry))) node q l → usesClocks node ≡ true → clocking node ≡ formed k → ClocksStand env (now (table .entry)) (t .names) passes n k → SitesTold (t .names) (now (tags .entry)) (now (values .entry)) (now (sites .entry)) (k .findings) (k .equations) (l .equations .at) (l .equations .end) → t .names ≤ length (now (types .entry)) → length (now (tags .entry)) ≤ length (now (plan .entry)) → length (now (tags .entry)) ≤ 4096 → FoundIn (t .names) (now (tags .entry)) (now (values .entry)) (now (plan .exit)) (now (flags .exit)) (now (firsts .exit)) (now (holds .exit)) (now (types .exit)) i (record { node = node; clocking = k }) l j r) ⌝ }
 {
     let m = findings::fault_count(table, n);
     if 0 < m {
-        return clock_fault(table, n, m, j);
+        let fault = clock_fault(table, n, m, j);
+        return unplanned(false, fault);
     }
     if 0 < j {
-        return no_fault();
+        return nothing_found(false);
     }
-    rewriting_fault(tags, values, t, l, env)
+    let o = plan_of(tags, values, t, l, sites, types, plan, flags, firsts, holds);
+    let fault = met_fault(o);
+    let counts = o.counts;
+    NodeFound {
+        deep: false,
+        fault,
+        counts,
+    }
 }
 
-// A node with this layout that uses clocks: whether too deep a clock is formed, else its fault j.
-fn laid_found(
+// A node with this layout that uses clocks: whether too deep a clock is formed, else its fault j, and where it has none its plan.
+pub fn laid_found(
     tags: &[u8],
     values: &[u32],
-    t: Tables,
+    t: Index,
     l: NodeLayout,
     j: usize,
     env: &mut [u32],
     table: &mut [u32],
+    sites: &mut [u32],
+    types: &mut [u32],
+    plan: &mut [u32],
+    flags: &mut [u32],
+    firsts: &mut [u32],
+    holds: &mut [u32],
 ) -> NodeFound
     requires { ⌜ length (now values) ≡ length (now tags) ⌝ }
     requires { ⌜ (t .nodes ≤ 16) × (t .types ≤ 32) ⌝ }
-    ensures { λ r. ⌜ ((node : Node) (q : ℕ) → LaidNode (t .names) (tokens (now (tags .entry)) (now (values .entry))) node q l → Roomy (t .names) (length (now (tags .entry))) (now (env .entry)) (now (table .entry)) → r .deep ≡ isDeep (clocking node)) ⌝ }
-    ensures { λ r. ⌜ ((i : Input) (node : Node) (q : ℕ) (k : Clocking) → SheetTables (now (tags .entry)) (now (values .entry)) t i → LaidNode (t .names) (tokens (now (tags .entry)) (now (values .entry))) node q l → usesClocks node ≡ true → clocking node ≡ formed k → Roomy (t .names) (length (now (tags .entry))) (now (env .entry)) (now (table .entry)) → foundOf (r .fault) ≡ getElem? (nodeFaults (i .names) (i .sheet) (record { node = node; clocking = k })) j) ⌝ }
-    ensures { λ _. ⌜ ((node : Node) (q : ℕ) (k : Clocking) → LaidNode (t .names) (tokens (now (tags .entry)) (now (values .entry))) node q l → clocking node ≡ formed k → Roomy (t .names) (length (now (tags .entry))) (now (env .entry)) (now (table .entry)) → Agrees (now (env .exit)) (t .names) (k .names)) ⌝ }
+    ensures { λ r. ⌜ ((node : Node) (q : ℕ) → LaidNode (t .names) (tokens (now (tags .entry)) (now (values .entry))) node q l → RoomToPlan (t .names) (length (now (tags .entry))) (now (env .entry)) (now (table .entry)) (now (sites .entry)) (now (types .entry)) (now (plan .entry)) → r .deep ≡ isDeep (clocking node)) ⌝ }
+    ensures { λ r. ⌜ ((i : Input) (node : Node) (q : ℕ) (k : Clocking) → Indexed (now (tags .entry)) (now (values .entry)) t i → LaidNode (t .names) (tokens (now (tags .entry)) (now (values .entry))) node q l → usesClocks node ≡ true → clocking node ≡ formed k → RoomToPlan (t .names) (length (now (tags .entry))) (now (env .entry)) (now (table .entry)) (now (sites .entry)) (now (types .entry)) (now (plan .entry)) → FoundIn (t .names) (now (tags .entry)) (now (values .entry)) (now (plan .exit)) (now (flags .exit)) (now (firsts .exit)) (now (holds .exit)) (now (types .exit)) i (record { node = node; clocking = k }) l j r) ⌝ }
 {
     let mut marks = [0u8; MOST_NAMES];
     let mut ports = [0u32; MOST_NAMES];
@@ -229,64 +228,74 @@ fn laid_found(
         &mut marks,
         &mut ports,
         table,
+        sites,
     );
     match clocked {
-        NodeClocked::Deep => {
-            let fault = no_fault();
-            NodeFound { deep: true, fault }
-        }
-        NodeClocked::Clocked(_, n) => {
-            let fault = clocked_fault(tags, values, t, l, env, table, n, j);
-            NodeFound { deep: false, fault }
-        }
+        NodeClocked::Deep => nothing_found(true),
+        NodeClocked::Clocked(_, n) => clocked_found(
+            tags,
+            values,
+            t,
+            l,
+            n,
+            j,
+            table,
+            sites,
+            types,
+            plan,
+            flags,
+            firsts,
+            holds,
+        ),
     }
 }
 
-// Node k: a node that uses no clocks has no fault and no clock that is too deep, so its clocks are not inferred.
-fn node_found(
+// Fault j of node k. A node that uses no clocks has none, so its clocks are not inferred.
+pub fn fault_at(
     tags: &[u8],
     values: &[u32],
-    t: Tables,
+    t: Index,
     k: usize,
     j: usize,
     env: &mut [u32],
     table: &mut [u32],
-) -> NodeFound
+    sites: &mut [u32],
+    types: &mut [u32],
+    plan: &mut [u32],
+    flags: &mut [u32],
+    firsts: &mut [u32],
+    holds: &mut [u32],
+) -> FaultFound
     requires { ⌜ length (now values) ≡ length (now tags) ⌝ }
     requires { ⌜ (t .nodes ≤ 16) × (t .types ≤ 32) ⌝ }
-    ensures { λ r. ⌜ ((i : Input) (n : Node) → SheetTables (now (tags .entry)) (now (values .entry)) t i → getElem? (i .sheet .nodes) k ≡ some n → Roomy (t .names) (length (now (tags .entry))) (now (env .entry)) (now (table .entry)) → r .deep ≡ isDeep (clocking n)) ⌝ }
-    ensures { λ r. ⌜ ((i : Input) (ns : List ClockedNode) → SheetTables (now (tags .entry)) (now (values .entry)) t i → clockings 0 (i .sheet .nodes) ≡ accepted ns → Roomy (t .names) (length (now (tags .entry))) (now (env .entry)) (now (table .entry)) → foundOf (r .fault) ≡ faultIn i (getElem? ns k) j) ⌝ }
-    ensures { λ _. ⌜ ((i : Input) (n : Node) (c : Clocking) → SheetTables (now (tags .entry)) (now (values .entry)) t i → getElem? (i .sheet .nodes) k ≡ some n → clocking n ≡ formed c → usesClocks n ≡ true → Roomy (t .names) (length (now (tags .entry))) (now (env .entry)) (now (table .entry)) → Agrees (now (env .exit)) (t .names) (c .names)) ⌝ }
+    ensures { λ r. ⌜ ((i : Input) (ns : List ClockedNode) → Indexed (now (tags .entry)) (now (values .entry)) t i → clockings 0 (i .sheet .nodes) ≡ accepted ns → RoomToPlan (t .names) (length (now (tags .entry))) (now (env .entry)) (now (table .entry)) (now (sites .entry)) (now (types .entry)) (now (plan .entry)) → foundOf r ≡ faultIn i (getElem? ns k) j) ⌝ }
 {
     if t.nodes <= k {
-        return nothing_found();
+        return no_fault();
     }
     let places = t.places;
     let at = places[k];
     let l = layout::node_at(tags, values, t.names, at);
     let e = l.equations;
     if extents::equations_use_clocks(tags, values, e.count, e.at) {
-        return laid_found(tags, values, t, l, j, env, table);
+        let f = laid_found(
+            tags,
+            values,
+            t,
+            l,
+            j,
+            env,
+            table,
+            sites,
+            types,
+            plan,
+            flags,
+            firsts,
+            holds,
+        );
+        return f.fault;
     }
-    nothing_found()
-}
-
-// Fault j of node k.
-pub fn fault_at(
-    tags: &[u8],
-    values: &[u32],
-    t: Tables,
-    k: usize,
-    j: usize,
-    env: &mut [u32],
-    table: &mut [u32],
-) -> FaultFound
-    requires { ⌜ length (now values) ≡ length (now tags) ⌝ }
-    requires { ⌜ (t .nodes ≤ 16) × (t .types ≤ 32) ⌝ }
-    ensures { λ r. ⌜ ((i : Input) (ns : List ClockedNode) → SheetTables (now (tags .entry)) (now (values .entry)) t i → clockings 0 (i .sheet .nodes) ≡ accepted ns → Roomy (t .names) (length (now (tags .entry))) (now (env .entry)) (now (table .entry)) → foundOf r ≡ faultIn i (getElem? ns k) j) ⌝ }
-{
-    let n = node_found(tags, values, t, k, j, env, table);
-    n.fault
+    no_fault()
 }
 
 // A fault record in the three words from b on.
@@ -300,7 +309,7 @@ fn put_record(list: &mut [u32], b: usize, node: u32, number: u32, equation: u32)
 }
 
 // A node's first fault, if it has one, behind m others, as far as the list reaches: how many there are then.
-fn add_fault(list: &mut [u32], m: usize, node: u32, f: FaultFound) -> usize
+pub fn add_fault(list: &mut [u32], m: usize, node: u32, f: FaultFound) -> usize
     requires { ⌜ m < 4294967296 ⌝ }
     ensures { λ r. ⌜ r ≤ m + 1 ⌝ }
     ensures { λ r. ⌜ ((lent : List ℕ) (l : List FaultRecord) (fs : List NodeFault) → Recorded lent l m (now (list .entry)) → foundOf f ≡ getElem? fs 0 → Recorded lent (l ++ firstOf node fs) r (now (list .exit))) ⌝ }
@@ -318,37 +327,6 @@ fn add_fault(list: &mut [u32], m: usize, node: u32, f: FaultFound) -> usize
     m
 }
 
-// Each faulty node's first fault, in order, as far as the list reaches in whole entries; up to the first node in which too deep a clock
-// is formed.
-fn walk_nodes(
-    tags: &[u8],
-    values: &[u32],
-    t: Tables,
-    env: &mut [u32],
-    table: &mut [u32],
-    list: &mut [u32],
-) -> NodesWalked
-    requires { ⌜ length (now values) ≡ length (now tags) ⌝ }
-    requires { ⌜ (t .nodes ≤ 16) × (t .types ≤ 32) ⌝ }
-    ensures { λ r. ⌜ ((m : ℕ) → r ≡ NodesWalked.Faulty m → m ≤ 16) ⌝ }
-    ensures { λ r. ⌜ ((i : Input) → SheetTables (now (tags .entry)) (now (values .entry)) t i → Roomy (t .names) (length (now (tags .entry))) (now (env .entry)) (now (table .entry)) → Walks i (now (list .entry)) (now (list .exit)) r) ⌝ }
-    ensures { λ _. ⌜ ((i : Input) → SheetTables (now (tags .entry)) (now (values .entry)) t i → Roomy (t .names) (length (now (tags .entry))) (now (env .entry)) (now (table .entry)) → Sole (now (env .exit)) (t .names) (i .sheet .nodes)) ⌝ }
-{
-    let mut m: usize = 0;
-    let mut k: usize = 0;
-    while k < t.nodes {
-        let f = node_found(tags, values, t, k, 0, env, table);
-        if f.deep {
-            return NodesWalked::Deep(k);
-        }
-        let fault = f.fault;
-        let node = word_below(k, NODES);
-        m = add_fault(list, m, node, fault);
-        k += 1;
-    }
-    NodesWalked::Faulty(m)
-}
-
 // The first n words over the front of a list.
 fn copy_words(from: &[u32], n: usize, list: &mut [u32])
     requires { ⌜ (n ≤ length (now from)) × (n ≤ length (now list)) ⌝ }
@@ -362,39 +340,11 @@ fn copy_words(from: &[u32], n: usize, list: &mut [u32])
 }
 
 // Records that were put elsewhere, over the front of a list, as far as it reaches in whole entries.
-fn copy_records(kept: &[u32], m: usize, list: &mut [u32])
+pub fn copy_records(kept: &[u32], m: usize, list: &mut [u32])
     requires { ⌜ (m ≤ 16) × (length (now kept) ≡ 48) ⌝ }
     ensures { λ _. ⌜ ((lent : List ℕ) (l : List FaultRecord) → Recorded lent l m (now (kept .entry)) → Recorded (now (list .entry)) l m (now (list .exit))) ⌝ }
 {
     let most = list.len() / 3;
     let n = widths::least(m, most);
     copy_words(kept, 3 * n, list);
-}
-
-// Each faulty node's first fault, in order, as far as the list reaches in whole entries, and how many nodes are faulty; or the first node
-// in which too deep a clock is formed, and the list stays as it is. Of a sheet with one node, `env` has the clocks then.
-pub fn write_first_faults(
-    tags: &[u8],
-    values: &[u32],
-    t: Tables,
-    env: &mut [u32],
-    table: &mut [u32],
-    list: &mut [u32],
-) -> NodesWalked
-    requires { ⌜ length (now values) ≡ length (now tags) ⌝ }
-    requires { ⌜ (t .nodes ≤ 16) × (t .types ≤ 32) ⌝ }
-    ensures { λ r. ⌜ ((k : ℕ) → r ≡ NodesWalked.Deep k → now (list .exit) ≡ now (list .entry)) ⌝ }
-    ensures { λ r. ⌜ ((i : Input) → SheetTables (now (tags .entry)) (now (values .entry)) t i → Roomy (t .names) (length (now (tags .entry))) (now (env .entry)) (now (table .entry)) → Walks i (now (list .entry)) (now (list .exit)) r) ⌝ }
-    ensures { λ _. ⌜ ((i : Input) → SheetTables (now (tags .entry)) (now (values .entry)) t i → Roomy (t .names) (length (now (tags .entry))) (now (env .entry)) (now (table .entry)) → Sole (now (env .exit)) (t .names) (i .sheet .nodes)) ⌝ }
-{
-    // a node after faulty ones may be the deep one, and then the lent list keeps its words
-    let mut kept = [0u32; KEPT];
-    let w = walk_nodes(tags, values, t, env, table, &mut kept);
-    match w {
-        NodesWalked::Deep(k) => NodesWalked::Deep(k),
-        NodesWalked::Faulty(m) => {
-            copy_records(&kept, m, list);
-            NodesWalked::Faulty(m)
-        }
-    }
 }

@@ -103,11 +103,6 @@ module _ (types : List TypeDef) (nodes : List Node) (node : Node) (ids : Ids) wh
     flagged-framed (x ∷ y ∷ xs) a u i h = rw i (several-framed (x ∷ y ∷ xs) a u h)
 
     module _ (xs : List ℕ) (n : ℕ) (e : Expr) (free : rightFault types nodes node (ids .condact) c xs e ≡ none) where
-      -- its expression has no fault
-      pub right-inner : faultIn types nodes node c e ≡ none
-      unfolding rightFault
-      right-inner = no-fault (faultIn types nodes node c e) (choose (isBase c) none (flaggedFault types nodes node (ids .condact) xs (shapeAfter types nodes node (ids .condact) c e))) free .0
-
       -- THE LAW: its tokens are its expression's in its frame
       pub right-framed : Framed types nodes node (ids .condact) (frameOf (isBase c) (ids .condact) (ids .flag c) xs (shapeAfter types nodes node (ids .condact) c e)) xs
           (exprTokens (yield types nodes node ids c n e .value)) (exprTokens (rightYield types nodes node ids c xs n e .value))

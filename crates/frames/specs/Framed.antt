@@ -1,11 +1,11 @@
 -- What stands around a right side under the flag of its clock.
-use Prim.Native.Nat.{ℕ, _+_}
+use Prim.Native.Nat.{ℕ, _+_, _-_}
 use mathlib.Core.Path.{_≡_}
 use mathlib.Core.List.{List, [], _∷_, _++_}
 use mathlib.Core.Bool.{Bool}
 use mathlib.Core.Option.{none}
 use lib.Dec.{eqb}
-use lib.ListN.{length}
+use lib.ListN.{length, getD}
 use Rattle.definitions.specs.declared.ExprToken.{ExprToken}
 use Rattle.definitions.specs.declared.Token.{Token}
 use Rattle.definitions.specs.Lists.{choose, join}
@@ -14,8 +14,19 @@ use Rattle.definitions.specs.Declock.{Shape, bare, other, calls}
 use Rattle.definitions.specs.Output.{e, exprTokens, operandTokens}
 use Rattle.stateless.specs.Yield.{leftTree, leftTrees}
 use Rattle.stateless.specs.Faults.{leftFault, leftsFault}
-use Rattle.openings.specs.Planned.{gateTokens, choiceTokens}
 use Rattle.frames.specs.declared.Frame.{Frame}
+
+-- the first tokens of a gated call: `condact`, how many arguments, the flag
+abbrev pub gateTokens : ℕ → ℕ → ℕ → List Token
+gateTokens condact n flag = e (ExprToken.Call condact) ∷ Token.Count n ∷ e (ExprToken.Var flag) ∷ []
+
+-- the first tokens of a choice by a name
+abbrev pub choiceTokens : ℕ → List Token
+choiceTokens x = e ExprToken.If ∷ e (ExprToken.Var x) ∷ []
+
+-- by the ids of flags and an equation's word, 0 or the row of its flag and one more
+abbrev pub frameIn : List ℕ → ℕ → ℕ → Frame
+frameIn flagIds count w = choose (eqb w 0) Frame.Plain (choose (eqb count 1) (Frame.Choose (getD flagIds (w - 1) 0)) (Frame.Gate (getD flagIds (w - 1) 0)))
 
 -- several left names gate a call that is not of `condact`; the id of `condact` and the flag are given
 abbrev pub severalFrame : ℕ → ℕ → Shape → Frame

@@ -1,40 +1,29 @@
 // What is written around a right side of an accepted sheet under the flag of its clock.
-// `tags` and `values` are the sheet's tokens, `places` and `type_places` those of its nodes and type definitions; `flags` has the
-// clocks with flags, whose ids are in `flag_ids`. `otags` and `ovalues` are the output's tokens, of which w are written.
-use clock::Clock;
+// `tags` and `values` are the sheet's tokens, `type_places` are those of its type definitions; `types` has the declared types of the node's
+// names; `flag_ids` has the ids of flags by row. `otags` and `ovalues` are the output's tokens, of which w are written.
 use definitions::ExprToken;
-use definitions::MOST_NODES;
 use definitions::MOST_TYPES;
 use definitions::Token;
 use definitions::WORKING_TOKENS;
-use layout::NodeLayout;
 use layout::Span;
-use openings::Mode;
-use openings::Sizes;
-use rewritten_shape::After;
+use planned::Sizes;
 ghost use mathlib.Core.Path.{_≡_};
 ghost use mathlib.Core.List.{List};
-ghost use Prim.Native.Nat.{ℕ, _*_, _≤_};
-ghost use lib.ListN.{length, getD};
+ghost use Prim.Native.Nat.{ℕ, _≤_};
+ghost use lib.ListN.{length};
 ghost use Rattle.definitions.specs.Bytes.{tokens};
-ghost use Rattle.definitions.specs.Tree.{TypeDef, Expr, Node};
-ghost use Rattle.definitions.specs.Reading.{got};
+ghost use Rattle.definitions.specs.Tree.{TypeDef, Node};
 ghost use Rattle.definitions.specs.Grammar.{name};
-ghost use Rattle.definitions.specs.Clock.{isBase};
-ghost use Rattle.definitions.specs.Declock.{clockPlace};
+ghost use Rattle.definitions.specs.Declock.{declared};
 ghost use Rattle.definitions.specs.declared.Token.{Token};
-ghost use Rattle.clock.specs.Value.{valueOf};
-ghost use Rattle.rows.specs.Rows.{clocksIn};
-ghost use Rattle.operands.specs.Spread.{tree};
 ghost use Rattle.typedefs.specs.Table.{Table};
+ghost use Rattle.layout.specs.declared.NodeLayout.{NodeLayout};
 ghost use Rattle.layout.specs.Spans.{Spans};
 ghost use Rattle.layout.specs.Laid.{LaidNode};
-ghost use Rattle.callees.specs.Callees.{NodesStand};
+ghost use Rattle.typing.specs.Found.{Declares};
 ghost use Rattle.emit.specs.Out.{out, emits};
-ghost use Rattle.stateless.specs.Yield.{shapeAfter};
-ghost use Rattle.openings.specs.Shown.{inTree};
-ghost use Rattle.openings.specs.Planned.{twoMore};
-ghost use Rattle.frames.specs.Framed.{frameOf, leadIn, DefaultThenHeld, LeadOut};
+ghost use Rattle.planned.specs.Opening.{twoMore};
+ghost use Rattle.frames.specs.Framed.{frameIn, leadIn, DefaultThenHeld, LeadOut};
 
 // What stands around a right side: nothing; a choice by this flag between it and the left name's last value; a gate under this flag.
 pub enum Frame {
@@ -43,41 +32,18 @@ pub enum Frame {
     Gate(u32),
 }
 
-// What stands around the right side at `at` of so many left names on this clock.
-pub fn frame_of(
-    tags: &[u8],
-    values: &[u32],
-    places: &[usize; MOST_NODES],
-    flags: &[u32],
-    flag_ids: &[u32],
-    k: Sizes,
-    c: Clock,
-    count: u32,
-    at: usize,
-) -> Frame
-    requires { ⌜ length (now values) ≡ length (now tags) ⌝ }
-    requires { ⌜ k .nodes ≤ 16 ⌝ }
-    ensures { λ r. ⌜ ((xs : List ℕ) (e : Expr) (q : ℕ) (types : List TypeDef) (l : List Node) (node : Node) → count ≡ length xs → tree (k .names) (tokens (now (tags .entry)) (now (values .entry))) at ≡ got e q → NodesStand (k .names) (now (tags .entry)) (now (values .entry)) (now (places .entry)) (k .nodes) l → 17 * k .flags ≤ length (now (flags .entry)) → r ≡ frameOf (isBase (valueOf c)) (k .condact) (getD (now («flag_ids» .entry)) (clockPlace (valueOf c) (clocksIn (now (flags .entry)) (k .flags))) 0) xs (shapeAfter types l node (k .condact) (valueOf c) e)) ⌝ }
+// What stands around the right side of so many left names, by its equation's word.
+pub fn frame_by(word: u32, count: u32, flag_ids: &[u32]) -> Frame
+    ensures { λ r. ⌜ r ≡ frameIn (now («flag_ids» .entry)) count word ⌝ }
 {
-    let plain = clock::is_base(c);
-    if plain {
+    if word == 0 {
         return Frame::Plain;
     }
-    let flag = needs::flag_id(flags, k.flags, flag_ids, c);
+    let flag = flat::word_at(flag_ids, (word - 1) as usize);
     if count == 1 {
         return Frame::Choose(flag);
     }
-    let condact = k.condact;
-    let u = rewritten_shape::shape_after(tags, values, k.names, places, k.nodes, condact, c, at);
-    match u {
-        After::Bare => Frame::Plain,
-        After::Other => Frame::Plain,
-        After::Calls(f) => if f == condact {
-            Frame::Plain
-        } else {
-            Frame::Gate(flag)
-        },
-    }
+    Frame::Gate(flag)
 }
 
 // What is written before the right side of n left names.
@@ -85,24 +51,22 @@ pub fn put_before(
     otags: &mut [u8; WORKING_TOKENS],
     ovalues: &mut [u32; WORKING_TOKENS],
     w: usize,
-    mode: Mode,
     f: Frame,
     condact: u32,
     n: u32,
 ) -> usize
-    ensures { λ r. ⌜ out (now (otags .exit)) (now (ovalues .exit)) r ≡ emits (out (now (otags .entry)) (now (ovalues .entry)) w) (inTree mode (leadIn condact (twoMore n) f)) ⌝ }
+    ensures { λ r. ⌜ out (now (otags .exit)) (now (ovalues .exit)) r ≡ emits (out (now (otags .entry)) (now (ovalues .entry)) w) (leadIn condact (twoMore n) f) ⌝ }
 {
     match f {
         Frame::Plain => w,
-        Frame::Choose(flag) => openings::put_two(
+        Frame::Choose(flag) => defaults::emit_two(
             otags,
             ovalues,
             w,
-            mode,
             Token::Expression(ExprToken::If),
             Token::Expression(ExprToken::Var(flag)),
         ),
-        Frame::Gate(flag) => openings::put_gate(otags, ovalues, w, mode, condact, n, flag),
+        Frame::Gate(flag) => planned::put_gate(otags, ovalues, w, condact, n, flag),
     }
 }
 
@@ -110,28 +74,27 @@ pub fn put_before(
 fn put_kept(
     tags: &[u8],
     values: &[u32],
-    names: u32,
     type_places: &[usize; MOST_TYPES],
-    types: usize,
-    node: NodeLayout,
-    left: Span,
+    types: &[u32],
     otags: &mut [u8; WORKING_TOKENS],
     ovalues: &mut [u32; WORKING_TOKENS],
+    k: Sizes,
+    left: Span,
     w: usize,
 ) -> usize
     requires { ⌜ length (now values) ≡ length (now tags) ⌝ }
-    requires { ⌜ types ≤ 32 ⌝ }
-    ensures { λ r. ⌜ ((ts : List TypeDef) (l : List Node) (n : Node) (u : ℕ) (xs : List ℕ) (ks : List Token) → Table names (tokens (now (tags .entry)) (now (values .entry))) (now («type_places» .entry)) types ts → LaidNode names (tokens (now (tags .entry)) (now (values .entry))) n u node → Spans (name names) (tokens (now (tags .entry)) (now (values .entry))) xs left → DefaultThenHeld ts l n xs ks → out (now (otags .exit)) (now (ovalues .exit)) r ≡ emits (out (now (otags .entry)) (now (ovalues .entry)) w) ks) ⌝ }
+    requires { ⌜ k .types ≤ 32 ⌝ }
+    ensures { λ r. ⌜ ((ts : List TypeDef) (l : List Node) (n : Node) (u : ℕ) (layout : NodeLayout) (xs : List ℕ) (ks : List Token) → Table (k .names) (tokens (now (tags .entry)) (now (values .entry))) (now («type_places» .entry)) (k .types) ts → LaidNode (k .names) (tokens (now (tags .entry)) (now (values .entry))) n u layout → Declares (k .names) (tokens (now (tags .entry)) (now (values .entry))) (now (types .entry)) (declared n) → Spans (name (k .names)) (tokens (now (tags .entry)) (now (values .entry))) xs left → DefaultThenHeld ts l n xs ks → out (now (otags .exit)) (now (ovalues .exit)) r ≡ emits (out (now (otags .entry)) (now (ovalues .entry)) w) ks) ⌝ }
 {
     let x = typedefs::value_at(values, left.at);
     let a = emit::emit(otags, ovalues, w, Token::Expression(ExprToken::Arrow));
     let b = left_defaults::put_left_default(
         tags,
         values,
-        names,
+        k.names,
         type_places,
+        k.types,
         types,
-        node,
         x,
         otags,
         ovalues,
@@ -150,52 +113,34 @@ fn put_kept(
 pub fn put_behind(
     tags: &[u8],
     values: &[u32],
-    names: u32,
     type_places: &[usize; MOST_TYPES],
-    types: usize,
-    node: NodeLayout,
-    mode: Mode,
-    f: Frame,
-    left: Span,
+    types: &[u32],
     otags: &mut [u8; WORKING_TOKENS],
     ovalues: &mut [u32; WORKING_TOKENS],
+    k: Sizes,
+    left: Span,
+    f: Frame,
     w: usize,
 ) -> usize
     requires { ⌜ length (now values) ≡ length (now tags) ⌝ }
-    requires { ⌜ types ≤ 32 ⌝ }
-    ensures { λ r. ⌜ ((ts : List TypeDef) (l : List Node) (n : Node) (u : ℕ) (xs : List ℕ) (ks : List Token) → Table names (tokens (now (tags .entry)) (now (values .entry))) (now («type_places» .entry)) types ts → LaidNode names (tokens (now (tags .entry)) (now (values .entry))) n u node → Spans (name names) (tokens (now (tags .entry)) (now (values .entry))) xs left → LeadOut ts l n f xs ks → out (now (otags .exit)) (now (ovalues .exit)) r ≡ emits (out (now (otags .entry)) (now (ovalues .entry)) w) (inTree mode ks)) ⌝ }
+    requires { ⌜ k .types ≤ 32 ⌝ }
+    ensures { λ r. ⌜ ((ts : List TypeDef) (l : List Node) (n : Node) (u : ℕ) (layout : NodeLayout) (xs : List ℕ) (ks : List Token) → Table (k .names) (tokens (now (tags .entry)) (now (values .entry))) (now («type_places» .entry)) (k .types) ts → LaidNode (k .names) (tokens (now (tags .entry)) (now (values .entry))) n u layout → Declares (k .names) (tokens (now (tags .entry)) (now (values .entry))) (now (types .entry)) (declared n) → Spans (name (k .names)) (tokens (now (tags .entry)) (now (values .entry))) xs left → LeadOut ts l n f xs ks → out (now (otags .exit)) (now (ovalues .exit)) r ≡ emits (out (now (otags .entry)) (now (ovalues .entry)) w) ks) ⌝ }
 {
-    let tree = openings::is_tree(mode);
-    if tree {
-        match f {
-            Frame::Plain => w,
-            Frame::Choose(_) => put_kept(
-                tags,
-                values,
-                names,
-                type_places,
-                types,
-                node,
-                left,
-                otags,
-                ovalues,
-                w,
-            ),
-            Frame::Gate(_) => left_defaults::put_left_defaults(
-                tags,
-                values,
-                names,
-                type_places,
-                types,
-                node,
-                left.count,
-                left.at,
-                otags,
-                ovalues,
-                w,
-            ),
-        }
-    } else {
-        w
+    match f {
+        Frame::Plain => w,
+        Frame::Choose(_) => put_kept(tags, values, type_places, types, otags, ovalues, k, left, w),
+        Frame::Gate(_) => left_defaults::put_left_defaults(
+            tags,
+            values,
+            k.names,
+            type_places,
+            k.types,
+            types,
+            left.count,
+            left.at,
+            otags,
+            ovalues,
+            w,
+        ),
     }
 }

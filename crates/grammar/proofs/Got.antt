@@ -77,12 +77,8 @@ module _ (ts vs : List ℕ) (same-length : length vs ≡ length ts) (p : ℕ) wh
       let t = tagged-value tag words n q h (l .0) in
       (t .0, t .1, t .3)
 
--- lists of expressions, of fields, and of anything
+-- lists of expressions, and of anything
 module _ (R : Reader Expr) (ts : List TagValue) where
-  pub exprs-nil : (k p : ℕ) (es : Exprs) (q : ℕ) → k ≡ 0 → exprs k R ts p ≡ got es q → (es ≡ Exprs.end) × (q ≡ p)
-  unfolding exprs
-  exprs-nil k p es q z g = let f : got Exprs.end p ≡ got es q = rw z at g in (cc, cc)
-
   pub exprs-cons : (k p : ℕ) (es : Exprs) (q : ℕ) → (k ≡ 0 → ⊥) → exprs k R ts p ≡ got es q →
       (e : Expr) × (s : ℕ) × (rest : Exprs) × (R ts p ≡ got e s) × (exprs (k - 1) R ts s ≡ got rest q) × (es ≡ Exprs.and e rest)
   unfolding exprs
@@ -91,25 +87,6 @@ module _ (R : Reader Expr) (ts : List TagValue) where
       let a = after-got (R ts p) _ es q g in
       let b = wrap-got (exprs k R ts (a .1)) _ es q (a .3) in
       (a .0, a .1, b .0, a .2, rw (sub-one (suc k)) (b .1), b .2)
-
-  pub exprs-one : (p : ℕ) (es : Exprs) (q : ℕ) → exprs 1 R ts p ≡ got es q → (e : Expr) × (R ts p ≡ got e q) × (es ≡ Exprs.and e Exprs.end)
-  unfolding exprs
-  exprs-one p es q g = wrap-got (R ts p) (λ e. Exprs.and e Exprs.end) es q g
-
-module _ (M : ℕ) (R : Reader Expr) (ts : List TagValue) where
-  pub fields-nil : (k p : ℕ) (fs : List ℕ × Exprs) (q : ℕ) → k ≡ 0 → fields M k R ts p ≡ got fs q → (fs ≡ ([], Exprs.end)) × (q ≡ p)
-  unfolding fields
-  fields-nil k p fs q z g = let f : got ([], Exprs.end) p ≡ got fs q = rw z at g in (cc, cc)
-
-  pub fields-cons : (k p : ℕ) (fs : List ℕ × Exprs) (q : ℕ) → (k ≡ 0 → ⊥) → fields M k R ts p ≡ got fs q →
-      (x v : ℕ) × (e : Expr) × (s : ℕ) × (rest : List ℕ × Exprs) × (name M ts p ≡ got x v) × (R ts v ≡ got e s) × (fields M (k - 1) R ts s ≡ got rest q) × (fs ≡ (x ∷ rest .0, Exprs.and e (rest .1)))
-  unfolding fields
-  fields-cons zero p fs q z g = absurd (z refl)
-  fields-cons (suc k) p fs q z g =
-      let n = after-got (name M ts p) _ fs q g in
-      let a = after-got (R ts (n .1)) _ fs q (n .3) in
-      let b = wrap-got (fields M k R ts (a .1)) _ fs q (a .3) in
-      (n .0, n .1, a .0, a .1, b .0, n .2, a .2, rw (sub-one (suc k)) (b .1), b .2)
 
 module _ {A : Type 0} (R : Reader A) (ts : List TagValue) where
   pub times-nil : (k p : ℕ) (l : List A) (q : ℕ) → k ≡ 0 → times k R ts p ≡ got l q → (l ≡ []) × (q ≡ p)
@@ -157,13 +134,6 @@ module _ (M : ℕ) (R : Reader Expr) (ts : List TagValue) (p : ℕ) (e : Expr) (
   pub float-got : (v : ℕ) → form M (ExprToken.Const (Literal.Float v)) R ts p ≡ got e q → (w : ℕ) × (high ts p ≡ got w q) × (e ≡ Expr.const (Literal.Float v) w)
   unfolding form constant
   float-got v g = wrap-got (high ts p) _ e q g
-
-  -- a constant of any kind, with its high word
-  pub const-got : (l : Literal) → form M (ExprToken.Const l) R ts p ≡ got e q → (w : ℕ) × (e ≡ Expr.const l w)
-  const-got (Literal.Bool v) g = (0, bool-got v g .0)
-  const-got (Literal.Int v) g = let a = int-got v g in (a .0, a .2)
-  const-got (Literal.Float v) g = let a = float-got v g in (a .0, a .2)
-  const-got (Literal.Char v) g = (0, char-got v g .0)
 
   pub var-got : (x : ℕ) → form M (ExprToken.Var x) R ts p ≡ got e q → (e ≡ Expr.var x) × (q ≡ p)
   unfolding form

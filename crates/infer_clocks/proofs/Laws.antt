@@ -322,28 +322,6 @@ module _ (M : ℕ) (n : Node) (env t : List ℕ) (r : NodeClocked) (h : ClockedO
   unfolding ClockedOrDeep
   deep-not-told p m j = let x : ClockedOrDeep env t M (NodeClocked.Clocked p m) (clocking n) = rw j at h in sym (ap isDeep (x .1))
 
--- the names' clocks alone, of a node whose clocks are formed
-pub names-formed : (M : ℕ) (n : Node) (env : List ℕ) (r : Inference) (k : Clocking) → clocking n ≡ formed k → Infers env M r (inferred n) → Agrees env M (k .names)
-unfolding Infers
-names-formed M n env Inference.Deep k e i =
-    let f : deep ≡ formed k = sym (node-deep n i) ∙ e in
-    let z : _≡_ {A = ℕ} 0 1 = cc in absurd (omega arith)
-names-formed M n env (Inference.Passes p) k e i = go (clockedBy (i .0 .clocks) (n .equations)) refl
-  where
-    told : (cs : List Clocked) (b : Bool) → any isTooDeep (join (numbered (checkEquation n (i .0 .clocks)) 0 cs)) ≡ b → saying n (i .0) cs ≡ formed k → Agrees env M (k .names)
-    told cs true u v = let f : deep ≡ formed k = rw u at v in let z : _≡_ {A = ℕ} 0 1 = cc in absurd (omega arith)
-    told cs false u v =
-        let f : formed (record { passes = i .0 .passes; names = i .0 .clocks; equations = cs; findings = join (numbered (checkEquation n (i .0 .clocks)) 0 cs) }) ≡ formed k = rw u at v in
-        let g : record { passes = i .0 .passes; names = i .0 .clocks; equations = cs; findings = join (numbered (checkEquation n (i .0 .clocks)) 0 cs) } ≡ k = cc in
-        let h : i .0 .clocks ≡ k .names = ap (λ (c : Clocking). c .names) g in
-        rw h at (i .3)
-
-    go : (w : Formed (List Clocked)) → clockedBy (i .0 .clocks) (n .equations) ≡ w → Agrees env M (k .names)
-    go deep u =
-        let f : deep ≡ formed k = sym (node-said n (i .0) (i .1) deep u) ∙ e in
-        let z : _≡_ {A = ℕ} 0 1 = cc in absurd (omega arith)
-    go (formed cs) u = told cs (any isTooDeep (join (numbered (checkEquation n (i .0 .clocks)) 0 cs))) refl (sym (node-said n (i .0) (i .1) (formed cs) u) ∙ e)
-
 -- ---- the nodes
 -- a node whose clocks are formed, before others
 next-sunk : (i j : ℕ) (n : Node) (k : Clocking) (ns : List Node) → clocking n ≡ formed k → clockings (suc i) ns ≡ refused (Refusal.Deep j) → clockings i (n ∷ ns) ≡ refused (Refusal.Deep j)

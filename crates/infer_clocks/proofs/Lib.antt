@@ -1,2 +1,3 @@
 -- What the proofs of several functions use, and those of other crates.
 pub mod Laws
+pub mod Sites

@@ -7,10 +7,12 @@ use lib.ListN.{length}
 use Rattle.definitions.specs.declared.Refusal.{Refusal}
 use Rattle.definitions.specs.Tree.{Equation, Node}
 use Rattle.definitions.specs.Refusals.{Answer, accepted, refused}
-use Rattle.definitions.specs.InferClocks.{Formed, deep, formed, _>>=_, Clocks, Finding, Clocking, clocking, usesClocks, natural, orBase, checkEquation}
+use Rattle.definitions.specs.InferClocks.{Formed, deep, formed, _>>=_, Clocks, Finding, Clocked, Clocking, natural, orBase, checkEquation}
 use Rattle.definitions.specs.Output.{ClockedNode}
 use Rattle.environment.specs.Environment.{Agrees}
 use Rattle.findings.specs.Findings.{findingsIn, FindingsHeld}
+use Rattle.skeleton.specs.Sites.{EquationsOn, EquationsSited}
+use Rattle.checking.specs.Walk.{onlySites}
 use Rattle.infer_clocks.specs.declared.Tally.{Tally}
 use Rattle.infer_clocks.specs.declared.NodeClocked.{NodeClocked}
 use Rattle.infer_clocks.specs.declared.Deepest.{Deepest}
@@ -48,10 +50,12 @@ pub record ClocksStand (env t : List ℕ) (m passes n : ℕ) (k : Clocking) : Ty
   pub room : 38 * n ≤ length t
   pub all : findingsIn t n ≡ k .findings
 
--- of a sheet with one node, the names' clocks in a table, if that node uses clocks
-pub record Sole (env : List ℕ) (m : ℕ) (nodes : List Node) : Type 0 where
-  pub known : (n : Node) (k : Clocking) → nodes ≡ n ∷ [] → clocking n ≡ formed k → usesClocks n ≡ true → Agrees env m (k .names)
+-- the equations' clocks stand in the rows of their counts, and where nothing but sites was found, each site's in its own
+pub record SitesTold (M : ℕ) (gs vs sites : List ℕ) (fs : List Finding) (cs : List Clocked) (p q : ℕ) : Type 0 where
+  pub on : EquationsOn M gs vs sites cs p q
+  pub sited : onlySites fs ≡ true → EquationsSited M gs vs sites cs p q
 
+-- a node's clocks, unless too deep a clock was formed
 unfoldable pub ClockedOrDeep : List ℕ → List ℕ → ℕ → NodeClocked → Formed Clocking → Type 0
 ClockedOrDeep env t m NodeClocked.Deep v = v ≡ deep
 ClockedOrDeep env t m (NodeClocked.Clocked passes n) v = (k : Clocking) × (v ≡ formed k) × ClocksStand env t m passes n k

@@ -1,10 +1,9 @@
 // What clock inference and checking say of a node, and the first node in which too deep a clock is formed.
 // `tags` and `values` are as long as each other; `names` is the number of names. `env` has seventeen words a name, `marks` a byte
-// and `ports` a word a name, `table` thirty-eight words a token.
+// and `ports` a word a name, `table` thirty-eight words a token, `sites` seventeen words a token.
 use clock::Clock;
 use clock::Natural;
 use clock::Presence;
-use definitions::MOST_NAMES;
 use layout::NodeLayout;
 use passes::Inference;
 ghost use mathlib.Core.Path.{_≡_};
@@ -14,12 +13,13 @@ ghost use mathlib.Core.Option.{Option};
 ghost use Prim.Native.Nat.{ℕ, _*_, _≤_, _<_};
 ghost use lib.ListN.{length, getD};
 ghost use Rattle.definitions.specs.Bytes.{tokens};
-ghost use Rattle.definitions.specs.Tree.{Expr, Equation, Node};
+ghost use Rattle.definitions.specs.Lists.{join, numbered};
+ghost use Rattle.definitions.specs.Tree.{Equation, Node};
 ghost use Rattle.definitions.specs.Reading.{got, times};
 ghost use Rattle.definitions.specs.Grammar.{equation, node};
 ghost use Rattle.definitions.specs.Clock as trees;
 ghost use Rattle.definitions.specs.InferClocks as rules;
-ghost use Rattle.definitions.specs.InferClocks.{Clocks, Finding, Clocking, formed, orBase, clocking, chains};
+ghost use Rattle.definitions.specs.InferClocks.{Clocks, Finding, Clocked, Clocking, formed, orBase, clockedBy, checkEquation, clocking, chains};
 ghost use Rattle.definitions.specs.Answer.{clockings};
 ghost use Rattle.clock.specs.Value.{valueOf, naturalOf};
 ghost use Rattle.environment.specs.Environment.{Agrees};
@@ -28,8 +28,9 @@ ghost use Rattle.fresh.specs.Places.{lettersAt};
 ghost use Rattle.order.specs.Order.{rowOf, picked};
 ghost use Rattle.operands.specs.Spread.{tree};
 ghost use Rattle.layout.specs.Laid.{LaidNode};
-ghost use Rattle.checking.specs.Walk.{PortMarks};
-ghost use Rattle.infer_clocks.specs.Clocked.{isDeep, foundIn, foundFrom, joined, Tallied, ClockedOrDeep, Deeply};
+ghost use Rattle.checking.specs.Walk.{PortMarks, EquationStored};
+ghost use Rattle.infer_clocks.specs.declared.Tally.{Tally};
+ghost use Rattle.infer_clocks.specs.Clocked.{isDeep, foundIn, foundFrom, joined, Tallied, ClockedOrDeep, Deeply, SitesTold};
 
 // Checking so far: too deep a natural clock was formed, or the number of findings.
 pub enum Tally {
@@ -73,15 +74,6 @@ fn is_deep(n: Natural) -> bool
     }
 }
 
-// The clock of an equation whose right side stands there.
-pub fn equation_clock(tags: &[u8], values: &[u32], names: u32, env: &[u32], at: usize) -> Clock
-    requires { ⌜ length (now values) ≡ length (now tags) ⌝ }
-    ensures { λ r. ⌜ ((e : Expr) (q : ℕ) (clocks : Clocks) (o : Option trees.Clock) → tree names (tokens (now (tags .entry)) (now (values .entry))) at ≡ got e q → Agrees (now (env .entry)) names clocks → rules.natural clocks e ≡ formed o → valueOf r ≡ orBase o) ⌝ }
-{
-    let n = natural::natural_clock(tags, values, names, env, at);
-    or_base(n)
-}
-
 fn wide(x: u8) -> u32
     ensures { λ r. ⌜ r ≡ x ⌝ }
 {
@@ -114,6 +106,7 @@ fn check_one(
     env: &[u32],
     ports: &[u32],
     table: &mut [u32],
+    sites: &mut [u32],
     number: u32,
     at: usize,
     right: usize,
@@ -121,14 +114,13 @@ fn check_one(
 ) -> Tally
     requires { ⌜ length (now values) ≡ length (now tags) ⌝ }
     ensures { λ r. ⌜ ((node : Node) (clocks : Clocks) (e : Equation) (q : ℕ) (fs : List Finding) → Agrees (now (env .entry)) names clocks → PortMarks (now (ports .entry)) names node → equation names (tokens (now (tags .entry)) (now (values .entry))) at ≡ got e q → tree names (tokens (now (tags .entry)) (now (values .entry))) right ≡ got (e .right) q → FindingsHeld (now (table .entry)) n fs → Tallied (now (table .exit)) r (joined fs (foundIn node clocks number e))) ⌝ }
+    ensures { λ r. ⌜ ((clocks : Clocks) (e : Equation) (q : ℕ) (o : Option trees.Clock) → Agrees (now (env .entry)) names clocks → equation names (tokens (now (tags .entry)) (now (values .entry))) at ≡ got e q → tree names (tokens (now (tags .entry)) (now (values .entry))) right ≡ got (e .right) q → rules.natural clocks (e .right) ≡ formed o → EquationStored names (now (tags .entry)) (now (values .entry)) (now (sites .entry)) (now (sites .exit)) number (orBase o) e at q) ⌝ }
 {
     let own = natural::natural_clock(tags, values, names, env, right);
     if is_deep(own) {
         return Tally::Deep;
     }
     let c = or_base(own);
-    // the sites are for planning, which does not ask for them yet
-    let mut sites = [0u32; 17];
     let w = checking::check_equation(
         tags,
         values,
@@ -136,7 +128,7 @@ fn check_one(
         env,
         ports,
         table,
-        &mut sites,
+        sites,
         number,
         c,
         at,
@@ -153,11 +145,13 @@ fn check_all(
     env: &[u32],
     ports: &[u32],
     table: &mut [u32],
+    sites: &mut [u32],
     count: u32,
     at: usize,
 ) -> Tally
     requires { ⌜ length (now values) ≡ length (now tags) ⌝ }
     ensures { λ r. ⌜ ((node : Node) (clocks : Clocks) (es : List Equation) (q : ℕ) → Agrees (now (env .entry)) names clocks → PortMarks (now (ports .entry)) names node → times count (equation names) (tokens (now (tags .entry)) (now (values .entry))) at ≡ got es q → Tallied (now (table .exit)) r (foundFrom node clocks 0 es)) ⌝ }
+    ensures { λ r. ⌜ ((m : ℕ) (node : Node) (clocks : Clocks) (es : List Equation) (q : ℕ) (cs : List Clocked) → r ≡ Tally.Count m → Agrees (now (env .entry)) names clocks → times count (equation names) (tokens (now (tags .entry)) (now (values .entry))) at ≡ got es q → 17 * length (now (tags .entry)) ≤ length (now (sites .entry)) → clockedBy clocks es ≡ formed cs → SitesTold names (now (tags .entry)) (now (values .entry)) (now (sites .exit)) (join (numbered (checkEquation node clocks) 0 cs)) cs at q) ⌝ }
 {
     let mut k: u32 = 0;
     let mut place = at;
@@ -166,7 +160,19 @@ fn check_all(
         let l = layout::equation_at(tags, values, names, place);
         let right = l.right;
         let end = l.end;
-        let found = check_one(tags, values, names, env, ports, table, k, place, right, n);
+        let found = check_one(
+            tags,
+            values,
+            names,
+            env,
+            ports,
+            table,
+            sites,
+            k,
+            place,
+            right,
+            n,
+        );
         match found {
             Tally::Count(m) => {
                 n = m;
@@ -191,9 +197,11 @@ pub fn clock_laid(
     marks: &mut [u8],
     ports: &mut [u32],
     table: &mut [u32],
+    sites: &mut [u32],
 ) -> NodeClocked
     requires { ⌜ length (now values) ≡ length (now tags) ⌝ }
     ensures { λ r. ⌜ ((n : Node) (q : ℕ) → LaidNode names (tokens (now (tags .entry)) (now (values .entry))) n q l → 17 * names ≤ length (now (env .entry)) → names ≤ length (now (marks .entry)) → names ≤ length (now (ports .entry)) → 38 * length (now (tags .entry)) ≤ length (now (table .entry)) → ClockedOrDeep (now (env .exit)) (now (table .exit)) names r (clocking n)) ⌝ }
+    ensures { λ _. ⌜ ((n : Node) (q : ℕ) (k : Clocking) → LaidNode names (tokens (now (tags .entry)) (now (values .entry))) n q l → clocking n ≡ formed k → 17 * names ≤ length (now (env .entry)) → names ≤ length (now (marks .entry)) → names ≤ length (now (ports .entry)) → 38 * length (now (tags .entry)) ≤ length (now (table .entry)) → 17 * length (now (tags .entry)) ≤ length (now (sites .entry)) → SitesTold names (now (tags .entry)) (now (values .entry)) (now (sites .exit)) (k .findings) (k .equations) (l .equations .at) (l .equations .end)) ⌝ }
 {
     let inferred = passes::infer(tags, values, names, l, env, marks);
     match inferred {
@@ -203,7 +211,7 @@ pub fn clock_laid(
             let e = l.equations;
             let count = e.count;
             let at = e.at;
-            let found = check_all(tags, values, names, env, ports, table, count, at);
+            let found = check_all(tags, values, names, env, ports, table, sites, count, at);
             match found {
                 Tally::Deep => NodeClocked::Deep,
                 Tally::Count(n) => {
@@ -217,26 +225,6 @@ pub fn clock_laid(
     }
 }
 
-// The clocks of the names of a node with this layout, whose clocks are all formed: inferred, unless they are held already.
-pub fn name_clocks(
-    tags: &[u8],
-    values: &[u32],
-    names: u32,
-    l: NodeLayout,
-    env: &mut [u32],
-    held: bool,
-)
-    requires { ⌜ length (now values) ≡ length (now tags) ⌝ }
-    ensures { λ _. ⌜ (held ≡ true → now (env .exit) ≡ now (env .entry)) ⌝ }
-    ensures { λ _. ⌜ ((n : Node) (q : ℕ) (k : Clocking) → LaidNode names (tokens (now (tags .entry)) (now (values .entry))) n q l → 17 * names ≤ length (now (env .entry)) → names ≤ 1024 → clocking n ≡ formed k → (held ≡ true → Agrees (now (env .entry)) names (k .names)) → Agrees (now (env .exit)) names (k .names)) ⌝ }
-{
-    if held {
-        return;
-    }
-    let mut marks = [0u8; MOST_NAMES];
-    passes::infer(tags, values, names, l, env, &mut marks);
-}
-
 // Is too deep a clock formed in a node with this layout? Not in one that uses no clocks, so its clocks are not inferred.
 fn deep_laid(
     tags: &[u8],
@@ -247,6 +235,7 @@ fn deep_laid(
     marks: &mut [u8],
     ports: &mut [u32],
     table: &mut [u32],
+    sites: &mut [u32],
 ) -> bool
     requires { ⌜ length (now values) ≡ length (now tags) ⌝ }
     ensures { λ r. ⌜ ((n : Node) (q : ℕ) → LaidNode names (tokens (now (tags .entry)) (now (values .entry))) n q l → 17 * names ≤ length (now (env .entry)) → names ≤ length (now (marks .entry)) → names ≤ length (now (ports .entry)) → 38 * length (now (tags .entry)) ≤ length (now (table .entry)) → r ≡ isDeep (clocking n)) ⌝ }
@@ -256,7 +245,7 @@ fn deep_laid(
     if !uses {
         return false;
     }
-    let k = clock_laid(tags, values, names, l, env, marks, ports, table);
+    let k = clock_laid(tags, values, names, l, env, marks, ports, table, sites);
     match k {
         NodeClocked::Deep => true,
         NodeClocked::Clocked(_, _) => false,
@@ -274,6 +263,7 @@ pub fn first_deep(
     marks: &mut [u8],
     ports: &mut [u32],
     table: &mut [u32],
+    sites: &mut [u32],
 ) -> Deepest
     requires { ⌜ length (now values) ≡ length (now tags) ⌝ }
     ensures { λ r. ⌜ ((ns : List Node) (q : ℕ) → times count (node names) (tokens (now (tags .entry)) (now (values .entry))) at ≡ got ns q → 17 * names ≤ length (now (env .entry)) → names ≤ length (now (marks .entry)) → names ≤ length (now (ports .entry)) → 38 * length (now (tags .entry)) ≤ length (now (table .entry)) → Deeply r (clockings 0 ns)) ⌝ }
@@ -282,7 +272,7 @@ pub fn first_deep(
     let mut place = at;
     while i < count {
         let l = layout::node_at(tags, values, names, place);
-        if deep_laid(tags, values, names, l, env, marks, ports, table) {
+        if deep_laid(tags, values, names, l, env, marks, ports, table, sites) {
             return Deepest::At(i);
         }
         place = l.end;

@@ -13,7 +13,7 @@ use Rattle.definitions.specs.declared.Token.{Token}
 use Rattle.definitions.specs.Lists.{join, orElse}
 use Rattle.definitions.specs.Tokens.{TagValue}
 use Rattle.definitions.specs.Bytes.{tokens}
-use Rattle.definitions.specs.Tree.{Ty, TypeDef, Expr, Node}
+use Rattle.definitions.specs.Tree.{Ty, Declared, TypeDef, Expr, Node}
 use Rattle.definitions.specs.Reading.{got, times}
 use Rattle.definitions.specs.Grammar.{name, ty}
 use Rattle.definitions.specs.Types.{primitiveDefault, defaultBy, default}
@@ -26,19 +26,20 @@ use Rattle.grammar.proofs.Got.{times-nil, times-cons, tagged-value}
 use Rattle.layout.specs.declared.NodeLayout.{NodeLayout}
 use Rattle.layout.specs.Spans.{pastIn}
 use Rattle.layout.specs.Laid.{LaidNode}
-use Rattle.operand_type.specs.declared.TypeFound.{TypeFound}
-use Rattle.operand_type.specs.Found.{IsFound}
+use Rattle.typing.specs.declared.TypeFound.{TypeFound}
+use Rattle.typing.specs.Found.{IsFound, foundBy, Declares}
 use Rattle.emit.specs.Out.{Out, emits}
 use Rattle.emit.proofs.Laws.{emits-append, emits-none}
 use Rattle.stateless.specs.Yield.{exprOr, defaultOr, leftTree, leftTrees}
 use Rattle.stateless.specs.Faults.{unless, leftTypeFault, leftFault, leftsFault}
-use Rattle.operand_type.proofs.Typed.{declared-at}
+use Rattle.typing.proofs.Typed.{declared-at}
 
 -- ---- left names as they stand
 -- the first of k names stands as a value, and the others from the next place on
 pub record FirstName (M : ℕ) (ts : List TagValue) (k q : ℕ) (xs : List ℕ) (x next : ℕ) : Type 0 where
   pub rest : List ℕ
   pub all : xs ≡ x ∷ rest
+  pub below : x < M
   pub stand : times (k - 1) (name M) ts next ≡ got rest q
 
 module _ (M : ℕ) (gs vs : List ℕ) (same : length vs ≡ length gs) (k p : ℕ) (xs : List ℕ) (q : ℕ) where
@@ -54,6 +55,7 @@ module _ (M : ℕ) (gs vs : List ℕ) (same : length vs ≡ length gs) (k p : �
       record {
         rest = t .2;
         all = t .5 ∙ ap (λ (y : ℕ). y ∷ t .2) (v .0 ∙ sym i);
+        below = omega (arith, v .0, v .2, i);
         stand = ap (λ (y : ℕ). times (k - 1) (name M) (tokens gs vs) y) (sym s) ∙ t .4;
       }
 
@@ -61,6 +63,10 @@ module _ (M : ℕ) (gs vs : List ℕ) (same : length vs ≡ length gs) (k p : �
   no-name z g = times-nil (name M) (tokens gs vs) k p xs q z g .0
 
 -- ---- the default of a left name
+-- the answer that the table of declared types gives
+pub type-found : (M : ℕ) (ts : List TagValue) (t : List ℕ) (ds : List Declared) (x : ℕ) (f : TypeFound) → Declares M ts t ds → x < M → f ≡ foundBy (getD t x 0) → IsFound M ts (lastType ds x) f
+type-found M ts t ds x f d b e = rw e (d .each x b)
+
 module _ (types : List TypeDef) (nodes : List Node) (node : Node) where
   -- a left name that meets no fault is declared, and its type has a default
   left-is : (x : ℕ) → leftFault types nodes node x ≡ none →
@@ -109,14 +115,14 @@ module _ (types : List TypeDef) (nodes : List Node) (node : Node) where
 
   -- the first and the others make all
   pub wrote-lefts : (M : ℕ) (ts : List TagValue) (k q : ℕ) (xs : List ℕ) (x next : ℕ) (o o₁ o₂ : Out) → leftsFault types nodes node xs ≡ none
-      → (leftFault types nodes node x ≡ none → o₁ ≡ emits o (exprTokens (leftTree types nodes node x)))
+      → (x < M → leftFault types nodes node x ≡ none → o₁ ≡ emits o (exprTokens (leftTree types nodes node x)))
       → ((rest : List ℕ) → times (k - 1) (name M) ts next ≡ got rest q → leftsFault types nodes node rest ≡ none → o₂ ≡ emits o₁ (join (operandTokens (leftTrees types nodes node rest))))
       → FirstName M ts k q xs x next → o₂ ≡ emits o (join (operandTokens (leftTrees types nodes node xs)))
   unfolding leftTrees operandTokens
   wrote-lefts M ts k q xs x next o o₁ o₂ free one others n =
       let a = first-free x (n .rest) (rw (n .all) at free) in
       others (n .rest) (n .stand) (a .1)
-      ∙ (ap (λ (y : Out). emits y (join (operandTokens (leftTrees types nodes node (n .rest))))) (one (a .0))
+      ∙ (ap (λ (y : Out). emits y (join (operandTokens (leftTrees types nodes node (n .rest))))) (one (n .below) (a .0))
       ∙ (emits-append o (exprTokens (leftTree types nodes node x)) (join (operandTokens (leftTrees types nodes node (n .rest)))) ∙ ap (λ (y : List ℕ). emits o (join (operandTokens (leftTrees types nodes node y)))) (sym (n .all))))
 
   pub wrote-no-left : (all : List ℕ) (o : Out) → all ≡ [] → o ≡ emits o (join (operandTokens (leftTrees types nodes node all)))

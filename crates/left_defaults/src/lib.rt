@@ -1,16 +1,15 @@
 // The left names of an equation of an accepted sheet, and their defaults, written into the output's tokens.
 // `tags` and `values` are the sheet's tokens, `names` is the number of its names; `places` are those of its types' definitions,
-// of which there are `types`; `node` is the node's layout. `otags` and `ovalues` are the output's tokens, of which w are written.
+// of which there are `defined`; `types` has the declared types of the node's names. `otags` and `ovalues` are the output's tokens, of which w are written.
 use definitions::MOST_TYPES;
 use definitions::Token;
 use definitions::WORKING_TOKENS;
-use layout::NodeLayout;
 use layout::Span;
-use operand_type::TypeFound;
+use typing::TypeFound;
 ghost use mathlib.Core.Path.{_≡_};
 ghost use mathlib.Core.List.{List, _∷_};
 ghost use mathlib.Core.Option.{none};
-ghost use Prim.Native.Nat.{ℕ, _≤_};
+ghost use Prim.Native.Nat.{ℕ, _≤_, _<_};
 ghost use lib.ListN.{length};
 ghost use Rattle.definitions.specs.Bytes.{tokens};
 ghost use Rattle.definitions.specs.Lists.{join};
@@ -21,7 +20,10 @@ ghost use Rattle.definitions.specs.Output.{exprTokens, operandTokens, nameToken
 ghost use Rattle.definitions.specs.declared.Token.{Token};
 ghost use Rattle.typedefs.specs.Table.{Table};
 ghost use Rattle.layout.specs.Spans.{Spans};
+ghost use Rattle.layout.specs.declared.NodeLayout.{NodeLayout};
 ghost use Rattle.layout.specs.Laid.{LaidNode};
+ghost use Rattle.definitions.specs.Declock.{declared};
+ghost use Rattle.typing.specs.Found.{Declares};
 ghost use Rattle.emit.specs.Out.{out, emits};
 ghost use Rattle.stateless.specs.Yield.{leftTree, leftTrees};
 ghost use Rattle.stateless.specs.Faults.{leftFault, leftsFault};
@@ -32,25 +34,25 @@ pub fn put_left_default(
     values: &[u32],
     names: u32,
     places: &[usize; MOST_TYPES],
-    types: usize,
-    node: NodeLayout,
+    defined: usize,
+    types: &[u32],
     x: u32,
     otags: &mut [u8; WORKING_TOKENS],
     ovalues: &mut [u32; WORKING_TOKENS],
     w: usize,
 ) -> usize
     requires { ⌜ length (now values) ≡ length (now tags) ⌝ }
-    requires { ⌜ types ≤ 32 ⌝ }
-    ensures { λ r. ⌜ ((ts : List TypeDef) (l : List Node) (n : Node) (u : ℕ) → Table names (tokens (now (tags .entry)) (now (values .entry))) (now (places .entry)) types ts → LaidNode names (tokens (now (tags .entry)) (now (values .entry))) n u node → leftFault ts l n x ≡ none → out (now (otags .exit)) (now (ovalues .exit)) r ≡ emits (out (now (otags .entry)) (now (ovalues .entry)) w) (exprTokens (leftTree ts l n x))) ⌝ }
+    requires { ⌜ defined ≤ 32 ⌝ }
+    ensures { λ r. ⌜ ((ts : List TypeDef) (l : List Node) (n : Node) (u : ℕ) (layout : NodeLayout) → Table names (tokens (now (tags .entry)) (now (values .entry))) (now (places .entry)) defined ts → LaidNode names (tokens (now (tags .entry)) (now (values .entry))) n u layout → Declares names (tokens (now (tags .entry)) (now (values .entry))) (now (types .entry)) (declared n) → x < names → leftFault ts l n x ≡ none → out (now (otags .exit)) (now (ovalues .exit)) r ≡ emits (out (now (otags .entry)) (now (ovalues .entry)) w) (exprTokens (leftTree ts l n x))) ⌝ }
 {
-    let found = operand_type::last_type(tags, values, names, node, x);
+    let found = typing::last_type(types, x);
     match found {
         TypeFound::At(p) => defaults::emit_default(
             tags,
             values,
             names,
             places,
-            types,
+            defined,
             p,
             otags,
             ovalues,
@@ -70,8 +72,8 @@ pub fn put_left_defaults(
     values: &[u32],
     names: u32,
     places: &[usize; MOST_TYPES],
-    types: usize,
-    node: NodeLayout,
+    defined: usize,
+    types: &[u32],
     count: u32,
     at: usize,
     otags: &mut [u8; WORKING_TOKENS],
@@ -79,8 +81,8 @@ pub fn put_left_defaults(
     w: usize,
 ) -> usize
     requires { ⌜ length (now values) ≡ length (now tags) ⌝ }
-    requires { ⌜ types ≤ 32 ⌝ }
-    ensures { λ r. ⌜ ((ts : List TypeDef) (l : List Node) (n : Node) (u : ℕ) (xs : List ℕ) (q : ℕ) → Table names (tokens (now (tags .entry)) (now (values .entry))) (now (places .entry)) types ts → LaidNode names (tokens (now (tags .entry)) (now (values .entry))) n u node → times count (name names) (tokens (now (tags .entry)) (now (values .entry))) at ≡ got xs q → leftsFault ts l n xs ≡ none → out (now (otags .exit)) (now (ovalues .exit)) r ≡ emits (out (now (otags .entry)) (now (ovalues .entry)) w) (join (operandTokens (leftTrees ts l n xs)))) ⌝ }
+    requires { ⌜ defined ≤ 32 ⌝ }
+    ensures { λ r. ⌜ ((ts : List TypeDef) (l : List Node) (n : Node) (u : ℕ) (layout : NodeLayout) (xs : List ℕ) (q : ℕ) → Table names (tokens (now (tags .entry)) (now (values .entry))) (now (places .entry)) defined ts → LaidNode names (tokens (now (tags .entry)) (now (values .entry))) n u layout → Declares names (tokens (now (tags .entry)) (now (values .entry))) (now (types .entry)) (declared n) → times count (name names) (tokens (now (tags .entry)) (now (values .entry))) at ≡ got xs q → leftsFault ts l n xs ≡ none → out (now (otags .exit)) (now (ovalues .exit)) r ≡ emits (out (now (otags .entry)) (now (ovalues .entry)) w) (join (operandTokens (leftTrees ts l n xs)))) ⌝ }
 {
     if count == 0 {
         return w;
@@ -92,8 +94,8 @@ pub fn put_left_defaults(
         values,
         names,
         places,
+        defined,
         types,
-        node,
         x,
         otags,
         ovalues,
@@ -104,8 +106,8 @@ pub fn put_left_defaults(
         values,
         names,
         places,
+        defined,
         types,
-        node,
         count - 1,
         next,
         otags,

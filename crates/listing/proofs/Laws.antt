@@ -1,36 +1,34 @@
 -- The lines of a node's listing, one behind another. Assumes nothing.
-use mathlib.Core.Path.{_≡_, refl, sym, _∙_, ap}
+use mathlib.Core.Path.{_≡_, refl, sym, subst, _∙_, ap}
 use mathlib.Core.List.{List, [], _∷_, _++_, map, append-assoc, append-nil}
 use mathlib.Core.Bool.{Bool, true, false}
 use mathlib.Core.Option.{Option}
 use Prim.Native.Nat.{ℕ, zero, suc, _+_, _-_, _*_, _≤_, _<_, min}
 use native.Mathlib.Omega.{arith}
 use native.Mathlib.Numerals.{add-one}
-use lib.ListN.{length, getD, length-append}
+use lib.ListN.{length, getD, length-append, length-map}
 use Rattle.definitions.specs.Lists.{choose, any, join, numbered, Letters}
-use Rattle.definitions.specs.Tokens.{TagValue}
-use Rattle.definitions.specs.Tree.{Expr, Equation, Node}
-use Rattle.definitions.specs.Reading.{got, times}
+use Rattle.definitions.specs.Bytes.{tokens}
+use Rattle.definitions.specs.Tree.{Equation, Node}
+use Rattle.definitions.specs.Reading.{got}
 use Rattle.definitions.specs.Grammar.{equation}
 use Rattle.definitions.specs.Clock.{Clock, depth}
 use Rattle.definitions.specs.InferClocks.{Formed, deep, formed, _>>=_, Natural, Clocks, Clocked, Clocking, Inferred, Finding, NodeFault, isTooDeep, natural, orBase, clockedBy, checkEquation, inferred, clocking, chains, clockFaults}
 use Rattle.definitions.specs.Texts.{faultLine}
 use Rattle.definitions.specs.Answer.{nodeClocks, nodeListing}
-use Rattle.grammar.proofs.Got.{times-nil, times-cons}
-use Rattle.environment.specs.Environment.{Agrees}
-use Rattle.operands.specs.Spread.{tree}
-use Rattle.layout.specs.declared.EquationLayout.{EquationLayout}
-use Rattle.layout.specs.declared.NodeLayout.{NodeLayout}
-use Rattle.layout.specs.Laid.{LaidNode, LaidEquation}
+use Rattle.flat.specs.Flat.{clockIn}
+use Rattle.layout.specs.Laid.{LaidNode}
 use Rattle.findings.specs.Findings.{faultIn, findingIn, findingsIn}
 use Rattle.findings.proofs.Laws.{none-yet, faults-one, faults-no}
 use Rattle.order.specs.Order.{rowOf, picked}
-use Rattle.infer_clocks.specs.Clocked.{ClocksStand}
+use Rattle.skeleton.specs.Sites.{EquationsOn}
 use Rattle.spelling.specs.Writing.{Put, farthest}
 use Rattle.spelling.proofs.Writing.{put-none}
 use Rattle.texts.specs.Pieces.{headLine, equationLine, chainLine}
 use Rattle.texts.proofs.Joining.{also, put-as}
+use Rattle.listing.specs.declared.Told.{Told}
 use Rattle.listing.specs.Low.{Low}
+use Rattle.listing.specs.ToldClocks.{ToldClocks}
 use Rattle.texts.proofs.Listing.{put-line, put-numbered, put-listing}
 
 -- ---- a line for each fault of the first rows
@@ -84,7 +82,7 @@ module _ (f : ℕ → Clock) (o : List ℕ) where
 -- ---- a line for each equation
 module _ (clocks : Clocks) where
   -- an equation with its clock, before others
-  pub clocked-cons : (e : Equation) (es : List Equation) (cs : List Clocked) → clockedBy clocks (e ∷ es) ≡ formed cs
+  clocked-cons : (e : Equation) (es : List Equation) (cs : List Clocked) → clockedBy clocks (e ∷ es) ≡ formed cs
       → (o : Option Clock) × (ds : List Clocked) × (natural clocks (e .right) ≡ formed o) × (clockedBy clocks es ≡ formed ds) × (cs ≡ record { clock = orBase o; equation = e } ∷ ds)
   unfolding clockedBy
   clocked-cons e es cs h = go (natural clocks (e .right)) (clockedBy clocks es) refl refl h
@@ -107,11 +105,8 @@ module _ (clocks : Clocks) where
       ap (λ (l : List Clocked). length (map (λ (c : Clocked). c .clock) l)) (a .4) ∙ ap suc (clocked-many es (a .1) (a .3))
 
 -- one clock more
-one-more : (l : List Clock) (cs ds : List Clocked) (v w : Clock) (e : Equation) (all : List Clock) → v ≡ w → cs ≡ record { clock = w; equation = e } ∷ ds
-    → l ++ map (λ (c : Clocked). c .clock) cs ≡ all → (l ++ (v ∷ [])) ++ map (λ (c : Clocked). c .clock) ds ≡ all
-one-more l cs ds v w e all a b h =
-    append-assoc l (v ∷ []) (map (λ (c : Clocked). c .clock) ds)
-    ∙ (ap (λ (x : Clock). l ++ (x ∷ map (λ (c : Clocked). c .clock) ds)) a ∙ (ap (λ (y : List Clocked). l ++ map (λ (c : Clocked). c .clock) y) (sym b) ∙ h))
+one-more : (l : List Clock) (c : Clocked) (ds : List Clocked) (v : Clock) (all : List Clock) → v ≡ c .clock → l ++ map (λ (c : Clocked). c .clock) (c ∷ ds) ≡ all → (l ++ (v ∷ [])) ++ map (λ (c : Clocked). c .clock) ds ≡ all
+one-more l c ds v all a h = append-assoc l (v ∷ []) (map (λ (c : Clocked). c .clock) ds) ∙ (ap (λ (x : Clock). l ++ (x ∷ map (λ (c : Clocked). c .clock) ds)) a ∙ h)
 
 low-none : Low []
 unfolding Low
@@ -123,30 +118,28 @@ low-more [] c h g = (h, tt)
 low-more (d ∷ l) c h g = (g .0, low-more l c h (g .1))
 
 -- the lines so far, and the equations left; all clocks are `all`
-pub record Lines (M : ℕ) (ts : List TagValue) (clocks : Clocks) (line : ℕ → Clock → Letters) (left i place q p : ℕ) (s : List ℕ) (next : ℕ) (out : List ℕ) (all : List Clock) : Type 0 where
-  pub rest : List Equation
-  pub clocked : List Clocked
+pub record Lines (M : ℕ) (gs vs sites : List ℕ) (line : ℕ → Clock → Letters) (left i place q p : ℕ) (s : List ℕ) (next : ℕ) (out : List ℕ) (all : List Clock) : Type 0 where
+  pub rest : List Clocked
   pub so-far : List Clock
-  pub items : times left (equation M) ts place ≡ got rest q
-  pub each : clockedBy clocks rest ≡ formed clocked
+  pub on : EquationsOn M gs vs sites rest place q
+  pub count : length rest ≡ left
   pub many : i ≡ length so-far
-  pub whole : so-far ++ map (λ (c : Clocked). c .clock) clocked ≡ all
+  pub whole : so-far ++ map (λ (c : Clocked). c .clock) rest ≡ all
   pub lines : Put (join (numbered line 0 so-far)) p s next out
   pub low : Low so-far
 
-module _ (M : ℕ) (ts : List TagValue) (clocks : Clocks) (line : ℕ → Clock → Letters) {p : ℕ} {s : List ℕ} where
-  pub lines-start : (count n at q : ℕ) (es : List Equation) (cs : List Clocked) {next : ℕ} → n ≡ count → times count (equation M) ts at ≡ got es q → clockedBy clocks es ≡ formed cs → next ≡ min (p + 0) farthest
-      → Lines M ts clocks line (n - 0) 0 at q p s next s (map (λ (c : Clocked). c .clock) cs)
-  lines-start count n at q es cs c g h e =
-      let k : n - 0 ≡ count = omega arith in
-      record { rest = es; clocked = cs; so-far = []; items = rw k g; each = h; many = refl; whole = refl; lines = put-none s e; low = low-none }
+module _ (M : ℕ) (gs vs sites : List ℕ) (line : ℕ → Clock → Letters) {p : ℕ} {s : List ℕ} where
+  pub lines-start : (count n at q : ℕ) (cs : List Clocked) {next : ℕ} → n ≡ count → EquationsOn M gs vs sites cs at q → length cs ≡ count → next ≡ min (p + 0) farthest
+      → Lines M gs vs sites line (n - 0) 0 at q p s next s (map (λ (c : Clocked). c .clock) cs)
+  lines-start count n at q cs c g h e = record { rest = cs; so-far = []; on = g; count = omega (arith, c, h); many = refl; whole = refl; lines = put-none s e; low = low-none }
 
-  module _ (left i place q : ℕ) (all : List Clock) {next : ℕ} {out : List ℕ} (z : left ≡ 0) (h : Lines M ts clocks line left i place q p s next out all) where
+  module _ (left i place q : ℕ) (all : List Clock) {next : ℕ} {out : List ℕ} (z : left ≡ 0) (h : Lines M gs vs sites line left i place q p s next out all) where
     lines-all : h .so-far ≡ all
-    lines-all =
-        let e = times-nil (equation M) ts left place (h .rest) q z (h .items) in
-        let a : clockedBy clocks [] ≡ formed (h .clocked) = ap (clockedBy clocks) (sym (e .0)) ∙ h .each in
-        sym (append-nil (h .so-far)) ∙ (ap (λ (l : List Clocked). h .so-far ++ map (λ (c : Clocked). c .clock) l) (sym (clocked-nil clocks (h .clocked) a)) ∙ h .whole)
+    lines-all = go (h .rest) (h .count) (h .whole)
+      where
+        go : (l : List Clocked) → length l ≡ left → h .so-far ++ map (λ (c : Clocked). c .clock) l ≡ all → h .so-far ≡ all
+        go [] k e = sym (append-nil (h .so-far)) ∙ e
+        go (c ∷ l) k e = absurd (omega (arith, z, k))
 
     pub lines-end : Put (join (numbered line 0 all)) p s next out
     lines-end = put-as (ap (λ (l : List Clock). join (numbered line 0 l)) lines-all) (h .lines)
@@ -154,24 +147,31 @@ module _ (M : ℕ) (ts : List TagValue) (clocks : Clocks) (line : ℕ → Clock 
     pub lines-low : Low all
     lines-low = rw lines-all at (h .low)
 
-  pub lines-step : (env : List ℕ) (n i place q : ℕ) (all : List Clock) (l : EquationLayout) (v : Clock) {next r : ℕ} {out out′ : List ℕ} → depth v ≤ 8 → i < n → length s ≤ farthest → Agrees env M clocks
-      → ((e : Equation) (q : ℕ) → equation M ts place ≡ got e q → LaidEquation M ts e q l)
-      → ((e : Expr) (q : ℕ) (clocks : Clocks) (o : Option Clock) → tree M ts (l .right) ≡ got e q → Agrees env M clocks → natural clocks e ≡ formed o → v ≡ orBase o)
+  pub lines-step : (n i place q end : ℕ) (all : List Clock) (v : Clock) {next r : ℕ} {out out′ : List ℕ} → depth v ≤ 8 → i < n → length s ≤ farthest → v ≡ clockIn sites (17 * place)
+      → ((M : ℕ) (e : Equation) (q : ℕ) → equation M (tokens gs vs) place ≡ got e q → end ≡ q)
       → Put (line i v) next out r out′
-      → Lines M ts clocks line (n - i) i place q p s next out all → Lines M ts clocks line (n - (i + 1)) (i + 1) (l .end) q p s r out′ all
-  lines-step env n i place q all l v small z k a L E u h =
-      let c = times-cons (equation M) ts (n - i) place (h .rest) q (λ y. omega (arith, y)) (h .items) in
-      let d = L (c .0) (c .1) (c .3) in
-      let b = clocked-cons clocks (c .0) (c .2) (h .clocked) (ap (clockedBy clocks) (sym (c .5)) ∙ h .each) in
-      let e : v ≡ orBase (b .0) = E (c .0 .right) (c .1) clocks (b .0) (d .right) a (b .2) in
-      let w : n - (i + 1) ≡ n - i - 1 = omega arith in
-      let m : i + 1 ≡ length (h .so-far ++ (v ∷ [])) = simp length-append (omega (arith, h .many)) in
-      let f = one-more (h .so-far) (h .clocked) (b .1) v (orBase (b .0)) (c .0) all e (b .4) (h .whole) in
-      record { rest = c .2; clocked = b .1; so-far = h .so-far ++ (v ∷ []); items = rw (d .ends, w) (c .4); each = b .3; many = m; whole = f; lines = put-numbered line (h .so-far) i v (h .many) k (h .lines) u; low = low-more (h .so-far) v small (h .low) }
+      → Lines M gs vs sites line (n - i) i place q p s next out all → Lines M gs vs sites line (n - (i + 1)) (i + 1) end q p s r out′ all
+  unfolding EquationsOn
+  lines-step n i place q end all v {next} {r} {out} {out′} small z k a E u h = go (h .rest) (h .on) (h .count) (h .whole)
+    where
+      go : (l : List Clocked) → EquationsOn M gs vs sites l place q → length l ≡ n - i → h .so-far ++ map (λ (c : Clocked). c .clock) l ≡ all → Lines M gs vs sites line (n - (i + 1)) (i + 1) end q p s r out′ all
+      go [] o c w = absurd (omega (arith, z, c))
+      go (x ∷ l) o c w =
+          let m : i + 1 ≡ length (h .so-far ++ (v ∷ [])) = simp length-append (omega (arith, h .many)) in
+          record {
+            rest = l;
+            so-far = h .so-far ++ (v ∷ []);
+            on = subst (λ (y : ℕ). EquationsOn M gs vs sites l y q) (sym (E M (x .equation) (o .0) (o .1))) (o .3);
+            count = omega (arith, z, c);
+            many = m;
+            whole = one-more (h .so-far) x l v all (a ∙ o .2) w;
+            lines = put-numbered line (h .so-far) i v (h .many) k (h .lines) u;
+            low = low-more (h .so-far) v small (h .low);
+          }
 
 -- ---- a node
 -- a node's equations have the clocks that its names' clocks say
-pub node-clocked : (n : Node) (k : Clocking) → clocking n ≡ formed k → clockedBy (k .names) (n .equations) ≡ formed (k .equations)
+node-clocked : (n : Node) (k : Clocking) → clocking n ≡ formed k → clockedBy (k .names) (n .equations) ≡ formed (k .equations)
 unfolding clocking
 node-clocked n k h = go (inferred n) h
   where
@@ -193,26 +193,31 @@ node-clocked n k h = go (inferred n) h
     go deep g = let z : _≡_ {A = ℕ} 0 1 = cc in absurd (omega arith)
     go (formed r) g = more r (clockedBy (r .clocks) (n .equations)) refl g
 
+-- as many clocks as the node has equations
+pub node-many : (n : Node) (k : Clocking) → clocking n ≡ formed k → length (k .equations) ≡ length (n .equations)
+node-many n k h = sym (length-map (k .equations) (λ (c : Clocked). c .clock)) ∙ clocked-many (k .names) (n .equations) (k .equations) (node-clocked n k h)
+
 head-same : (letters : ℕ → Letters) (a a′ b b′ c c′ d d′ : ℕ) → a ≡ a′ → b ≡ b′ → c ≡ c′ → d ≡ d′ → headLine letters a b c d ≡ headLine letters a′ b′ c′ d′
 head-same letters a a′ b b′ c c′ d d′ e f g h = rw (e, f, g, h)
 
 -- the head, the lines of equations, chains and faults are the node's listing
-pub node-put : (letters : ℕ → Letters) (i M : ℕ) (ts : List TagValue) (n : Node) (end : ℕ) (l : NodeLayout) (k : Clocking) (env t rows chain : List ℕ) (passes f m equations : ℕ) {p p₁ p₂ p₃ p₄ : ℕ} {s s₁ s₂ s₃ s₄ : List ℕ}
-    → LaidNode M ts n end l → clocking n ≡ formed k → ClocksStand env t M passes f k → picked (rowOf rows) chain 0 m ≡ chains letters (findingsIn t f) → equations ≡ l .equations .count → length s ≤ farthest
-    → Put (headLine letters (l .name) equations passes m) p s p₁ s₁
-    → ((clocks : Clocks) (es : List Equation) (q : ℕ) (cs : List Clocked) → Agrees env M clocks → times (l .equations .count) (equation M) ts (l .equations .at) ≡ got es q → clockedBy clocks es ≡ formed cs → Put (join (numbered (equationLine letters) 0 (map (λ (c : Clocked). c .clock) cs))) p₁ s₁ p₂ s₂)
+pub node-put : (letters : ℕ → Letters) (gs vs : List ℕ) (n : Node) (end : ℕ) (k : Clocking) (t sites rows chain : List ℕ) (told : Told) (m equations : ℕ) {p p₁ p₂ p₃ p₄ : ℕ} {s s₁ s₂ s₃ s₄ : List ℕ}
+    → LaidNode (told .names) (tokens gs vs) n end (told .layout) → clocking n ≡ formed k → ToldClocks gs vs t sites told k → picked (rowOf rows) chain 0 m ≡ chains letters (findingsIn t (told .findings))
+    → equations ≡ told .layout .equations .count → length s ≤ farthest
+    → Put (headLine letters (told .layout .name) equations (told .passes) m) p s p₁ s₁
+    → ((M : ℕ) (cs : List Clocked) (q : ℕ) → EquationsOn M gs vs sites cs (told .layout .equations .at) q → length cs ≡ told .layout .equations .count → Put (join (numbered (equationLine letters) 0 (map (λ (c : Clocked). c .clock) cs))) p₁ s₁ p₂ s₂)
     → Put (join (map (chainLine letters) (picked (rowOf rows) chain 0 m))) p₂ s₂ p₃ s₃
-    → Put (join (map (faultLine letters i) (clockFaults (findingsIn t f)))) p₃ s₃ p₄ s₄
-    → Put (nodeListing letters i (record { node = n; clocking = k })) p s p₄ s₄
+    → Put (join (map (faultLine letters (told .number)) (clockFaults (findingsIn t (told .findings))))) p₃ s₃ p₄ s₄
+    → Put (nodeListing letters (told .number) (record { node = n; clocking = k })) p s p₄ s₄
 unfolding nodeListing nodeClocks
-node-put letters i M ts n end l k env t rows chain passes f m equations laid h told e c room u v w x =
-    let a = node-clocked n k h in
-    let ch : picked (rowOf rows) chain 0 m ≡ chains letters (k .findings) = e ∙ ap (chains letters) (told .all) in
-    let many : equations ≡ length (map (λ (c : Clocked). c .clock) (k .equations)) = c ∙ (laid .equations .many ∙ sym (clocked-many (k .names) (n .equations) (k .equations) a)) in
+node-put letters gs vs n end k t sites rows chain told m equations laid h tells e c room u v w x =
+    let ch : picked (rowOf rows) chain 0 m ≡ chains letters (k .findings) = e ∙ ap (chains letters) (tells .all) in
+    let all : length (k .equations) ≡ told .layout .equations .count = node-many n k h ∙ sym (laid .equations .many) in
+    let many : equations ≡ length (map (λ (c : Clocked). c .clock) (k .equations)) = c ∙ (sym all ∙ sym (length-map (k .equations) (λ (c : Clocked). c .clock))) in
     let few : m ≡ length (chains letters (k .findings)) = sym (picked-length (rowOf rows) chain 0 m) ∙ ap length ch in
     also room
     (put-listing letters (n .name) (k .passes) (map (λ (c : Clocked). c .clock) (k .equations)) (chains letters (k .findings)) room
-    (put-as (head-same letters _ _ _ _ _ _ _ _ (laid .named) many (sym (told .made)) few) u)
-    (v (k .names) (n .equations) (l .equations .end) (k .equations) (told .named) (laid .equations .items) a)
+    (put-as (head-same letters _ _ _ _ _ _ _ _ (laid .named) many (sym (tells .made)) few) u)
+    (v (told .names) (k .equations) (told .layout .equations .end) (tells .on) all)
     (put-as (ap (λ (y : List Clock). join (map (chainLine letters) y)) ch) w))
-    λ _. put-as (ap (λ (y : List Finding). join (map (faultLine letters i) (clockFaults y))) (told .all)) x
+    λ _. put-as (ap (λ (y : List Finding). join (map (faultLine letters (told .number)) (clockFaults y))) (tells .all)) x

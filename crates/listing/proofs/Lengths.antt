@@ -1,5 +1,5 @@
 -- A node's listing can be measured. Assumes nothing.
-use mathlib.Core.Path.{_≡_, refl, sym, ap}
+use mathlib.Core.Path.{_≡_, refl, sym, _∙_, ap}
 use mathlib.Core.List.{List, [], _∷_, _++_, map}
 use mathlib.Core.Bool.{Bool, true, false}
 use Prim.Native.Nat.{ℕ, zero, suc, _+_, _-_, _*_, _≤_, _<_, Ordering, Ordering·lt, Ordering·eq, Ordering·gt}
@@ -13,22 +13,20 @@ use Rattle.definitions.specs.Tree.{Equation, Node}
 use Rattle.definitions.specs.Reading.{got, times}
 use Rattle.definitions.specs.Grammar.{equation}
 use Rattle.definitions.specs.Clock.{Clock, depth, isBase, chainOrder, insert, inChainOrder}
-use Rattle.definitions.specs.InferClocks.{Clocks, Clocked, Clocking, Finding, leftElsewhere, usedElsewhere, whenElsewhere, clockNameElsewhere, found, site, tooDeep, formed, clockedBy, clocking, chains, sites, clockFaults}
+use Rattle.definitions.specs.InferClocks.{Clocked, Clocking, Finding, leftElsewhere, usedElsewhere, whenElsewhere, clockNameElsewhere, found, site, tooDeep, formed, clocking, chains, sites, clockFaults}
 use Rattle.definitions.specs.Texts.{listing, faultLine}
 use Rattle.definitions.specs.Answer.{nodeClocks, nodeListing}
 use Rattle.grammar.proofs.Laws.{tokens-length}
 use Rattle.grammar.proofs.Got.{times-cons}
 use Rattle.grammar.proofs.Longer.{times-keeps, keeps, equation-grows}
-use Rattle.environment.specs.Environment.{Agrees}
 use Rattle.flat.specs.Flat.{testOf, clockIn}
 use Rattle.flat.proofs.Laws.{depth-in}
-use Rattle.layout.specs.declared.NodeLayout.{NodeLayout}
 use Rattle.layout.specs.Laid.{LaidNode}
 use Rattle.findings.specs.Findings.{faultAs, faultIn, findingsFrom, findingsIn}
 use Rattle.findings.proofs.Laws.{length-from}
 use Rattle.fresh.specs.Places.{lettersAt}
 use Rattle.order.specs.Order.{rowOf, picked}
-use Rattle.infer_clocks.specs.Clocked.{ClocksStand}
+use Rattle.skeleton.specs.Sites.{EquationsOn}
 use Rattle.spelling.specs.Writing.{Put, farthest}
 use Rattle.spelling.proofs.Writing.{over-past}
 use Rattle.texts.specs.declared.Lending.{Lending}
@@ -37,8 +35,10 @@ use Rattle.texts.proofs.Giving.{gives-written, gives-lent}
 use Rattle.texts.specs.Pieces.{headLine, equationLine, chainLine}
 use Rattle.texts.proofs.Pieces.{listing-pieces}
 use Rattle.texts.proofs.Lengths.{shallow, name-length, head-length, equation-length, chain-length, line-length, Within, join-length}
+use Rattle.listing.specs.declared.Told.{Told}
 use Rattle.listing.specs.Low.{Low}
-use Rattle.listing.proofs.Laws.{clocked-many, node-clocked}
+use Rattle.listing.specs.ToldClocks.{ToldClocks}
+use Rattle.listing.proofs.Laws.{node-many}
 
 -- ---- how many
 map-length : {A B : Type 0} (f : A → B) (l : List A) → length (map f l) ≡ length l
@@ -175,23 +175,21 @@ module _ (letters : ℕ → Letters) (short : (x : ℕ) → length (letters x) �
       )
 
 -- the listing of a node within a sheet's limits
-pub node-fits : (starts letters : List ℕ) (i M : ℕ) (tags values : List ℕ) (n : Node) (end : ℕ) (l : NodeLayout) (k : Clocking) (env t rows chain : List ℕ) (passes f m : ℕ)
-    → length values ≡ length tags → LaidNode M (tokens tags values) n end l → clocking n ≡ formed k → ClocksStand env t M passes f k → picked (rowOf rows) chain 0 m ≡ chains (lettersAt starts letters) (findingsIn t f)
-    → ((clocks : Clocks) (es : List Equation) (q : ℕ) (cs : List Clocked) → Agrees env M clocks → times (l .equations .count) (equation M) (tokens tags values) (l .equations .at) ≡ got es q → clockedBy clocks es ≡ formed cs → Low (map (λ (c : Clocked). c .clock) cs))
-    → length letters ≤ 16384 → length tags ≤ 4096 → f ≤ 4096 → length (nodeListing (lettersAt starts letters) i (record { node = n; clocking = k })) ≤ farthest
+pub node-fits : (starts letters tags values : List ℕ) (n : Node) (end : ℕ) (k : Clocking) (t sites rows chain : List ℕ) (told : Told) (m : ℕ)
+    → length values ≡ length tags → LaidNode (told .names) (tokens tags values) n end (told .layout) → clocking n ≡ formed k → ToldClocks tags values t sites told k → picked (rowOf rows) chain 0 m ≡ chains (lettersAt starts letters) (findingsIn t (told .findings))
+    → ((M : ℕ) (cs : List Clocked) (q : ℕ) → EquationsOn M tags values sites cs (told .layout .equations .at) q → length cs ≡ told .layout .equations .count → Low (map (λ (c : Clocked). c .clock) cs))
+    → length letters ≤ 16384 → length tags ≤ 4096 → told .findings ≤ 4096 → length (nodeListing (lettersAt starts letters) (told .number) (record { node = n; clocking = k })) ≤ farthest
 unfolding nodeListing nodeClocks
-node-fits starts letters i M tags values n end l k env t rows chain passes f m same laid h told e low x y z =
-    let L = lettersAt starts letters in
+node-fits starts letters tags values n end k t sites rows chain told m same laid h tells e low x y z =
     let short : (j : ℕ) → length (lettersAt starts letters j) ≤ 16384 = λ j. omega (arith, name-length starts letters j, x) in
-    let a = node-clocked n k h in
-    let es : List Clock = map (λ (c : Clocked). c .clock) (k .equations) in
-    let b : Low (map (λ (c : Clocked). c .clock) (k .equations)) = low (k .names) (n .equations) (l .equations .end) (k .equations) (told .named) (laid .equations .items) a in
-    let c : Low (chains (lettersAt starts letters) (findingsIn t f)) = rw e at (low-picked rows chain 0 m) in
+    let all : length (k .equations) ≡ told .layout .equations .count = node-many n k h ∙ sym (laid .equations .many) in
+    let b : Low (map (λ (c : Clocked). c .clock) (k .equations)) = low (told .names) (k .equations) (told .layout .equations .end) (tells .on) all in
+    let c : Low (chains (lettersAt starts letters) (findingsIn t (told .findings))) = rw e at (low-picked rows chain 0 m) in
     let d : length (map (λ (c : Clocked). c .clock) (k .equations)) ≤ 4096 =
-    omega (arith, clocked-many (k .names) (n .equations) (k .equations) a, laid .equations .many, few-equations M (tokens tags values) (l .equations .count) (l .equations .at) (n .equations) (l .equations .end) (laid .equations .items), tokens-length tags values same, y) in
-    let g : length (chains (lettersAt starts letters) (findingsIn t f)) ≤ 4096 = omega (arith, few-chains (lettersAt starts letters) (findingsIn t f), length-from t 0 f, z) in
-    let r = parts-fit (lettersAt starts letters) short i (n .name) (k .passes) f (map (λ (c : Clocked). c .clock) (k .equations)) (chains (lettersAt starts letters) (findingsIn t f)) t b c d g z in
-    rw (told .all) at r
+    omega (arith, map-length (λ (c : Clocked). c .clock) (k .equations), all, few-equations (told .names) (tokens tags values) (told .layout .equations .count) (told .layout .equations .at) (n .equations) (told .layout .equations .end) (laid .equations .items), tokens-length tags values same, y) in
+    let g : length (chains (lettersAt starts letters) (findingsIn t (told .findings))) ≤ 4096 = omega (arith, few-chains (lettersAt starts letters) (findingsIn t (told .findings)), length-from t 0 (told .findings), z) in
+    let r = parts-fit (lettersAt starts letters) short (told .number) (n .name) (k .passes) (told .findings) (map (λ (c : Clocked). c .clock) (k .equations)) (chains (lettersAt starts letters) (findingsIn t (told .findings))) t b c d g z in
+    rw (tells .all) at r
 
 pub few : (n : ℕ) → n ≤ 4096 → n < 4294967296
 few n h = omega arith

@@ -1,5 +1,6 @@
 // A node's clock listing put at a place of lent bytes.
-// `tags` and `values` are as long as each other; `names` is the number of names. `env` and `table` are as clock inference left them.
+// `tags` and `values` are as long as each other. `table` and `sites` are as clock inference left them: what was found, and the clock of each
+// equation in the row of its first token.
 use layout::NodeLayout;
 use layout::Span;
 use texts::Lending;
@@ -9,20 +10,18 @@ ghost use Prim.Native.Nat.{ℕ, _+_, _*_, _≤_, _<_, min};
 ghost use lib.ListN.{length};
 ghost use Rattle.definitions.specs.Lists.{join, numbered};
 ghost use Rattle.definitions.specs.Bytes.{tokens};
-ghost use Rattle.definitions.specs.Tree.{Equation, Node};
-ghost use Rattle.definitions.specs.Reading.{got, times};
-ghost use Rattle.definitions.specs.Grammar.{equation};
-ghost use Rattle.definitions.specs.InferClocks.{Clocks, Clocked, Clocking, formed, clockedBy, clocking, chains, clockFaults};
+ghost use Rattle.definitions.specs.Tree.{Node};
+ghost use Rattle.definitions.specs.InferClocks.{Clocked, Clocking, formed, clocking, chains, clockFaults};
 ghost use Rattle.definitions.specs.Texts.{faultLine};
 ghost use Rattle.definitions.specs.Answer.{nodeListing};
-ghost use Rattle.environment.specs.Environment.{Agrees};
 ghost use Rattle.findings.specs.Findings.{findingsIn};
 ghost use Rattle.fresh.specs.Places.{lettersAt};
 ghost use Rattle.order.specs.Order.{rowOf, picked};
 ghost use Rattle.layout.specs.Laid.{LaidNode};
-ghost use Rattle.infer_clocks.specs.Clocked.{ClocksStand};
+ghost use Rattle.skeleton.specs.Sites.{EquationsOn};
 ghost use Rattle.spelling.specs.Writing.{Put, farthest};
 ghost use Rattle.listing.specs.Low.{Low};
+ghost use Rattle.listing.specs.ToldClocks.{ToldClocks};
 ghost use Rattle.texts.specs.Lending.{Gives};
 ghost use Rattle.texts.specs.Pieces.{equationLine, chainLine};
 
@@ -53,26 +52,22 @@ fn put_equations(
     letters: &[u8],
     tags: &[u8],
     values: &[u32],
-    names: u32,
-    env: &[u32],
+    sites: &[u32],
     s: Span,
 ) -> usize
     requires { ⌜ length (now out) ≤ farthest ⌝ }
     requires { ⌜ length (now values) ≡ length (now tags) ⌝ }
-    ensures { λ r. ⌜ ((clocks : Clocks) (es : List Equation) (q : ℕ) (cs : List Clocked) → Agrees (now (env .entry)) names clocks → times (s .count) (equation names) (tokens (now (tags .entry)) (now (values .entry))) (s .at) ≡ got es q → clockedBy clocks es ≡ formed cs → Put (join (numbered (equationLine (lettersAt (now (starts .entry)) (now (letters .entry)))) 0 (map (λ c. c .clock) cs))) at (now (out .entry)) r (now (out .exit))) ⌝ }
-    ensures { λ r. ⌜ ((clocks : Clocks) (es : List Equation) (q : ℕ) (cs : List Clocked) → Agrees (now (env .entry)) names clocks → times (s .count) (equation names) (tokens (now (tags .entry)) (now (values .entry))) (s .at) ≡ got es q → clockedBy clocks es ≡ formed cs → Low (map (λ c. c .clock) cs)) ⌝ }
+    ensures { λ r. ⌜ ((M : ℕ) (cs : List Clocked) (q : ℕ) → EquationsOn M (now (tags .entry)) (now (values .entry)) (now (sites .entry)) cs (s .at) q → length cs ≡ s .count → Put (join (numbered (equationLine (lettersAt (now (starts .entry)) (now (letters .entry)))) 0 (map (λ c. c .clock) cs))) at (now (out .entry)) r (now (out .exit))) ⌝ }
+    ensures { λ r. ⌜ ((M : ℕ) (cs : List Clocked) (q : ℕ) → EquationsOn M (now (tags .entry)) (now (values .entry)) (now (sites .entry)) cs (s .at) q → length cs ≡ s .count → Low (map (λ c. c .clock) cs)) ⌝ }
 {
     let n = s.count as usize;
     let mut next = counted(at);
     let mut place = s.at;
     let mut i: usize = 0;
     while i < n {
-        let l = layout::equation_at(tags, values, names, place);
-        let right = l.right;
-        let end = l.end;
-        let c = infer_clocks::equation_clock(tags, values, names, env, right);
+        let c = rows::get(sites, place);
         next = texts::put_equation_line(out, next, starts, letters, i, c);
-        place = end;
+        place = extents::equation_end(tags, values, place);
         i += 1;
     }
     next
@@ -141,7 +136,7 @@ pub fn put_node(
     letters: &[u8],
     tags: &[u8],
     values: &[u32],
-    env: &[u32],
+    sites: &[u32],
     table: &[u32],
     told: Told,
     rows: &[u32],
@@ -151,14 +146,14 @@ pub fn put_node(
     requires { ⌜ length (now out) ≤ farthest ⌝ }
     requires { ⌜ length (now values) ≡ length (now tags) ⌝ }
     ensures { λ r. ⌜ r ≤ farthest ⌝ }
-    ensures { λ r. ⌜ ((node : Node) (q : ℕ) (k : Clocking) → LaidNode (told .names) (tokens (now (tags .entry)) (now (values .entry))) node q (told .layout) → clocking node ≡ formed k → ClocksStand (now (env .entry)) (now (table .entry)) (told .names) (told .passes) (told .findings) k → picked (rowOf (now (rows .entry))) (now (chain .entry)) 0 m ≡ chains (lettersAt (now (starts .entry)) (now (letters .entry))) (findingsIn (now (table .entry)) (told .findings)) → Put (nodeListing (lettersAt (now (starts .entry)) (now (letters .entry))) (told .number) (record { node = node; clocking = k })) at (now (out .entry)) r (now (out .exit))) ⌝ }
-    ensures { λ r. ⌜ ((node : Node) (q : ℕ) (k : Clocking) → LaidNode (told .names) (tokens (now (tags .entry)) (now (values .entry))) node q (told .layout) → clocking node ≡ formed k → ClocksStand (now (env .entry)) (now (table .entry)) (told .names) (told .passes) (told .findings) k → picked (rowOf (now (rows .entry))) (now (chain .entry)) 0 m ≡ chains (lettersAt (now (starts .entry)) (now (letters .entry))) (findingsIn (now (table .entry)) (told .findings)) → length (now (letters .entry)) ≤ 16384 → length (now (tags .entry)) ≤ 4096 → told .findings ≤ 4096 → length (nodeListing (lettersAt (now (starts .entry)) (now (letters .entry))) (told .number) (record { node = node; clocking = k })) ≤ farthest) ⌝ }
+    ensures { λ r. ⌜ ((node : Node) (q : ℕ) (k : Clocking) → LaidNode (told .names) (tokens (now (tags .entry)) (now (values .entry))) node q (told .layout) → clocking node ≡ formed k → ToldClocks (now (tags .entry)) (now (values .entry)) (now (table .entry)) (now (sites .entry)) told k → picked (rowOf (now (rows .entry))) (now (chain .entry)) 0 m ≡ chains (lettersAt (now (starts .entry)) (now (letters .entry))) (findingsIn (now (table .entry)) (told .findings)) → Put (nodeListing (lettersAt (now (starts .entry)) (now (letters .entry))) (told .number) (record { node = node; clocking = k })) at (now (out .entry)) r (now (out .exit))) ⌝ }
+    ensures { λ r. ⌜ ((node : Node) (q : ℕ) (k : Clocking) → LaidNode (told .names) (tokens (now (tags .entry)) (now (values .entry))) node q (told .layout) → clocking node ≡ formed k → ToldClocks (now (tags .entry)) (now (values .entry)) (now (table .entry)) (now (sites .entry)) told k → picked (rowOf (now (rows .entry))) (now (chain .entry)) 0 m ≡ chains (lettersAt (now (starts .entry)) (now (letters .entry))) (findingsIn (now (table .entry)) (told .findings)) → length (now (letters .entry)) ≤ 16384 → length (now (tags .entry)) ≤ 4096 → told .findings ≤ 4096 → length (nodeListing (lettersAt (now (starts .entry)) (now (letters .entry))) (told .number) (record { node = node; clocking = k })) ≤ farthest) ⌝ }
 {
     let l = told.layout;
     let e = l.equations;
     let equations = widths::wide(e.count);
     let a = texts::put_head(out, at, starts, letters, l.name, equations, told.passes, m);
-    let b = put_equations(out, a, starts, letters, tags, values, told.names, env, e);
+    let b = put_equations(out, a, starts, letters, tags, values, sites, e);
     let c = put_chains(out, b, starts, letters, rows, chain, m);
     put_faults(out, c, starts, letters, table, told.findings, told.number)
 }
@@ -169,7 +164,7 @@ pub fn measure_node(
     letters: &[u8],
     tags: &[u8],
     values: &[u32],
-    env: &[u32],
+    sites: &[u32],
     table: &[u32],
     told: Told,
     rows: &[u32],
@@ -178,7 +173,7 @@ pub fn measure_node(
 ) -> usize
     requires { ⌜ length (now values) ≡ length (now tags) ⌝ }
     ensures { λ r. ⌜ r ≤ farthest ⌝ }
-    ensures { λ r. ⌜ ((node : Node) (q : ℕ) (k : Clocking) → LaidNode (told .names) (tokens (now (tags .entry)) (now (values .entry))) node q (told .layout) → clocking node ≡ formed k → ClocksStand (now (env .entry)) (now (table .entry)) (told .names) (told .passes) (told .findings) k → picked (rowOf (now (rows .entry))) (now (chain .entry)) 0 m ≡ chains (lettersAt (now (starts .entry)) (now (letters .entry))) (findingsIn (now (table .entry)) (told .findings)) → length (now (letters .entry)) ≤ 16384 → length (now (tags .entry)) ≤ 4096 → told .findings ≤ 4096 → r ≡ length (nodeListing (lettersAt (now (starts .entry)) (now (letters .entry))) (told .number) (record { node = node; clocking = k }))) ⌝ }
+    ensures { λ r. ⌜ ((node : Node) (q : ℕ) (k : Clocking) → LaidNode (told .names) (tokens (now (tags .entry)) (now (values .entry))) node q (told .layout) → clocking node ≡ formed k → ToldClocks (now (tags .entry)) (now (values .entry)) (now (table .entry)) (now (sites .entry)) told k → picked (rowOf (now (rows .entry))) (now (chain .entry)) 0 m ≡ chains (lettersAt (now (starts .entry)) (now (letters .entry))) (findingsIn (now (table .entry)) (told .findings)) → length (now (letters .entry)) ≤ 16384 → length (now (tags .entry)) ≤ 4096 → told .findings ≤ 4096 → r ≡ length (nodeListing (lettersAt (now (starts .entry)) (now (letters .entry))) (told .number) (record { node = node; clocking = k }))) ⌝ }
 {
     let mut none = [0u8; 1];
     put_node(
@@ -188,7 +183,7 @@ pub fn measure_node(
         letters,
         tags,
         values,
-        env,
+        sites,
         table,
         told,
         rows,
@@ -204,14 +199,14 @@ pub fn node_into(
     letters: &[u8],
     tags: &[u8],
     values: &[u32],
-    env: &[u32],
+    sites: &[u32],
     table: &[u32],
     told: Told,
     rows: &mut [u32],
     chain: &mut [u32],
 ) -> Lending
     requires { ⌜ length (now values) ≡ length (now tags) ⌝ }
-    ensures { λ r. ⌜ ((node : Node) (q : ℕ) (k : Clocking) → LaidNode (told .names) (tokens (now (tags .entry)) (now (values .entry))) node q (told .layout) → clocking node ≡ formed k → ClocksStand (now (env .entry)) (now (table .entry)) (told .names) (told .passes) (told .findings) k → 17 * told .findings ≤ length (now (rows .entry)) → told .findings ≤ length (now (chain .entry)) → length (now (letters .entry)) ≤ 16384 → length (now (tags .entry)) ≤ 4096 → told .findings ≤ 4096 → Gives (nodeListing (lettersAt (now (starts .entry)) (now (letters .entry))) (told .number) (record { node = node; clocking = k })) (now (out .entry)) r (now (out .exit))) ⌝ }
+    ensures { λ r. ⌜ ((node : Node) (q : ℕ) (k : Clocking) → LaidNode (told .names) (tokens (now (tags .entry)) (now (values .entry))) node q (told .layout) → clocking node ≡ formed k → ToldClocks (now (tags .entry)) (now (values .entry)) (now (table .entry)) (now (sites .entry)) told k → 17 * told .findings ≤ length (now (rows .entry)) → told .findings ≤ length (now (chain .entry)) → length (now (letters .entry)) ≤ 16384 → length (now (tags .entry)) ≤ 4096 → told .findings ≤ 4096 → Gives (nodeListing (lettersAt (now (starts .entry)) (now (letters .entry))) (told .number) (record { node = node; clocking = k })) (now (out .entry)) r (now (out .exit))) ⌝ }
 {
     let m = infer_clocks::chain_rows(starts, letters, table, told.findings, rows, chain);
     let size = measure_node(
@@ -219,7 +214,7 @@ pub fn node_into(
         letters,
         tags,
         values,
-        env,
+        sites,
         table,
         told,
         rows,
@@ -234,7 +229,7 @@ pub fn node_into(
             letters,
             tags,
             values,
-            env,
+            sites,
             table,
             told,
             rows,

@@ -6,7 +6,6 @@ use native.Mathlib.Omega.{arith}
 use lib.ListN.{length}
 use Rattle.definitions.specs.declared.Refusal.{Refusal}
 use Rattle.definitions.specs.Lists.{Letters}
-use Rattle.definitions.specs.Tokens.{TagValue}
 use Rattle.definitions.specs.Refusals.{Answer, accepted, refused, faulty, Told, down, told, _>>=_}
 use Rattle.definitions.specs.Output.{lettersOf, ClockedNode}
 use Rattle.definitions.specs.Answer.{Input, input, NodeClocks, nodeAt, nodeClocks, nodeListing, clocksAnswer, listingAnswer, listingsAnswer}
@@ -70,10 +69,10 @@ pub listing-same : (v w : Answer Letters) (lent after : List ℕ) (r : ListingAn
 listing-same v w lent after r e g = rw e g
 
 -- ---- refusals 8 and 9
-module _ (M : ℕ) (ts : List TagValue) (env t : List ℕ) (i : Input) (k : ℕ) (a : NodeAnswer) (h : NodeTold M ts env t k a (nodeAt i k)) where
+module _ (M : ℕ) (gs vs t sites : List ℕ) (i : Input) (k : ℕ) (a : NodeAnswer) (h : NodeTold M gs vs t sites k a (nodeAt i k)) where
   node-down : (r : Refusal) → a ≡ NodeAnswer.Refused r → nodeAt i k ≡ refused r
   unfolding NodeTold
-  node-down r e = let x : NodeTold M ts env t k (NodeAnswer.Refused r) (nodeAt i k) = rw e at h in x
+  node-down r e = let x : NodeTold M gs vs t sites k (NodeAnswer.Refused r) (nodeAt i k) = rw e at h in x
 
   pub clocks-turned : (r : Refusal) (es cs fs : List ℕ) → a ≡ NodeAnswer.Refused r → ClocksInWords k (clocksOf i k) es cs fs es cs fs (ClocksAnswer.Refused r)
   clocks-turned r es cs fs e = rw (node-down r e) (record { answer = refl; equations = refl; chains = refl; faults = refl })
@@ -83,9 +82,9 @@ module _ (M : ℕ) (ts : List TagValue) (env t : List ℕ) (i : Input) (k : ℕ)
 
   -- node k
   module _ (told : listing.Told) (e : a ≡ NodeAnswer.Node told) where
-    pub node-there : (n : ClockedNode) × (nodeAt i k ≡ accepted n) × NodeWithClocks M ts env t k told n × (k < 16)
+    pub node-there : (n : ClockedNode) × (nodeAt i k ≡ accepted n) × NodeWithClocks M gs vs t sites k told n × (k < 16)
     unfolding NodeTold
-    node-there = let x : NodeTold M ts env t k (NodeAnswer.Node told) (nodeAt i k) = rw e at h in x
+    node-there = let x : NodeTold M gs vs t sites k (NodeAnswer.Node told) (nodeAt i k) = rw e at h in x
 
 -- the clocks of node k
 pub clocks-given : (letters : ℕ → Letters) (i : Input) (k number : ℕ) (n : ClockedNode) (es cs fs es′ cs′ fs′ : List ℕ) (r : NodeCounts) → letters ≡ lettersOf (i .names) → number ≡ k → nodeAt i k ≡ accepted n

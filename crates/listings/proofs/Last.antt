@@ -8,6 +8,7 @@ use borrow.Author.Tests.{le-leb, lt-leb}
 use Rattle.definitions.specs.declared.Refusal.{Refusal}
 use Rattle.definitions.specs.Lists.{join, numbered, over, Letters}
 use Rattle.definitions.specs.Tokens.{TagValue}
+use Rattle.definitions.specs.Bytes.{tokens}
 use Rattle.definitions.specs.Tree.{Node}
 use Rattle.definitions.specs.Reading.{Reader, got, times}
 use Rattle.definitions.specs.Grammar.{node}
@@ -96,28 +97,28 @@ module _ (front : List Node) (x : Node) where
     last-there c f = clockings-append 0 front (x ∷ []) ∙ (ap behind h ∙ ap (λ (v : Answer (List ClockedNode)). v >>= λ m. accepted (l ++ m)) (node-formed (0 + length front) x [] c f))
 
 -- ---- the last node clocked
-module _ (letters : ℕ → Letters) (M : ℕ) (ts : List TagValue) (n from place : ℕ) (ns : List Node) (l : List ClockedNode) (x : Node) (items : times n (node M) ts from ≡ got ns place) (h : clockings 0 ns ≡ accepted l)
-    (k : ℕ) (e : k ≡ n) (env t : List ℕ) (a : NodeAnswer) (C : ClockedAs M ts env t k x a) where
+module _ (letters : ℕ → Letters) (M : ℕ) (gs vs : List ℕ) (n from place : ℕ) (ns : List Node) (l : List ClockedNode) (x : Node) (items : times n (node M) (tokens gs vs) from ≡ got ns place) (h : clockings 0 ns ≡ accepted l)
+    (k : ℕ) (e : k ≡ n) (t sites : List ℕ) (a : NodeAnswer) (C : ClockedAs M gs vs t sites k x a) where
   many : k ≡ length ns
-  many = e ∙ sym (times-length (node M) ts n from ns place items)
+  many = e ∙ sym (times-length (node M) (tokens gs vs) n from ns place items)
 
   pub last-deep : (r : Refusal) (lent : List ℕ) → a ≡ NodeAnswer.Refused r → ListingGiven (nodesListed letters (ns ++ (x ∷ [])) (length lent)) lent lent (ListingAnswer.Refused r)
   last-deep r lent f =
-      let d = clocked-turned M ts env t k x a C r f in
+      let d = clocked-turned M gs vs t sites k x a C r f in
       let w : clockings 0 (ns ++ (x ∷ [])) ≡ refused r = last-down ns x l h k many (d .0) ∙ ap (λ (y : Refusal). refused y) (sym (d .1)) in
       rw w (record { answer = refl; bytes = refl })
 
   pub last-listed : (told : listing.Told) (lent after : List ℕ) (r : ListingAnswer) → a ≡ NodeAnswer.Node told
-      → ((y : ClockedNode) → NodeWithClocks (told .names) ts env t (told .number) told y → ListingGiven (lentText (join (numbered (nodeListing letters) 0 l) ++ nodeListing letters (told .number) y) (length lent)) lent after r)
+      → ((y : ClockedNode) → NodeWithClocks (told .names) gs vs t sites (told .number) told y → ListingGiven (lentText (join (numbered (nodeListing letters) 0 l) ++ nodeListing letters (told .number) y) (length lent)) lent after r)
       → ListingGiven (nodesListed letters (ns ++ (x ∷ [])) (length lent)) lent after r
   last-listed told lent after r f P =
-      let d = clocked-as M ts env t k x a C told f in
+      let d = clocked-as M gs vs t sites k x a C told f in
       let y : ClockedNode = record { node = x; clocking = d .0 } in
       let w : clockings 0 (ns ++ (x ∷ [])) ≡ accepted (l ++ (y ∷ [])) = last-there ns x l h (d .0) (d .1) in
       let b : 0 + length l ≡ told .number = omega (arith, nodes-many 0 ns l h, many, d .2 .number) in
       let g : join (numbered (nodeListing letters) 0 (l ++ (y ∷ []))) ≡ join (numbered (nodeListing letters) 0 l) ++ nodeListing letters (told .number) y =
       numbered-last (nodeListing letters) 0 l y ∙ ap (λ (j : ℕ). join (numbered (nodeListing letters) 0 l) ++ nodeListing letters j y) b in
-      rw (w, g) (P y (told-own M ts env t k told y (d .2)))
+      rw (w, g) (P y (told-own M gs vs t sites k told y (d .2)))
 
 -- ---- the nodes before it measured
 -- one listing more is counted

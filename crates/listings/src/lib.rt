@@ -1,6 +1,7 @@
 // The clocks and the listings of a sheet's nodes, which stands in the working tables: `starts` says where the letters of each name start in
 // `letters`, `names` how many there are; `tags` and `values` are the sheet's tokens, as long as each other. The tables are lent from
-// above: `env` for the clocks of names, `table` for what is found in equations, `rows` and `chain` for chains and their order.
+// above: `env` for the clocks of names, `table` for what is found in equations, `rows` and `chain` for chains and their order, `sites` for
+// the clocks of equations.
 use definitions::Refusal;
 use listing::Told;
 use query::Measured;
@@ -52,11 +53,12 @@ pub fn clocks_in(
     equations: &mut [u32],
     chains: &mut [u32],
     faults: &mut [u32],
+    sites: &mut [u32],
 ) -> ClocksAnswer
     requires { ⌜ length (now values) ≡ length (now tags) ⌝ }
-    ensures { λ r. ⌜ ((i : Input) → Standing (now (starts .entry)) (now (letters .entry)) (now (tags .entry)) (now (values .entry)) names i → Roomy names (length (now (tags .entry))) (now (env .entry)) (now (table .entry)) → Ample (now (table .entry)) (now (rows .entry)) (now (chain .entry)) → ClocksInWords k (clocksOf i k) (now (equations .entry)) (now (chains .entry)) (now (faults .entry)) (now (equations .exit)) (now (chains .exit)) (now (faults .exit)) r) ⌝ }
+    ensures { λ r. ⌜ ((i : Input) → Standing (now (starts .entry)) (now (letters .entry)) (now (tags .entry)) (now (values .entry)) names i → Roomy names (length (now (tags .entry))) (now (env .entry)) (now (table .entry)) (now (sites .entry)) → Ample (now (table .entry)) (now (rows .entry)) (now (chain .entry)) → ClocksInWords k (clocksOf i k) (now (equations .entry)) (now (chains .entry)) (now (faults .entry)) (now (equations .exit)) (now (chains .exit)) (now (faults .exit)) r) ⌝ }
 {
-    let found = query::clock_at(tags, values, names, k, env, table);
+    let found = query::clock_at(tags, values, names, k, env, table, sites);
     match found {
         NodeAnswer::Refused(r) => ClocksAnswer::Refused(r),
         NodeAnswer::Node(told) => ClocksAnswer::Clocks(query::write_clocks(
@@ -64,7 +66,7 @@ pub fn clocks_in(
             letters,
             tags,
             values,
-            env,
+            sites,
             table,
             told,
             rows,
@@ -83,14 +85,14 @@ fn listing_told(
     letters: &[u8],
     tags: &[u8],
     values: &[u32],
-    env: &[u32],
+    sites: &[u32],
     table: &[u32],
     told: Told,
     rows: &mut [u32],
     chain: &mut [u32],
 ) -> ListingAnswer
     requires { ⌜ length (now values) ≡ length (now tags) ⌝ }
-    ensures { λ r. ⌜ ((n : ClockedNode) → NodeWithClocks (told .names) (tokens (now (tags .entry)) (now (values .entry))) (now (env .entry)) (now (table .entry)) (told .number) told n → Ample (now (table .entry)) (now (rows .entry)) (now (chain .entry)) → length (now (letters .entry)) ≤ 16384 → length (now (tags .entry)) ≤ 4096 → ListingGiven (lentText (nodeListing (lettersAt (now (starts .entry)) (now (letters .entry))) (told .number) n) (length (now (out .entry)))) (now (out .entry)) (now (out .exit)) r) ⌝ }
+    ensures { λ r. ⌜ ((n : ClockedNode) → NodeWithClocks (told .names) (now (tags .entry)) (now (values .entry)) (now (table .entry)) (now (sites .entry)) (told .number) told n → Ample (now (table .entry)) (now (rows .entry)) (now (chain .entry)) → length (now (letters .entry)) ≤ 16384 → length (now (tags .entry)) ≤ 4096 → ListingGiven (lentText (nodeListing (lettersAt (now (starts .entry)) (now (letters .entry))) (told .number) n) (length (now (out .entry)))) (now (out .entry)) (now (out .exit)) r) ⌝ }
 {
     let lent = listing::node_into(
         out,
@@ -98,7 +100,7 @@ fn listing_told(
         letters,
         tags,
         values,
-        env,
+        sites,
         table,
         told,
         rows,
@@ -123,11 +125,12 @@ pub fn listing_in(
     table: &mut [u32],
     rows: &mut [u32],
     chain: &mut [u32],
+    sites: &mut [u32],
 ) -> ListingAnswer
     requires { ⌜ length (now values) ≡ length (now tags) ⌝ }
-    ensures { λ r. ⌜ ((i : Input) → Standing (now (starts .entry)) (now (letters .entry)) (now (tags .entry)) (now (values .entry)) names i → Roomy names (length (now (tags .entry))) (now (env .entry)) (now (table .entry)) → Ample (now (table .entry)) (now (rows .entry)) (now (chain .entry)) → ListingGiven (listingOf i k (length (now (out .entry)))) (now (out .entry)) (now (out .exit)) r) ⌝ }
+    ensures { λ r. ⌜ ((i : Input) → Standing (now (starts .entry)) (now (letters .entry)) (now (tags .entry)) (now (values .entry)) names i → Roomy names (length (now (tags .entry))) (now (env .entry)) (now (table .entry)) (now (sites .entry)) → Ample (now (table .entry)) (now (rows .entry)) (now (chain .entry)) → ListingGiven (listingOf i k (length (now (out .entry)))) (now (out .entry)) (now (out .exit)) r) ⌝ }
 {
-    let found = query::clock_at(tags, values, names, k, env, table);
+    let found = query::clock_at(tags, values, names, k, env, table, sites);
     match found {
         NodeAnswer::Refused(r) => ListingAnswer::Refused(r),
         NodeAnswer::Node(told) => {
@@ -137,7 +140,7 @@ pub fn listing_in(
                 letters,
                 tags,
                 values,
-                env,
+                sites,
                 table,
                 told,
                 rows,
@@ -164,12 +167,23 @@ fn listings_told(
     table: &mut [u32],
     rows: &mut [u32],
     chain: &mut [u32],
+    sites: &mut [u32],
 ) -> ListingAnswer
     requires { ⌜ length (now values) ≡ length (now tags) ⌝ }
     requires { ⌜ before + farthest < 2 ^ 64 ⌝ }
-    ensures { λ r. ⌜ ((ns : List Node) (q : ℕ) (l : List ClockedNode) (last : ClockedNode) → times n (node names) (tokens (now (tags .entry)) (now (values .entry))) from ≡ got ns q → clockings 0 ns ≡ accepted l → before ≡ length (join (numbered (nodeListing (lettersAt (now (starts .entry)) (now (letters .entry)))) 0 l)) → NodeWithClocks (told .names) (tokens (now (tags .entry)) (now (values .entry))) (now (env .entry)) (now (table .entry)) (told .number) told last → Roomy names (length (now (tags .entry))) (now (env .entry)) (now (table .entry)) → Ample (now (table .entry)) (now (rows .entry)) (now (chain .entry)) → length (now (letters .entry)) ≤ 16384 → length (now (tags .entry)) ≤ 4096 → ListingGiven (lentText (join (numbered (nodeListing (lettersAt (now (starts .entry)) (now (letters .entry)))) 0 l) ++ nodeListing (lettersAt (now (starts .entry)) (now (letters .entry))) (told .number) last) (length (now (out .entry)))) (now (out .entry)) (now (out .exit)) r) ⌝ }
+    ensures { λ r. ⌜ ((ns : List Node) (q : ℕ) (l : List ClockedNode) (last : ClockedNode) → times n (node names) (tokens (now (tags .entry)) (now (values .entry))) from ≡ got ns q → clockings 0 ns ≡ accepted l → before ≡ length (join (numbered (nodeListing (lettersAt (now (starts .entry)) (now (letters .entry)))) 0 l)) → NodeWithClocks (told .names) (now (tags .entry)) (now (values .entry)) (now (table .entry)) (now (sites .entry)) (told .number) told last → Roomy names (length (now (tags .entry))) (now (env .entry)) (now (table .entry)) (now (sites .entry)) → Ample (now (table .entry)) (now (rows .entry)) (now (chain .entry)) → length (now (letters .entry)) ≤ 16384 → length (now (tags .entry)) ≤ 4096 → ListingGiven (lentText (join (numbered (nodeListing (lettersAt (now (starts .entry)) (now (letters .entry)))) 0 l) ++ nodeListing (lettersAt (now (starts .entry)) (now (letters .entry))) (told .number) last) (length (now (out .entry)))) (now (out .entry)) (now (out .exit)) r) ⌝ }
 {
-    let s = query::measure_told(starts, letters, tags, values, env, table, told, rows, chain);
+    let s = query::measure_told(
+        starts,
+        letters,
+        tags,
+        values,
+        sites,
+        table,
+        told,
+        rows,
+        chain,
+    );
     let m = before + s.listing;
     if out.len() < m {
         return ListingAnswer::Refused(Refusal::Lent(m));
@@ -181,7 +195,7 @@ fn listings_told(
         letters,
         tags,
         values,
-        env,
+        sites,
         table,
         told,
         rows,
@@ -201,6 +215,7 @@ fn listings_told(
         table,
         rows,
         chain,
+        sites,
     );
     ListingAnswer::Written(m)
 }
@@ -221,13 +236,23 @@ fn listings_last(
     table: &mut [u32],
     rows: &mut [u32],
     chain: &mut [u32],
+    sites: &mut [u32],
 ) -> ListingAnswer
     requires { ⌜ length (now values) ≡ length (now tags) ⌝ }
     requires { ⌜ before + farthest < 2 ^ 64 ⌝ }
-    ensures { λ r. ⌜ ((ns : List Node) (l : List ClockedNode) (last : Node) (q : ℕ) → times n (node names) (tokens (now (tags .entry)) (now (values .entry))) from ≡ got ns place → node names (tokens (now (tags .entry)) (now (values .entry))) place ≡ got last q → clockings 0 ns ≡ accepted l → before ≡ length (join (numbered (nodeListing (lettersAt (now (starts .entry)) (now (letters .entry)))) 0 l)) → Roomy names (length (now (tags .entry))) (now (env .entry)) (now (table .entry)) → Ample (now (table .entry)) (now (rows .entry)) (now (chain .entry)) → length (now (letters .entry)) ≤ 16384 → length (now (tags .entry)) ≤ 4096 → ListingGiven (nodesListed (lettersAt (now (starts .entry)) (now (letters .entry))) (ns ++ (last ∷ [])) (length (now (out .entry)))) (now (out .entry)) (now (out .exit)) r) ⌝ }
+    ensures { λ r. ⌜ ((ns : List Node) (l : List ClockedNode) (last : Node) (q : ℕ) → times n (node names) (tokens (now (tags .entry)) (now (values .entry))) from ≡ got ns place → node names (tokens (now (tags .entry)) (now (values .entry))) place ≡ got last q → clockings 0 ns ≡ accepted l → before ≡ length (join (numbered (nodeListing (lettersAt (now (starts .entry)) (now (letters .entry)))) 0 l)) → Roomy names (length (now (tags .entry))) (now (env .entry)) (now (table .entry)) (now (sites .entry)) → Ample (now (table .entry)) (now (rows .entry)) (now (chain .entry)) → length (now (letters .entry)) ≤ 16384 → length (now (tags .entry)) ≤ 4096 → ListingGiven (nodesListed (lettersAt (now (starts .entry)) (now (letters .entry))) (ns ++ (last ∷ [])) (length (now (out .entry)))) (now (out .entry)) (now (out .exit)) r) ⌝ }
 {
     let last = layout::node_at(tags, values, names, place);
-    let answer = query::clock_laid(tags, values, names, last, widths::wide(n), env, table);
+    let answer = query::clock_laid(
+        tags,
+        values,
+        names,
+        last,
+        widths::wide(n),
+        env,
+        table,
+        sites,
+    );
     match answer {
         NodeAnswer::Refused(r) => ListingAnswer::Refused(r),
         NodeAnswer::Node(told) => {
@@ -246,6 +271,7 @@ fn listings_last(
                 table,
                 rows,
                 chain,
+                sites,
             )
         }
     }
@@ -263,9 +289,10 @@ pub fn listings_in(
     table: &mut [u32],
     rows: &mut [u32],
     chain: &mut [u32],
+    sites: &mut [u32],
 ) -> ListingAnswer
     requires { ⌜ length (now values) ≡ length (now tags) ⌝ }
-    ensures { λ r. ⌜ ((i : Input) → Standing (now (starts .entry)) (now (letters .entry)) (now (tags .entry)) (now (values .entry)) names i → Roomy names (length (now (tags .entry))) (now (env .entry)) (now (table .entry)) → Ample (now (table .entry)) (now (rows .entry)) (now (chain .entry)) → ListingGiven (listingsOf i (length (now (out .entry)))) (now (out .entry)) (now (out .exit)) r) ⌝ }
+    ensures { λ r. ⌜ ((i : Input) → Standing (now (starts .entry)) (now (letters .entry)) (now (tags .entry)) (now (values .entry)) names i → Roomy names (length (now (tags .entry))) (now (env .entry)) (now (table .entry)) (now (sites .entry)) → Ample (now (table .entry)) (now (rows .entry)) (now (chain .entry)) → ListingGiven (listingsOf i (length (now (out .entry)))) (now (out .entry)) (now (out .exit)) r) ⌝ }
 {
     let whole = layout::sheet_at(tags, values, names);
     let nodes = whole.nodes;
@@ -286,6 +313,7 @@ pub fn listings_in(
         table,
         rows,
         chain,
+        sites,
     );
     match measured {
         Measured::Deep(i) => ListingAnswer::Refused(Refusal::Deep(i)),
@@ -304,6 +332,7 @@ pub fn listings_in(
             table,
             rows,
             chain,
+            sites,
         ),
     }
 }

@@ -26,7 +26,7 @@ use Rattle.many_names.proofs.Named.{NamedNeeds}
 
 -- ---- a name among names
 module _ {A : Type 0} (p : A → Bool) where
-  any-front : (a b : List A) → any p a ≡ true → any p (a ++ b) ≡ true
+  pub any-front : (a b : List A) → any p a ≡ true → any p (a ++ b) ≡ true
   any-front [] b h = absurd (false≢true h)
   any-front (x ∷ a) b h = go (p x) h (any-front a b)
     where
@@ -34,7 +34,7 @@ module _ {A : Type 0} (p : A → Bool) where
       go true h f = refl
       go false h f = f h
 
-  any-back : (a b : List A) → any p b ≡ true → any p (a ++ b) ≡ true
+  pub any-back : (a b : List A) → any p b ≡ true → any p (a ++ b) ≡ true
   any-back [] b h = h
   any-back (x ∷ a) b h = go (p x) (any-back a b h)
     where
@@ -57,7 +57,7 @@ module _ (x : Letters) where
   all-stay all [] h = h
   all-stay all (n ∷ ns) h = all-stay (addName all n) ns (stays all n h)
 
-  comes : (all : List Letters) → any (sameLetters x) (addName all x) ≡ true
+  pub comes : (all : List Letters) → any (sameLetters x) (addName all x) ≡ true
   comes all = go (any (sameLetters x) all) refl
     where
       go : (t : Bool) → any (sameLetters x) all ≡ t → any (sameLetters x) (choose t all (all ++ (x ∷ []))) ≡ true
@@ -73,7 +73,7 @@ module _ (x : Letters) where
       go false e q f = f q
 
 -- ---- the new names of a node
-any-up : (f : ℕ → Letters) (k n i : ℕ) → i < n → any (sameLetters (f (k + i))) (map f (upFrom k n)) ≡ true
+pub any-up : (f : ℕ → Letters) (k n i : ℕ) → i < n → any (sameLetters (f (k + i))) (map f (upFrom k n)) ≡ true
 any-up f k zero i h = absurd (omega arith)
 any-up f k (suc n) zero h = let e : k + 0 ≡ k = omega arith in rw e (any-self (f k) (map f (upFrom (suc k) n)))
 any-up f k (suc n) (suc i) h =
@@ -95,7 +95,7 @@ of-named N (c ↓ k) o = (o .0, of-named N c (o .1))
 
 module _ (names : List Letters) (node : Node) (w : Needs) where
   -- the name of the j-th clock is among those in chain order
-  placed : (stem : Stem) (cs : List Clock) → Apart [] names → Distinct cs → All (NamedClock (length names)) cs → (j : ℕ) → j < length cs
+  pub placed : (stem : Stem) (cs : List Clock) → Apart [] names → Distinct cs → All (NamedClock (length names)) cs → (j : ℕ) → j < length cs
       → any (sameLetters (newLetters names node stem j)) (map (λ (c : Clock). newLetters names node stem (clockPlace c cs)) (inChainOrder (lettersOf names) cs)) ≡ true
   placed stem cs apart once named j h =
       let g : Clock → Letters = λ c. newLetters names node stem (clockPlace c cs) in
@@ -105,7 +105,7 @@ module _ (names : List Letters) (node : Node) (w : Needs) where
       rw e at (any-member g c (inChainOrder (lettersOf names) cs) m)
 
   module _ (all : List Letters) where
-    by-needs : (x : Letters) → any (sameLetters x) (newNames names node w) ≡ true → any (sameLetters x) (namesBy names all node w) ≡ true
+    pub by-needs : (x : Letters) → any (sameLetters x) (newNames names node w) ≡ true → any (sameLetters x) (namesBy names all node w) ≡ true
     by-needs x h = go (w .condact)
       where
         more : any (sameLetters x) (addNames all (newNames names node w)) ≡ true

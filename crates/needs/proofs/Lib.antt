@@ -1,4 +1,3 @@
 -- What the proofs of several functions use, and those of other crates.
 pub mod Laws
 pub mod Rewrite
-pub mod Checked

@@ -1,16 +1,13 @@
 -- What rewriting an expression needs, in order of need: `rewrite` without its trees, names and faults.
-use Prim.Native.Nat.{ℕ, zero, suc, _+_, _-_}
+use Prim.Native.Nat.{ℕ, _+_, _-_}
 use mathlib.Core.Path.{_≡_}
-use mathlib.Core.Bool.{Bool, true, false, _&&_, _||_}
+use mathlib.Core.Bool.{Bool, true, false}
 use mathlib.Core.List.{List}
-use lib.Dec.{ltb}
 use lib.ListN.{length}
 use Rattle.definitions.specs.Lists.{choose}
 use Rattle.definitions.specs.Tree.{Expr, Exprs, Node}
-use Rattle.definitions.specs.Clock.{Clock, base, _↓_, deepest, depth, parent, isOn, isNot, isBase}
+use Rattle.definitions.specs.Clock.{Clock, _↓_, parent, isOn, isNot, isBase}
 use Rattle.definitions.specs.Declock.{State, add, addWithParents, operatorOutputs}
-use Rattle.operands.specs.declared.Leaf.{Leaf}
-use Rattle.operands.specs.declared.Role.{Role}
 use Rattle.rows.specs.Rows.{RowsHold}
 use Rattle.callees.specs.Callees.{isThere}
 use Rattle.needs.specs.declared.Counts.{Counts}
@@ -57,23 +54,6 @@ isBare (Expr.call f es) = false
 isBare (Expr.when k e) = false
 isBare (Expr.merge x a b) = false
 
--- where a leaf ends, 0 for what is none
-abbrev pub leafEnd : Leaf → ℕ
-leafEnd (Leaf.Name x s) = s
-leafEnd (Leaf.Constant s) = s
-leafEnd Leaf.Other = 0
-
--- is it a name or a constant?
-abbrev pub isLeaf : Expr → Bool
-isLeaf (Expr.const l w) = true
-isLeaf (Expr.var x) = true
-isLeaf (Expr.op h es) = false
-isLeaf (Expr.pre e) = false
-isLeaf (Expr.arrow a b) = false
-isLeaf (Expr.call f es) = false
-isLeaf (Expr.when k e) = false
-isLeaf (Expr.merge x a b) = false
-
 -- what a `pre`, a `->` and a call need for themselves
 abbrev pub preTurn : Clock → Bool → Turn
 preTurn c bare = choose (isBase c) Turn.Keep (choose bare Turn.Keep Turn.Hold)
@@ -84,71 +64,7 @@ arrowTurn c = choose (isBase c) Turn.Keep Turn.First
 abbrev pub callTurn : Clock → Bool → Turn
 callTurn c operator = choose (isBase c) Turn.Keep (choose operator Turn.Gate Turn.Keep)
 
--- the clocks of the first operand and of the others, by what an expression does
-abbrev pub hereOn : Role → Clock → Clock
-hereOn Role.Constant c = c
-hereOn (Role.Name x) c = c
-hereOn (Role.Sample k) c = parent c
-hereOn (Role.Join x) c = c ↓ isOn x
-hereOn Role.Previous c = c
-hereOn Role.Follow c = c
-hereOn (Role.Call f) c = c
-hereOn Role.Index c = c
-hereOn Role.Compute c = c
-
-abbrev pub restOn : Role → Clock → Clock
-restOn Role.Constant c = c
-restOn (Role.Name x) c = c
-restOn (Role.Sample k) c = parent c
-restOn (Role.Join x) c = c ↓ isNot x
-restOn Role.Previous c = c
-restOn Role.Follow c = c
-restOn (Role.Call f) c = c
-restOn Role.Index c = c
-restOn Role.Compute c = c
-
--- a clock that a merge puts a condition on has fewer than eight
-abbrev pub roomFor : Role → Clock → Bool
-roomFor Role.Constant c = true
-roomFor (Role.Name x) c = true
-roomFor (Role.Sample k) c = true
-roomFor (Role.Join x) c = ltb (depth c) deepest
-roomFor Role.Previous c = true
-roomFor Role.Follow c = true
-roomFor (Role.Call f) c = true
-roomFor Role.Index c = true
-roomFor Role.Compute c = true
-
--- no clock below an expression on this clock has more than eight conditions
-unfoldable mutual
-  pub within : Clock → Expr → Bool
-  within c (Expr.const l w) = true
-  within c (Expr.var x) = true
-  within c (Expr.op h es) = withins c c es
-  within c (Expr.pre e) = within c e
-  within c (Expr.arrow a b) = within c a && within c b
-  within c (Expr.call f es) = withins c c es
-  within c (Expr.when k e) = within (parent c) e
-  within c (Expr.merge x a b) = ltb (depth c) deepest && (within (c ↓ isOn x) a && within (c ↓ isNot x) b)
-
-  -- below operands, of which the first is on c and the others on d
-  pub withins : Clock → Clock → Exprs → Bool
-  withins c d Exprs.end = true
-  withins c d (Exprs.and e es) = within c e && withins d d es
-
 module _ (nodes : List Node) where
-  -- what an expression needs for itself
-  unfoldable pub turnOf : Clock → Expr → Turn
-  unfolding operatorOutputs
-  turnOf c (Expr.const l w) = Turn.Keep
-  turnOf c (Expr.var x) = Turn.Keep
-  turnOf c (Expr.op h es) = Turn.Keep
-  turnOf c (Expr.pre e) = preTurn c (isBare e)
-  turnOf c (Expr.arrow a b) = arrowTurn c
-  turnOf c (Expr.call f es) = callTurn c (isThere (operatorOutputs nodes f))
-  turnOf c (Expr.when k e) = Turn.Keep
-  turnOf c (Expr.merge x a b) = Turn.Keep
-
   -- what is needed after an expression on clock c, in the order of `rewrite`
   unfoldable mutual
     unfolding operatorOutputs
@@ -168,12 +84,9 @@ module _ (nodes : List Node) where
     neededAll c d Exprs.end s = s
     neededAll c d (Exprs.and e es) s = neededAll d d es (needed c e s)
 
--- the most holds that are counted; one more of them
+-- the most holds that are counted
 abbrev pub mostHolds : ℕ
 mostHolds = 4294967295
-
-abbrev pub oneMore : ℕ → ℕ
-oneMore n = mostHolds - (mostHolds - (n + 1))
 
 -- two tables and counts say what is needed
 pub record Counted (flags firsts : List ℕ) (n : Counts) (s : Needs) : Type 0 where

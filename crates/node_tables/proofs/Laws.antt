@@ -23,7 +23,7 @@ use Rattle.many_names.proofs.Large.{flags-past, firsts-past, holds-past, flags-
 use Rattle.new_names.specs.Names.{nameOf, Numbered, ChainOrdered}
 use Rattle.new_names.proofs.Ids.{ids-front, map-length}
 use Rattle.new_names.proofs.Added.{rows-ordered}
-use Rattle.node_needs.proofs.Apart.{Apart}
+use Rattle.many_names.proofs.Apart.{Apart}
 use Rattle.node_tables.specs.declared.Tables.{Tables}
 use Rattle.node_tables.specs.Filled.{Many, Few, Sorted, AllNumbered, FilledOrFull}
 

@@ -1,11 +1,8 @@
 // A node's working tables, of a node without faults: the clocks with flags in order of need, their rows in chain order, and the
 // numbers of the node's new names. More than 1,024 names of a kind are more than the output has places for: the tables are full.
-// `starts` and `letters` are the input's names, `names` is how many there are; `places` has the places of the sheet's nodes,
-// `nodes` is how many there are; `env` has the clocks of the node's names as inference left them.
-use definitions::CLOCK_TABLE;
+// `starts` and `letters` are the input's names, `names` is how many there are.
 use definitions::MOST_DECLARED;
 use definitions::MOST_NAMES;
-use definitions::MOST_NODES;
 use layout::NodeLayout;
 use needs::Counts;
 use new_names::Locals;
@@ -18,16 +15,14 @@ ghost use lib.ListN.{length, take};
 ghost use Rattle.definitions.specs.Lists.{Letters};
 ghost use Rattle.definitions.specs.Bytes.{tokens};
 ghost use Rattle.definitions.specs.Tree.{TypeDef, Node};
-ghost use Rattle.definitions.specs.InferClocks.{Clocks, Clocked, formed, clockedBy};
+ghost use Rattle.definitions.specs.InferClocks.{Clocked};
 ghost use Rattle.definitions.specs.Declock.{declared};
 ghost use Rattle.definitions.specs.Output.{lettersOf};
-ghost use Rattle.environment.specs.Environment.{Agrees};
 ghost use Rattle.spelling.specs.Stems.{stemOf};
 ghost use Rattle.fresh.specs.Places.{lettersAt};
 ghost use Rattle.layout.specs.Laid.{LaidNode};
-ghost use Rattle.callees.specs.Callees.{NodesStand};
+ghost use Rattle.needs.specs.Need.{Counted};
 ghost use Rattle.stateless.specs.Whole.{noNeeds, oldNeeds};
-ghost use Rattle.stateless.specs.Sheets.{withinAll};
 ghost use Rattle.new_names.specs.Names.{nameOf, Numbered};
 ghost use Rattle.node_tables.specs.Filled.{Many, Few, Sorted, AllNumbered, FilledOrFull};
 
@@ -76,7 +71,7 @@ fn full_tables(s: Counts) -> Tables
 fn order_rows(
     starts: &[u32],
     letters: &[u8],
-    rows: &[u32; CLOCK_TABLE],
+    rows: &[u32],
     n: usize,
     order: &mut [u32; MOST_NAMES],
 ) -> usize
@@ -144,20 +139,17 @@ fn number_names(
     );
 }
 
-// The tables of a node with this layout.
+// The tables of a node with this layout, whose clocks with flags, so many, stand in `flags` and `firsts`.
 pub fn fill_tables(
     starts: &[u32],
     letters: &[u8],
     tags: &[u8],
     values: &[u32],
     names: u32,
-    places: &[usize; MOST_NODES],
-    nodes: usize,
     l: NodeLayout,
-    env: &[u32],
-    condact: u32,
-    flags: &mut [u32; CLOCK_TABLE],
-    firsts: &mut [u32; CLOCK_TABLE],
+    flags: &[u32],
+    firsts: &[u32],
+    s: Counts,
     flag_order: &mut [u32; MOST_NAMES],
     first_order: &mut [u32; MOST_NAMES],
     flag_numbers: &mut [u32; MOST_NAMES],
@@ -165,21 +157,8 @@ pub fn fill_tables(
     hold_numbers: &mut [u32; MOST_NAMES],
 ) -> Tables
     requires { ⌜ length (now values) ≡ length (now tags) ⌝ }
-    requires { ⌜ nodes ≤ 16 ⌝ }
-    ensures { λ r. ⌜ ((all : List Letters) (node : Node) (q : ℕ) (clocks : Clocks) (cs : List Clocked) (types : List TypeDef) (ns : List Node) → lettersAt (now (starts .entry)) (now (letters .entry)) ≡ lettersOf all → LaidNode names (tokens (now (tags .entry)) (now (values .entry))) node q l → length (declared node) ≤ 128 → Agrees (now (env .entry)) names clocks → clockedBy clocks (node .equations) ≡ formed cs → withinAll cs ≡ true → NodesStand names (now (tags .entry)) (now (values .entry)) (now (places .entry)) nodes ns → FilledOrFull all node (oldNeeds types ns node condact cs noNeeds) (now (flags .exit)) (now (firsts .exit)) (now («flag_order» .exit)) (now («first_order» .exit)) (now («flag_numbers» .exit)) (now («first_numbers» .exit)) (now («hold_numbers» .exit)) r) ⌝ }
+    ensures { λ r. ⌜ ((all : List Letters) (node : Node) (q condact : ℕ) (cs : List Clocked) (types : List TypeDef) (ns : List Node) → lettersAt (now (starts .entry)) (now (letters .entry)) ≡ lettersOf all → LaidNode names (tokens (now (tags .entry)) (now (values .entry))) node q l → length (declared node) ≤ 128 → length (now (flags .entry)) ≡ 17408 → length (now (firsts .entry)) ≡ 17408 → Counted (now (flags .entry)) (now (firsts .entry)) s (oldNeeds types ns node condact cs noNeeds) → FilledOrFull all node (oldNeeds types ns node condact cs noNeeds) (now (flags .entry)) (now (firsts .entry)) (now («flag_order» .exit)) (now («first_order» .exit)) (now («flag_numbers» .exit)) (now («first_numbers» .exit)) (now («hold_numbers» .exit)) r) ⌝ }
 {
-    let s = node_needs::node_needs(
-        tags,
-        values,
-        names,
-        places,
-        nodes,
-        l,
-        env,
-        condact,
-        flags,
-        firsts,
-    );
     if is_crowded(s) {
         return full_tables(s);
     }

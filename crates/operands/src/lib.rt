@@ -80,7 +80,7 @@ pub enum Leaf {
 }
 
 // What an expression does, by its first token.
-pub fn role_of(t: ExprToken) -> Role
+fn role_of(t: ExprToken) -> Role
     ensures { λ r. ⌜ r ≡ roleOf t ⌝ }
 {
     match t {
@@ -243,7 +243,7 @@ fn behind_type(tags: &[u8], values: &[u32], names: u32, at: usize) -> Operands
 }
 
 // The operands that follow a first token of this shape.
-pub fn laid(tags: &[u8], values: &[u32], names: u32, shape: Shape, at: usize) -> Operands
+fn laid(tags: &[u8], values: &[u32], names: u32, shape: Shape, at: usize) -> Operands
     requires { ⌜ length (now values) ≡ length (now tags) ⌝ }
     ensures { λ r. ⌜ ((es : Exprs) (q : ℕ) → following names shape (tree names) (tokens (now (tags .entry)) (now (values .entry))) at ≡ got es q → r ≡ operandsAt names (tokens (now (tags .entry)) (now (values .entry))) shape at) ⌝ }
 {

@@ -1,34 +1,29 @@
 -- Entries written over the front of a lent list, one after another. Assumes nothing.
-use mathlib.Core.Path.{_≡_, refl, sym, _∙_, ap}
+use mathlib.Core.Path.{_≡_, refl, sym, subst, _∙_, ap}
 use mathlib.Core.List.{List, [], _∷_, _++_, map}
 use mathlib.Core.Bool.{Bool, true, false}
-use Prim.Native.Nat.{ℕ, zero, suc, _+_, _-_, _*_, _/_, _≤_, _<_, min}
+use Prim.Native.Nat.{ℕ, zero, suc, _+_, _*_, _/_, _≤_, _<_, min}
 use native.Mathlib.Omega.{arith}
 use native.Mathlib.Numerals.{add-one}
 use lib.Dec.{leb, ltb}
 use borrow.Author.Tests.{leb-true, leb-false, ltb-true, ltb-false}
-use mathlib.Core.Option.{Option}
 use lib.ListN.{length, getD, take, drop, length-append, length-map}
 use lib.Seq.{take-suc, take-all, take-append-le}
 use Rattle.definitions.specs.Lists.{choose, join, over, Letters}
-use Rattle.definitions.specs.Tokens.{TagValue}
-use Rattle.definitions.specs.Tree.{Expr, Equation}
-use Rattle.definitions.specs.Reading.{got, times}
+use Rattle.definitions.specs.Bytes.{tokens}
+use Rattle.definitions.specs.Tree.{Equation}
+use Rattle.definitions.specs.Reading.{got}
 use Rattle.definitions.specs.Grammar.{equation}
 use Rattle.definitions.specs.Clock.{Clock, base}
-use Rattle.definitions.specs.InferClocks.{formed, Clocks, Clocked, Finding, NodeFault, faultNumber, natural, orBase, clockedBy, chains, clockFaults}
-use Rattle.grammar.proofs.Got.{times-cons}
-use Rattle.grammar.proofs.Laws.{times-length}
+use Rattle.definitions.specs.InferClocks.{Clocked, Finding, NodeFault, faultNumber, chains, clockFaults}
 use Rattle.definitions.specs.Output.{ClockedNode}
 use Rattle.definitions.specs.Answer.{nodeClocks}
 use Rattle.listing.specs.declared.Told.{Told}
-use Rattle.listing.proofs.Laws.{clocked-cons, clocked-many, picked-length, node-clocked}
+use Rattle.listing.proofs.Laws.{picked-length, node-many}
 use Rattle.query.specs.declared.NodeCounts.{NodeCounts}
 use Rattle.query.specs.Standing.{NodeWithClocks}
-use Rattle.environment.specs.Environment.{Agrees}
-use Rattle.operands.specs.Spread.{tree}
-use Rattle.layout.specs.declared.EquationLayout.{EquationLayout}
-use Rattle.layout.specs.Laid.{LaidEquation}
+use Rattle.flat.specs.Flat.{clockIn}
+use Rattle.skeleton.specs.Sites.{EquationsOn}
 use Rattle.findings.specs.Findings.{faultIn, findingIn, findingsIn}
 use Rattle.findings.proofs.Laws.{none-yet, count-more, faults-one, faults-no}
 use Rattle.order.specs.Order.{rowOf, picked}
@@ -118,20 +113,11 @@ module _ (rows chain : List ℕ) (m : ℕ) (cs : List Clock) (h : picked (rowOf 
   chains-written lent now e = e ∙ ap (λ (l : List Clock). clocksOver l lent) h
 
 -- ---- the clocks of equations
-module _ (clocks : Clocks) where
-  -- the clock of equation i
-  clocked-item : (es : List Equation) (cs : List Clocked) (i : ℕ) (e : Equation) (rest : List Equation) → clockedBy clocks es ≡ formed cs → drop i es ≡ e ∷ rest
-      → (o : Option Clock) × (natural clocks (e .right) ≡ formed o) × (getD (map (λ (c : Clocked). c .clock) cs) i base ≡ orBase o) × (i < length (map (λ (c : Clocked). c .clock) cs))
-  clocked-item [] cs zero e rest h k = let z : _≡_ {A = ℕ} 0 1 = cc in absurd (omega arith)
-  clocked-item [] cs (suc i) e rest h k = let z : _≡_ {A = ℕ} 0 1 = cc in absurd (omega arith)
-  clocked-item (x ∷ es) cs zero e rest h k =
-      let a = clocked-cons clocks x es cs h in
-      let f : x ≡ e = cc in
-      (a .0, ap (λ (y : Equation). natural clocks (y .right)) (sym f) ∙ a .2, ap (λ (l : List Clocked). getD (map (λ (c : Clocked). c .clock) l) 0 base) (a .4), omega (arith, ap (λ (l : List Clocked). length (map (λ (c : Clocked). c .clock) l)) (a .4)))
-  clocked-item (x ∷ es) cs (suc i) e rest h k =
-      let a = clocked-cons clocks x es cs h in
-      let b = clocked-item es (a .1) i e rest (a .3) k in
-      (b .0, b .1, ap (λ (l : List Clocked). getD (map (λ (c : Clocked). c .clock) l) (suc i) base) (a .4) ∙ b .2, omega (arith, b .3, ap (λ (l : List Clocked). length (map (λ (c : Clocked). c .clock) l)) (a .4)))
+-- equation i with its clock, and those behind it
+clocked-item : (cs : List Clocked) (i : ℕ) → i < length cs → (x : Clocked) × (rest : List Clocked) × (drop i cs ≡ x ∷ rest) × (getD (map (λ (c : Clocked). c .clock) cs) i base ≡ x .clock)
+clocked-item [] i h = absurd (omega arith)
+clocked-item (c ∷ cs) zero h = (c, cs, refl, refl)
+clocked-item (c ∷ cs) (suc i) h = clocked-item cs i (omega arith)
 
 drop-next : {A : Type 0} (l : List A) (i : ℕ) (a : A) (rest : List A) → drop i l ≡ a ∷ rest → drop (i + 1) l ≡ rest
 drop-next [] zero a rest h = let z : _≡_ {A = ℕ} 0 1 = cc in absurd (omega arith)
@@ -139,36 +125,33 @@ drop-next [] (suc i) a rest h = let z : _≡_ {A = ℕ} 0 1 = cc in absurd (omeg
 drop-next (b ∷ l) zero a rest h = cc
 drop-next (b ∷ l) (suc i) a rest h = let e : suc i + 1 ≡ suc (i + 1) = omega arith in rw e (drop-next l i a rest h)
 
--- the same number of equations
-pub same-times : (M : ℕ) (ts : List TagValue) (n count at : ℕ) (es : List Equation) (q : ℕ) → n ≡ count → times count (equation M) ts at ≡ got es q → times n (equation M) ts at ≡ got es q
-same-times M ts n count at es q e g = rw e g
-
 -- the equations left, and the clocks written
-pub record Equations (M : ℕ) (ts : List TagValue) (es : List Equation) (cs : List Clocked) (q left place : ℕ) (lent : List ℕ) (i : ℕ) (now : List ℕ) : Type 0 where
-  pub items : times left (equation M) ts place ≡ got (drop i es) q
+pub record Equations (M : ℕ) (gs vs sites : List ℕ) (cs : List Clocked) (q place : ℕ) (lent : List ℕ) (i : ℕ) (now : List ℕ) : Type 0 where
+  pub on : EquationsOn M gs vs sites (drop i cs) place q
   pub entered : Entered clockWords (map (λ (c : Clocked). c .clock) cs) lent i (17 * i) now
 
-module _ (M : ℕ) (ts : List TagValue) (es : List Equation) (cs : List Clocked) (q : ℕ) (lent : List ℕ) where
-  pub equations-none : (n at : ℕ) → times n (equation M) ts at ≡ got es q → Equations M ts es cs q (n - 0) at lent 0 lent
-  equations-none n at g = let k : n - 0 ≡ n = omega arith in record { items = rw k g; entered = entered-none clockWords (map (λ (c : Clocked). c .clock) cs) lent }
+module _ (M : ℕ) (gs vs sites : List ℕ) (cs : List Clocked) (q : ℕ) (lent : List ℕ) where
+  pub equations-none : (at : ℕ) → EquationsOn M gs vs sites cs at q → Equations M gs vs sites cs q at lent 0 lent
+  equations-none at g = record { on = g; entered = entered-none clockWords (map (λ (c : Clocked). c .clock) cs) lent }
 
-  pub equation-entered : (clocks : Clocks) (env : List ℕ) (n i place : ℕ) (l : EquationLayout) (v : Clock) (now after : List ℕ) → i < n → Agrees env M clocks → clockedBy clocks es ≡ formed cs
-      → ((e : Equation) (q : ℕ) → equation M ts place ≡ got e q → LaidEquation M ts e q l)
-      → ((e : Expr) (q : ℕ) (clocks : Clocks) (o : Option Clock) → tree M ts (l .right) ≡ got e q → Agrees env M clocks → natural clocks e ≡ formed o → v ≡ orBase o)
+  pub equation-entered : (i place end : ℕ) (v : Clock) (now after : List ℕ) → i < length cs → v ≡ clockIn sites (17 * place)
+      → ((M : ℕ) (e : Equation) (q : ℕ) → equation M (tokens gs vs) place ≡ got e q → end ≡ q)
       → after ≡ overAt (17 * i) (clockWords v) now
-      → Equations M ts es cs q (n - i) place lent i now → Equations M ts es cs q (n - (i + 1)) (l .end) lent (i + 1) after
-  equation-entered clocks env n i place l v now after z a h L E g u =
-      let c = times-cons (equation M) ts (n - i) place (drop i es) q (λ y. omega (arith, y)) (u .items) in
-      let d = L (c .0) (c .1) (c .3) in
-      let b = clocked-item clocks es cs i (c .0) (c .2) h (c .5) in
-      let e : v ≡ orBase (b .0) = E (c .0 .right) (c .1) clocks (b .0) (d .right) a (b .1) in
-      let w : n - (i + 1) ≡ n - i - 1 = omega arith in
-      record { items = rw (d .ends, w, drop-next es i (c .0) (c .2) (c .5)) (c .4); entered = clock-entered (map (λ (c : Clocked). c .clock) cs) lent v i now after (b .3) (e ∙ sym (b .2)) g (u .entered) }
+      → Equations M gs vs sites cs q place lent i now → Equations M gs vs sites cs q end lent (i + 1) after
+  unfolding EquationsOn
+  equation-entered i place end v now after h e E g u =
+      let b = clocked-item cs i h in
+      let o : EquationsOn M gs vs sites (b .0 ∷ b .1) place q = subst (λ (l : List Clocked). EquationsOn M gs vs sites l place q) (b .2) (u .on) in
+      let r : EquationsOn M gs vs sites (b .1) end q = subst (λ (p : ℕ). EquationsOn M gs vs sites (b .1) p q) (sym (E M (b .0 .equation) (o .0) (o .1))) (o .3) in
+      let w : i < length (map (λ (c : Clocked). c .clock) cs) = omega (arith, h, length-map cs (λ (c : Clocked). c .clock)) in
+      record {
+        on = subst (λ (l : List Clocked). EquationsOn M gs vs sites l end q) (sym (drop-next cs i (b .0) (b .1) (b .2))) r;
+        entered = clock-entered (map (λ (c : Clocked). c .clock) cs) lent v i now after w (e ∙ (o .2 ∙ sym (b .3))) g (u .entered);
+      }
 
-  pub equations-entered : (clocks : Clocks) (n at i most room place left : ℕ) (now : List ℕ) → times n (equation M) ts at ≡ got es q → clockedBy clocks es ≡ formed cs → room ≡ length lent / 17 → most ≡ min n room → i ≤ most → most ≤ i
-      → Equations M ts es cs q left place lent i now → now ≡ clocksOver (map (λ (c : Clocked). c .clock) cs) lent
-  equations-entered clocks n at i most room place left now g h r e a b u =
-      clocks-entered (map (λ (c : Clocked). c .clock) cs) lent n i most room now (sym (clocked-many clocks es cs h ∙ times-length (equation M) ts n at es q g)) r e a b (u .entered)
+  pub equations-entered : (n i most room place : ℕ) (now : List ℕ) → n ≡ length cs → room ≡ length lent / 17 → most ≡ min n room → i ≤ most → most ≤ i
+      → Equations M gs vs sites cs q place lent i now → now ≡ clocksOver (map (λ (c : Clocked). c .clock) cs) lent
+  equations-entered n i most room place now h r e a b u = clocks-entered (map (λ (c : Clocked). c .clock) cs) lent n i most room now (h ∙ sym (length-map cs (λ (c : Clocked). c .clock))) r e a b (u .entered)
 
 -- ---- faults
 -- a list of entries keeps its length
@@ -256,22 +239,22 @@ counts-same : (a a′ b b′ c c′ d d′ e e′ : ℕ) → a ≡ a′ → b �
     → _≡_ {A = NodeCounts} (record { name = a; passes = b; equations = c; chains = d; faults = e }) (record { name = a′; passes = b′; equations = c′; chains = d′; faults = e′ })
 counts-same a a′ b b′ c c′ d d′ e e′ p q r s t = rw (p, q, r, s, t)
 
-module _ (letters : ℕ → Letters) (ts : List TagValue) (env t : List ℕ) (told : Told) (n : ClockedNode) (z : NodeWithClocks (told .names) ts env t (told .number) told n) where
+module _ (letters : ℕ → Letters) (gs vs t sites : List ℕ) (told : Told) (n : ClockedNode) (z : NodeWithClocks (told .names) gs vs t sites (told .number) told n) where
   pub node-written : (es cs fs es′ cs′ fs′ : List ℕ) (node equations m f : ℕ) → told .number < 16 → (told .number < 4294967296 → node ≡ told .number) → equations ≡ told .layout .equations .count
-      → ((clocks : Clocks) (l : List Equation) (q : ℕ) (ks : List Clocked) → Agrees env (told .names) clocks → times (told .layout .equations .count) (equation (told .names)) ts (told .layout .equations .at) ≡ got l q → clockedBy clocks l ≡ formed ks → es′ ≡ clocksOver (map (λ (c : Clocked). c .clock) ks) es)
+      → ((M : ℕ) (ks : List Clocked) (q : ℕ) → EquationsOn M gs vs sites ks (told .layout .equations .at) q → length ks ≡ told .layout .equations .count → es′ ≡ clocksOver (map (λ (c : Clocked). c .clock) ks) es)
       → m ≡ length (chains letters (findingsIn t (told .findings))) → cs′ ≡ clocksOver (chains letters (findingsIn t (told .findings))) cs
       → f ≡ length (clockFaults (findingsIn t (told .findings))) → fs′ ≡ faultsOver node (clockFaults (findingsIn t (told .findings))) fs
       → Written (told .number) (nodeClocks letters n) es cs fs es′ cs′ fs′ (record { name = told .layout .name; passes = told .passes; equations = equations; chains = m; faults = f })
   unfolding nodeClocks
   node-written es cs fs es′ cs′ fs′ node equations m f small w e E C C′ F F′ =
       let k = n .clocking in
-      let a = node-clocked (n .node) (n .clocking) (z .formed) in
+      let many : length (k .equations) ≡ told .layout .equations .count = node-many (n .node) (n .clocking) (z .formed) ∙ sym (z .laid .equations .many) in
       let all = z .tells .all in
       let x : node ≡ told .number = w (omega arith) in
       record {
         counts =
-            counts-same _ _ _ _ _ _ _ _ _ _ (z .laid .named) (sym (z .tells .made)) (e ∙ (z .laid .equations .many ∙ sym (clocked-many (k .names) (n .node .equations) (k .equations) a))) (C ∙ ap (λ (l : List Finding). length (chains letters l)) all) (F ∙ ap (λ (l : List Finding). length (clockFaults l)) all);
-        equations = E (k .names) (n .node .equations) (told .layout .equations .end) (k .equations) (z .tells .named) (z .laid .equations .items) a;
+            counts-same _ _ _ _ _ _ _ _ _ _ (z .laid .named) (sym (z .tells .made)) (e ∙ (sym many ∙ sym (length-map (k .equations) (λ (c : Clocked). c .clock)))) (C ∙ ap (λ (l : List Finding). length (chains letters l)) all) (F ∙ ap (λ (l : List Finding). length (clockFaults l)) all);
+        equations = E (told .names) (k .equations) (told .layout .equations .end) (z .tells .on) many;
         chains = C′ ∙ ap (λ (l : List Finding). clocksOver (chains letters l) cs) all;
         faults = F′ ∙ (ap (λ (j : ℕ). faultsOver j (clockFaults (findingsIn t (told .findings))) fs) x ∙ ap (λ (l : List Finding). faultsOver (told .number) (clockFaults l) fs) all);
       }

@@ -7,6 +7,7 @@ use native.Mathlib.Numerals.{add-one}
 use lib.ListN.{length, take, drop, length-append, take-append-drop}
 use Rattle.definitions.specs.Lists.{join, numbered, over, Letters}
 use Rattle.definitions.specs.Tokens.{TagValue}
+use Rattle.definitions.specs.Bytes.{tokens}
 use Rattle.definitions.specs.Tree.{Node}
 use Rattle.definitions.specs.Reading.{got, times}
 use Rattle.definitions.specs.Grammar.{node}
@@ -56,14 +57,14 @@ module _ (text : Letters) (lent : List ℕ) (at m : ℕ) where
       record { long = put-measure few v; bytes = ap (λ (r : List ℕ). take at lent ++ (r ++ drop (at + w - at) (drop at lent))) (put-over v) ∙ over-part text lent at (at + w - at) l f }
 
 -- ---- a node clocked
-module _ (M : ℕ) (ts : List TagValue) (env t : List ℕ) (k : ℕ) (n : Node) (a : NodeAnswer) (h : ClockedAs M ts env t k n a) where
+module _ (M : ℕ) (gs vs t sites : List ℕ) (k : ℕ) (n : Node) (a : NodeAnswer) (h : ClockedAs M gs vs t sites k n a) where
   pub clocked-turned : (r : Refusal) → a ≡ NodeAnswer.Refused r → (clocking n ≡ deep) × (r ≡ Refusal.Deep k)
   unfolding ClockedAs
-  clocked-turned r e = let x : ClockedAs M ts env t k n (NodeAnswer.Refused r) = rw e at h in x
+  clocked-turned r e = let x : ClockedAs M gs vs t sites k n (NodeAnswer.Refused r) = rw e at h in x
 
-  pub clocked-as : (told : Told) → a ≡ NodeAnswer.Node told → (c : Clocking) × (clocking n ≡ formed c) × NodeWithClocks M ts env t k told (record { node = n; clocking = c })
+  pub clocked-as : (told : Told) → a ≡ NodeAnswer.Node told → (c : Clocking) × (clocking n ≡ formed c) × NodeWithClocks M gs vs t sites k told (record { node = n; clocking = c })
   unfolding ClockedAs
-  clocked-as told e = let x : ClockedAs M ts env t k n (NodeAnswer.Node told) = rw e at h in x
+  clocked-as told e = let x : ClockedAs M gs vs t sites k n (NodeAnswer.Node told) = rw e at h in x
 
   module _ (c : Clocking) (f : clocking n ≡ formed c) where
     pub clocked-never : (r : Refusal) → a ≡ NodeAnswer.Refused r → ⊥
@@ -71,15 +72,15 @@ module _ (M : ℕ) (ts : List TagValue) (env t : List ℕ) (k : ℕ) (n : Node) 
         let y : deep ≡ formed c = sym (clocked-turned r e .0) ∙ f in
         let z : _≡_ {A = ℕ} 0 1 = cc in omega arith
 
-    pub clocked-told : (told : Told) → a ≡ NodeAnswer.Node told → NodeWithClocks M ts env t k told (record { node = n; clocking = c })
+    pub clocked-told : (told : Told) → a ≡ NodeAnswer.Node told → NodeWithClocks M gs vs t sites k told (record { node = n; clocking = c })
     clocked-told told e =
         let x = clocked-as told e in
         let s : x .0 ≡ c = let y : formed (x .0) ≡ formed c = sym (x .1) ∙ f in cc in
         rw s at (x .2)
 
 -- by the number that the node was told under
-pub told-own : (M : ℕ) (ts : List TagValue) (env t : List ℕ) (k : ℕ) (told : Told) (n : ClockedNode) → NodeWithClocks M ts env t k told n → NodeWithClocks (told .names) ts env t (told .number) told n
-told-own M ts env t k told n z = subst (λ (x : ℕ). NodeWithClocks x ts env t (told .number) told n) (sym (z .names)) (subst (λ (y : ℕ). NodeWithClocks M ts env t y told n) (sym (z .number)) z)
+pub told-own : (M : ℕ) (gs vs t sites : List ℕ) (k : ℕ) (told : Told) (n : ClockedNode) → NodeWithClocks M gs vs t sites k told n → NodeWithClocks (told .names) gs vs t sites (told .number) told n
+told-own M gs vs t sites k told n z = subst (λ (x : ℕ). NodeWithClocks x gs vs t sites (told .number) told n) (sym (z .names)) (subst (λ (y : ℕ). NodeWithClocks M gs vs t sites y told n) (sym (z .number)) z)
 
 -- the listing of the same node
 pub same-number : (letters : ℕ → Letters) (n : ClockedNode) (number i at : ℕ) (lent : List ℕ) (size : ℕ) (after : List ℕ) → number ≡ i → PutText (nodeListing letters number n) at lent size after → PutText (nodeListing letters i n) at lent size after
@@ -160,40 +161,40 @@ one-behind so-far a (accepted l) = ap accepted (sym (append-assoc so-far (a ∷ 
 one-behind so-far a (refused r) = refl
 one-behind so-far a (faulty l) = refl
 
-module _ (M : ℕ) (ts : List TagValue) (letters : ℕ → Letters) where
-  pub sizing-none : (n at q : ℕ) (ns : List Node) → times n (node M) ts at ≡ got ns q → Sizing M ts letters (n - 0) 0 at q 0 (clockings 0 ns)
+module _ (M : ℕ) (gs vs : List ℕ) (letters : ℕ → Letters) where
+  pub sizing-none : (n at q : ℕ) (ns : List Node) → times n (node M) (tokens gs vs) at ≡ got ns q → Sizing M (tokens gs vs) letters (n - 0) 0 at q 0 (clockings 0 ns)
   sizing-none n at q ns g =
       let k : n - 0 ≡ n = omega arith in
       record { rest = ns; so-far = []; items = rw k g; many = refl; whole = all-left (clockings 0 ns); long = refl }
 
-  module _ (n i place q at : ℕ) (v : Answer (List ClockedNode)) (l : NodeLayout) (z : i < n) (L : (x : Node) (q : ℕ) → node M ts place ≡ got x q → LaidNode M ts x q l) (h : Sizing M ts letters (n - i) i place q at v) where
+  module _ (n i place q at : ℕ) (v : Answer (List ClockedNode)) (l : NodeLayout) (z : i < n) (L : (x : Node) (q : ℕ) → node M (tokens gs vs) place ≡ got x q → LaidNode M (tokens gs vs) x q l) (h : Sizing M (tokens gs vs) letters (n - i) i place q at v) where
     -- the node that stands there
-    pub sizing-here : (x : Node) × (s : ℕ) × (xs : List Node) × LaidNode M ts x s l × (times (n - (i + 1)) (node M) ts (l .end) ≡ got xs q) × (h .rest ≡ x ∷ xs)
+    pub sizing-here : (x : Node) × (s : ℕ) × (xs : List Node) × LaidNode M (tokens gs vs) x s l × (times (n - (i + 1)) (node M) (tokens gs vs) (l .end) ≡ got xs q) × (h .rest ≡ x ∷ xs)
     sizing-here =
-        let c = times-cons (node M) ts (n - i) place (h .rest) q (λ y. omega (arith, y)) (h .items) in
+        let c = times-cons (node M) (tokens gs vs) (n - i) place (h .rest) q (λ y. omega (arith, y)) (h .items) in
         let d = L (c .0) (c .1) (c .3) in
         let w : n - (i + 1) ≡ n - i - 1 = omega arith in
         (c .0, c .1, c .2, d, rw (d .ends, w) (c .4), c .5)
 
-    module _ (k : ℕ) (e : k ≡ i) (env t : List ℕ) (a : NodeAnswer) (C : (x : Node) (s : ℕ) → LaidNode M ts x s l → ClockedAs M ts env t k x a) where
-      here-clocked : ClockedAs M ts env t k (sizing-here .0) a
+    module _ (k : ℕ) (e : k ≡ i) (t sites : List ℕ) (a : NodeAnswer) (C : (x : Node) (s : ℕ) → LaidNode M (tokens gs vs) x s l → ClockedAs M gs vs t sites k x a) where
+      here-clocked : ClockedAs M gs vs t sites k (sizing-here .0) a
       here-clocked = C (sizing-here .0) (sizing-here .1) (sizing-here .3)
 
       pub sizing-deep : (r : Refusal) → a ≡ NodeAnswer.Refused r → v ≡ refused (Refusal.Deep k)
       sizing-deep r u =
-          let d = clocked-turned M ts env t k (sizing-here .0) a here-clocked r u in
+          let d = clocked-turned M gs vs t sites k (sizing-here .0) a here-clocked r u in
           let w : clockings i (h .rest) ≡ refused (Refusal.Deep i) = ap (clockings i) (sizing-here .5) ∙ node-deep i (sizing-here .0) (sizing-here .2) (d .0) in
           h .whole ∙ (ap (λ (y : Answer (List ClockedNode)). y >>= λ l. accepted (h .so-far ++ l)) w ∙ ap (λ (j : ℕ). refused (Refusal.Deep j)) (sym e))
 
-      pub sizing-more : (told : Told) (size next : ℕ) → a ≡ NodeAnswer.Node told → ((y : ClockedNode) → NodeWithClocks (told .names) ts env t (told .number) told y → size ≡ length (nodeListing letters (told .number) y)) → next ≡ at + size
-          → Sizing M ts letters (n - (i + 1)) (i + 1) (l .end) q next v
+      pub sizing-more : (told : Told) (size next : ℕ) → a ≡ NodeAnswer.Node told → ((y : ClockedNode) → NodeWithClocks (told .names) gs vs t sites (told .number) told y → size ≡ length (nodeListing letters (told .number) y)) → next ≡ at + size
+          → Sizing M (tokens gs vs) letters (n - (i + 1)) (i + 1) (l .end) q next v
       sizing-more told size next u S j =
-          let d = clocked-as M ts env t k (sizing-here .0) a here-clocked told u in
+          let d = clocked-as M gs vs t sites k (sizing-here .0) a here-clocked told u in
           let y : ClockedNode = record { node = sizing-here .0; clocking = d .0 } in
           let w : clockings i (h .rest) ≡ (clockings (suc i) (sizing-here .2) >>= λ l. accepted (y ∷ l)) = ap (clockings i) (sizing-here .5) ∙ node-formed i (sizing-here .0) (sizing-here .2) (d .0) (d .1) in
           let b : v ≡ (clockings (suc i) (sizing-here .2) >>= λ l. accepted ((h .so-far ++ (y ∷ [])) ++ l)) =
           h .whole ∙ (ap (λ (x : Answer (List ClockedNode)). x >>= λ l. accepted (h .so-far ++ l)) w ∙ one-behind (h .so-far) y (clockings (suc i) (sizing-here .2))) in
-          let g : size ≡ length (nodeListing letters (told .number) y) = S y (told-own M ts env t k told y (d .2)) in
+          let g : size ≡ length (nodeListing letters (told .number) y) = S y (told-own M gs vs t sites k told y (d .2)) in
           record {
             rest = sizing-here .2;
             so-far = h .so-far ++ (y ∷ []);
@@ -209,10 +210,10 @@ module _ (M : ℕ) (ts : List TagValue) (letters : ℕ → Letters) where
               let w : size ≡ length (nodeListing letters (0 + length s) y) = g ∙ ap (λ (x : ℕ). length (nodeListing letters x y)) o in
               omega (arith, ap length (numbered-last (nodeListing letters) 0 s y), length-append (join (numbered (nodeListing letters) 0 s)) (nodeListing letters (0 + length s) y))
 
-  pub sizing-all : (ns : List Node) (left i place q at : ℕ) → left ≡ 0 → Sizing M ts letters left i place q at (clockings 0 ns) → Measures letters ns q (Measured.Size at place)
+  pub sizing-all : (ns : List Node) (left i place q at : ℕ) → left ≡ 0 → Sizing M (tokens gs vs) letters left i place q at (clockings 0 ns) → Measures letters ns q (Measured.Size at place)
   unfolding Measures clockings
   sizing-all ns left i place q at z h =
-      let e = times-nil (node M) ts left place (h .rest) q z (h .items) in
+      let e = times-nil (node M) (tokens gs vs) left place (h .rest) q z (h .items) in
       let w : clockings 0 ns ≡ accepted (h .so-far) = h .whole ∙ (ap (λ (l : List Node). clockings i l >>= λ r. accepted (h .so-far ++ r)) (e .0) ∙ ap accepted (append-nil (h .so-far))) in
       (h .so-far, w, h .long, sym (e .1))
 
@@ -231,12 +232,12 @@ module _ (table rows chain : List ℕ) (r : Ample table rows chain) where
   pub ample-kept : (table′ rows′ chain′ : List ℕ) → length table′ ≡ length table → length rows′ ≡ length rows → length chain′ ≡ length chain → Ample table′ rows′ chain′
   ample-kept table′ rows′ chain′ a b c = record { few = omega (arith, r .few); chained = omega (arith, r .chained); ordered = omega (arith, r .ordered) }
 
-pub roomy-kept : (M many : ℕ) (env table env′ table′ : List ℕ) → Roomy M many env table → length env′ ≡ length env → length table′ ≡ length table → Roomy M many env′ table′
-roomy-kept M many env table env′ table′ r a b = record { few = r .few; clocks = omega (arith, r .clocks); found = omega (arith, r .found) }
+pub roomy-kept : (M many : ℕ) (env table sites env′ table′ sites′ : List ℕ) → Roomy M many env table sites → length env′ ≡ length env → length table′ ≡ length table → length sites′ ≡ length sites → Roomy M many env′ table′ sites′
+roomy-kept M many env table sites env′ table′ sites′ r a b c = record { few = r .few; clocks = omega (arith, r .clocks, a); found = omega (arith, r .found, b); sited = omega (arith, r .sited, c) }
 
 -- tables for so many names and k tokens are large enough
-pub roomy-of : (names k M many : ℕ) (env table : List ℕ) → names ≤ 1024 → M ≤ names → many ≤ k → length env ≡ 17 * names → length table ≡ 38 * k → Roomy M many env table
-roomy-of names k M many env table a b c d e = record { few = omega arith; clocks = omega arith; found = omega arith }
+pub roomy-of : (names k M many : ℕ) (env table sites : List ℕ) → names ≤ 1024 → M ≤ names → many ≤ k → length env ≡ 17 * names → length table ≡ 38 * k → length sites ≡ 17 * k → Roomy M many env table sites
+roomy-of names k M many env table sites a b c d e f = record { few = omega arith; clocks = omega arith; found = omega arith; sited = omega arith }
 
 pub ample-of : (k : ℕ) (table rows chain : List ℕ) → k ≤ 4096 → length table ≡ 38 * k → length rows ≡ 17 * k → length chain ≡ k → Ample table rows chain
 ample-of k table rows chain a b c d = record { few = omega arith; chained = omega arith; ordered = omega arith }

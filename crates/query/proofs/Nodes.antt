@@ -8,6 +8,7 @@ use lib.ListN.{length, getD, getElem?, take}
 use lib.Seq.{length-take-le}
 use Rattle.definitions.specs.declared.Refusal.{Refusal}
 use Rattle.definitions.specs.Tokens.{TagValue}
+use Rattle.definitions.specs.Bytes.{tokens}
 use Rattle.definitions.specs.Tree.{Node}
 use Rattle.definitions.specs.Reading.{got, times}
 use Rattle.definitions.specs.Grammar.{node}
@@ -20,7 +21,7 @@ use Rattle.layout.specs.Laid.{LaidNode, Places}
 use Rattle.layout.proofs.Laws.{at-item}
 use Rattle.infer_clocks.specs.declared.NodeClocked.{NodeClocked}
 use Rattle.infer_clocks.specs.declared.Deepest.{Deepest}
-use Rattle.infer_clocks.specs.Clocked.{ClockedOrDeep, Deeply}
+use Rattle.infer_clocks.specs.Clocked.{SitesTold, ClockedOrDeep, Deeply}
 use Rattle.query.specs.declared.NodePlace.{NodePlace}
 use Rattle.query.specs.declared.NodeAnswer.{NodeAnswer}
 use Rattle.query.specs.Standing.{Located, ClockedAs, NodeTold}
@@ -129,30 +130,30 @@ node-known : (r : Input) (k : ℕ) (n : Node) (ns : List ClockedNode) (m : Clock
 unfolding nodeAt
 node-known r k n ns m e f g = rw (e, f, g)
 
-module _ (M : ℕ) (ts : List TagValue) (env t : List ℕ) (r : Input) (k : ℕ) (found : NodePlace) (f : Located M ts (r .sheet .nodes) k found) where
-  pub told-missing : found ≡ NodePlace.Missing → NodeTold M ts env t k (NodeAnswer.Refused Refusal.Missing) (nodeAt r k)
+module _ (M : ℕ) (gs vs t sites : List ℕ) (r : Input) (k : ℕ) (found : NodePlace) (f : Located M (tokens gs vs) (r .sheet .nodes) k found) where
+  pub told-missing : found ≡ NodePlace.Missing → NodeTold M gs vs t sites k (NodeAnswer.Refused Refusal.Missing) (nodeAt r k)
   unfolding Located NodeTold nodeAt
-  told-missing e = let g : Located M ts (r .sheet .nodes) k NodePlace.Missing = rw e at f in rw g
+  told-missing e = let g : Located M (tokens gs vs) (r .sheet .nodes) k NodePlace.Missing = rw e at f in rw g
 
   module _ (p : ℕ) (e : found ≡ NodePlace.At p) (d : Deepest) (h : Deeply d (clockings 0 (r .sheet .nodes))) where
-    pub told-deep : (i w : ℕ) → d ≡ Deepest.At i → w ≡ i → NodeTold M ts env t k (NodeAnswer.Refused (Refusal.Deep w)) (nodeAt r k)
+    pub told-deep : (i w : ℕ) → d ≡ Deepest.At i → w ≡ i → NodeTold M gs vs t sites k (NodeAnswer.Refused (Refusal.Deep w)) (nodeAt r k)
     unfolding Located NodeTold nodeAt Deeply
     told-deep i w j u =
-        let g : Located M ts (r .sheet .nodes) k (NodePlace.At p) = rw e at f in
+        let g : Located M (tokens gs vs) (r .sheet .nodes) k (NodePlace.At p) = rw e at f in
         let x : Deeply (Deepest.At i) (clockings 0 (r .sheet .nodes)) = rw j at h in
         rw (g .2, x, u)
 
-    module _ (j : d ≡ Deepest.Nowhere) (l : NodeLayout) (L : (n : Node) (q : ℕ) → node M ts p ≡ got n q → LaidNode M ts n q l) where
-      pub told-node : (a : NodeAnswer) → ((n : Node) (q : ℕ) → LaidNode M ts n q l → ClockedAs M ts env t k n a) → NodeTold M ts env t k a (nodeAt r k)
+    module _ (j : d ≡ Deepest.Nowhere) (l : NodeLayout) (L : (n : Node) (q : ℕ) → node M (tokens gs vs) p ≡ got n q → LaidNode M (tokens gs vs) n q l) where
+      pub told-node : (a : NodeAnswer) → ((n : Node) (q : ℕ) → LaidNode M (tokens gs vs) n q l → ClockedAs M gs vs t sites k n a) → NodeTold M gs vs t sites k a (nodeAt r k)
       unfolding Located NodeTold Deeply ClockedAs
       told-node a C =
-          let g : Located M ts (r .sheet .nodes) k (NodePlace.At p) = rw e at f in
+          let g : Located M (tokens gs vs) (r .sheet .nodes) k (NodePlace.At p) = rw e at f in
           let x : Deeply Deepest.Nowhere (clockings 0 (r .sheet .nodes)) = rw j at h in
           let b = item-clocked 0 (r .sheet .nodes) (x .0) k (g .0) (x .1) (g .2) in
           let m = node-known r k (g .0) (x .0) (record { node = g .0; clocking = b .0 }) (g .2) (x .1) (b .2) in
           go a (g .0) (b .0) m (b .1) (g .4) (C (g .0) (g .1) (L (g .0) (g .1) (g .3)))
         where
-          go : (a : NodeAnswer) (n : Node) (c : Clocking) → nodeAt r k ≡ accepted (record { node = n; clocking = c }) → clocking n ≡ formed c → k < 16 → ClockedAs M ts env t k n a → NodeTold M ts env t k a (nodeAt r k)
+          go : (a : NodeAnswer) (n : Node) (c : Clocking) → nodeAt r k ≡ accepted (record { node = n; clocking = c }) → clocking n ≡ formed c → k < 16 → ClockedAs M gs vs t sites k n a → NodeTold M gs vs t sites k a (nodeAt r k)
           go (NodeAnswer.Refused u) n c m b few y =
               let z : deep ≡ formed c = sym (y .0) ∙ b in
               let w : _≡_ {A = ℕ} 0 1 = cc in absurd (omega arith)
@@ -172,13 +173,15 @@ module _ (n w : ℕ) (l : List ℕ) (e : n ≡ min w 1024) (f : length l ≡ 102
   part-enough M g h = omega (arith, part-long)
 
 -- ---- a node clocked
-module _ (M : ℕ) (ts : List TagValue) (env t : List ℕ) (k : ℕ) (n : Node) (r : NodeClocked) (h : ClockedOrDeep env t M r (clocking n)) where
-  pub clocked-deep : r ≡ NodeClocked.Deep → ClockedAs M ts env t k n (NodeAnswer.Refused (Refusal.Deep k))
+module _ (M : ℕ) (gs vs env t sites : List ℕ) (k : ℕ) (n : Node) (r : NodeClocked) (h : ClockedOrDeep env t M r (clocking n)) where
+  pub clocked-deep : r ≡ NodeClocked.Deep → ClockedAs M gs vs t sites k n (NodeAnswer.Refused (Refusal.Deep k))
   unfolding ClockedOrDeep ClockedAs
   clocked-deep e = let x : ClockedOrDeep env t M NodeClocked.Deep (clocking n) = rw e at h in (x, refl)
 
-  pub clocked-node : (q : ℕ) (l : NodeLayout) (passes m : ℕ) → r ≡ NodeClocked.Clocked passes m → LaidNode M ts n q l → ClockedAs M ts env t k n (NodeAnswer.Node (record { layout = l; number = k; names = M; passes = passes; findings = m }))
+  pub clocked-node : (q : ℕ) (l : NodeLayout) (passes m : ℕ) → r ≡ NodeClocked.Clocked passes m → LaidNode M (tokens gs vs) n q l
+      → ((c : Clocking) → clocking n ≡ formed c → SitesTold M gs vs sites (c .findings) (c .equations) (l .equations .at) (l .equations .end))
+      → ClockedAs M gs vs t sites k n (NodeAnswer.Node (record { layout = l; number = k; names = M; passes = passes; findings = m }))
   unfolding ClockedOrDeep ClockedAs
-  clocked-node q l passes m e d =
+  clocked-node q l passes m e d S =
       let x : ClockedOrDeep env t M (NodeClocked.Clocked passes m) (clocking n) = rw e at h in
-      (x .0, x .1, record { end = q; laid = d; formed = x .1; tells = x .2; number = refl; names = refl })
+      (x .0, x .1, record { end = q; laid = d; formed = x .1; tells = record { made = x .2 .made; room = x .2 .room; all = x .2 .all; on = S (x .0) (x .1) .on }; number = refl; names = refl })

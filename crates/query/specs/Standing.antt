@@ -15,8 +15,8 @@ use Rattle.definitions.specs.Output.{lettersOf, ClockedNode}
 use Rattle.definitions.specs.Answer.{Input, itemAt}
 use Rattle.fresh.specs.Places.{lettersAt}
 use Rattle.layout.specs.Laid.{LaidNode}
-use Rattle.infer_clocks.specs.Clocked.{ClocksStand}
 use Rattle.listing.specs.declared.Told.{Told}
+use Rattle.listing.specs.ToldClocks.{ToldClocks}
 use Rattle.query.specs.declared.NodePlace.{NodePlace}
 use Rattle.query.specs.declared.NodeAnswer.{NodeAnswer}
 
@@ -28,11 +28,12 @@ pub record Standing (starts letters tags values : List ℕ) (M : ℕ) (r : Input
   pub few-tokens : length tags ≤ 4096
   pub tree : sheet M (tokens tags values) 0 ≡ got (r .sheet) (length tags)
 
--- the working tables have room for the clocks of M names, and for what so many tokens let be found
-pub record Roomy (M many : ℕ) (env table : List ℕ) : Type 0 where
+-- the working tables have room for the clocks of M names, for what so many tokens let be found, and for a clock for each token
+pub record Roomy (M many : ℕ) (env table sites : List ℕ) : Type 0 where
   pub few : M ≤ 1024
   pub clocks : 17 * M ≤ length env
   pub found : 38 * many ≤ length table
+  pub sited : 17 * many ≤ length sites
 
 -- the tables for chains have room for as many as the table of findings has rows, which are at most as many as a sheet has tokens
 pub record Ample (table rows chain : List ℕ) : Type 0 where
@@ -46,20 +47,20 @@ Located M ts ns k NodePlace.Missing = itemAt ns k ≡ refused Refusal.Missing
 Located M ts ns k (NodePlace.At p) = (n : Node) × (q : ℕ) × (itemAt ns k ≡ accepted n) × (node M ts p ≡ got n q) × (k < 16)
 
 -- node k laid out, with its clocks in the working tables
-pub record NodeWithClocks (M : ℕ) (ts : List TagValue) (env t : List ℕ) (k : ℕ) (told : Told) (n : ClockedNode) : Type 0 where
+pub record NodeWithClocks (M : ℕ) (gs vs t sites : List ℕ) (k : ℕ) (told : Told) (n : ClockedNode) : Type 0 where
   pub end : ℕ
-  pub laid : LaidNode M ts (n .node) end (told .layout)
+  pub laid : LaidNode M (tokens gs vs) (n .node) end (told .layout)
   pub formed : clocking (n .node) ≡ formed (n .clocking)
-  pub tells : ClocksStand env t M (told .passes) (told .findings) (n .clocking)
+  pub tells : ToldClocks gs vs t sites told (n .clocking)
   pub number : told .number ≡ k
   pub names : told .names ≡ M
 
 -- node k, which is n, with its clocks, or 9
-unfoldable pub ClockedAs : ℕ → List TagValue → List ℕ → List ℕ → ℕ → Node → NodeAnswer → Type 0
-ClockedAs M ts env t k n (NodeAnswer.Refused r) = (clocking n ≡ deep) × (r ≡ Refusal.Deep k)
-ClockedAs M ts env t k n (NodeAnswer.Node told) = (c : Clocking) × (clocking n ≡ formed c) × NodeWithClocks M ts env t k told (record { node = n; clocking = c })
+unfoldable pub ClockedAs : ℕ → List ℕ → List ℕ → List ℕ → List ℕ → ℕ → Node → NodeAnswer → Type 0
+ClockedAs M gs vs t sites k n (NodeAnswer.Refused r) = (clocking n ≡ deep) × (r ≡ Refusal.Deep k)
+ClockedAs M gs vs t sites k n (NodeAnswer.Node told) = (c : Clocking) × (clocking n ≡ formed c) × NodeWithClocks M gs vs t sites k told (record { node = n; clocking = c })
 
 -- node k with its clocks, or 8 or 9
-unfoldable pub NodeTold : ℕ → List TagValue → List ℕ → List ℕ → ℕ → NodeAnswer → Answer ClockedNode → Type 0
-NodeTold M ts env t k (NodeAnswer.Refused r) v = v ≡ refused r
-NodeTold M ts env t k (NodeAnswer.Node told) v = (n : ClockedNode) × (v ≡ accepted n) × NodeWithClocks M ts env t k told n × (k < 16)
+unfoldable pub NodeTold : ℕ → List ℕ → List ℕ → List ℕ → List ℕ → ℕ → NodeAnswer → Answer ClockedNode → Type 0
+NodeTold M gs vs t sites k (NodeAnswer.Refused r) v = v ≡ refused r
+NodeTold M gs vs t sites k (NodeAnswer.Node told) v = (n : ClockedNode) × (v ≡ accepted n) × NodeWithClocks M gs vs t sites k told n × (k < 16)

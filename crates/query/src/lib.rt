@@ -1,5 +1,6 @@
 // What the questions on a sheet's nodes are answered from, over the working tables: a node found and clocked, its clocks and faults
-// as words, the listings of all nodes. `tags` and `values` are as long as each other; `names` is the number of names.
+// as words, the listings of all nodes. `tags` and `values` are as long as each other; `names` is the number of names. `sites` has seventeen
+// words for each token: clocking puts the clock of each equation in the row of its first token.
 use clock::Clock;
 use definitions::MOST_NAMES;
 use definitions::MOST_NODES;
@@ -16,20 +17,20 @@ ghost use lib.ListN.{length, getD};
 ghost use lib.Dec.{ltb};
 ghost use Rattle.definitions.specs.Bytes.{tokens};
 ghost use Rattle.definitions.specs.Lists.{choose, join, numbered};
-ghost use Rattle.definitions.specs.Tree.{Equation, Node, Sheet};
+ghost use Rattle.definitions.specs.Tree.{Node, Sheet};
 ghost use Rattle.definitions.specs.Reading.{got, times};
-ghost use Rattle.definitions.specs.Grammar.{equation, node, sheet};
-ghost use Rattle.definitions.specs.InferClocks.{Clocks, Clocked, Clocking, formed, clockedBy, clocking, chains, clockFaults};
+ghost use Rattle.definitions.specs.Grammar.{node, sheet};
+ghost use Rattle.definitions.specs.InferClocks.{Clocked, Clocking, formed, clocking, chains, clockFaults};
 ghost use Rattle.definitions.specs.Refusals.{accepted};
 ghost use Rattle.definitions.specs.Output.{ClockedNode};
 ghost use Rattle.definitions.specs.Answer.{Input, clockings, nodeAt, nodeClocks, nodeListing};
 ghost use Rattle.clock.specs.Value.{valueOf};
-ghost use Rattle.environment.specs.Environment.{Agrees};
 ghost use Rattle.findings.specs.Findings.{findingsIn};
 ghost use Rattle.fresh.specs.Places.{lettersAt};
 ghost use Rattle.order.specs.Order.{rowOf, picked};
 ghost use Rattle.spelling.specs.Writing.{overAt, farthest};
 ghost use Rattle.layout.specs.Laid.{LaidNode};
+ghost use Rattle.skeleton.specs.Sites.{EquationsOn};
 ghost use Rattle.infer_clocks.specs.Clocked.{Deeply};
 ghost use Rattle.query.specs.Standing.{Roomy, Ample, Located, NodeWithClocks, ClockedAs, NodeTold};
 ghost use Rattle.query.specs.Sizes.{SizedListing, sizeOf, Measures};
@@ -93,9 +94,10 @@ pub fn first_deep(
     names: u32,
     env: &mut [u32],
     table: &mut [u32],
+    sites: &mut [u32],
 ) -> Deepest
     requires { ⌜ length (now values) ≡ length (now tags) ⌝ }
-    ensures { λ r. ⌜ ((s : Sheet) (q : ℕ) → sheet names (tokens (now (tags .entry)) (now (values .entry))) 0 ≡ got s q → Roomy names (length (now (tags .entry))) (now (env .entry)) (now (table .entry)) → Deeply r (clockings 0 (s .nodes))) ⌝ }
+    ensures { λ r. ⌜ ((s : Sheet) (q : ℕ) → sheet names (tokens (now (tags .entry)) (now (values .entry))) 0 ≡ got s q → Roomy names (length (now (tags .entry))) (now (env .entry)) (now (table .entry)) (now (sites .entry)) → Deeply r (clockings 0 (s .nodes))) ⌝ }
 {
     let whole = layout::sheet_at(tags, values, names);
     let nodes = whole.nodes;
@@ -111,6 +113,7 @@ pub fn first_deep(
         &mut marks,
         &mut ports,
         table,
+        sites,
     )
 }
 
@@ -123,9 +126,10 @@ pub fn clock_laid(
     k: usize,
     env: &mut [u32],
     table: &mut [u32],
+    sites: &mut [u32],
 ) -> NodeAnswer
     requires { ⌜ length (now values) ≡ length (now tags) ⌝ }
-    ensures { λ r. ⌜ ((n : Node) (q : ℕ) → LaidNode names (tokens (now (tags .entry)) (now (values .entry))) n q layout → Roomy names (length (now (tags .entry))) (now (env .entry)) (now (table .entry)) → ClockedAs names (tokens (now (tags .entry)) (now (values .entry))) (now (env .exit)) (now (table .exit)) k n r) ⌝ }
+    ensures { λ r. ⌜ ((n : Node) (q : ℕ) → LaidNode names (tokens (now (tags .entry)) (now (values .entry))) n q layout → Roomy names (length (now (tags .entry))) (now (env .entry)) (now (table .entry)) (now (sites .entry)) → ClockedAs names (now (tags .entry)) (now (values .entry)) (now (table .exit)) (now (sites .exit)) k n r) ⌝ }
 {
     let n = widths::least(widths::wide(names), MOST_NAMES);
     let mut marks = [0u8; MOST_NAMES];
@@ -139,6 +143,7 @@ pub fn clock_laid(
         &mut marks[..n],
         &mut ports[..n],
         table,
+        sites,
     );
     match clocked {
         NodeClocked::Deep => NodeAnswer::Refused(Refusal::Deep(k)),
@@ -160,20 +165,21 @@ pub fn clock_at(
     k: usize,
     env: &mut [u32],
     table: &mut [u32],
+    sites: &mut [u32],
 ) -> NodeAnswer
     requires { ⌜ length (now values) ≡ length (now tags) ⌝ }
-    ensures { λ r. ⌜ ((i : Input) (q : ℕ) → sheet names (tokens (now (tags .entry)) (now (values .entry))) 0 ≡ got (i .sheet) q → Roomy names (length (now (tags .entry))) (now (env .entry)) (now (table .entry)) → NodeTold names (tokens (now (tags .entry)) (now (values .entry))) (now (env .exit)) (now (table .exit)) k r (nodeAt i k)) ⌝ }
+    ensures { λ r. ⌜ ((i : Input) (q : ℕ) → sheet names (tokens (now (tags .entry)) (now (values .entry))) 0 ≡ got (i .sheet) q → Roomy names (length (now (tags .entry))) (now (env .entry)) (now (table .entry)) (now (sites .entry)) → NodeTold names (now (tags .entry)) (now (values .entry)) (now (table .exit)) (now (sites .exit)) k r (nodeAt i k)) ⌝ }
 {
     let found = node_place(tags, values, names, k);
     let NodePlace::At(at) = found else {
         return NodeAnswer::Refused(Refusal::Missing);
     };
-    let deep = first_deep(tags, values, names, env, table);
+    let deep = first_deep(tags, values, names, env, table, sites);
     if let Deepest::At(i) = deep {
         return NodeAnswer::Refused(Refusal::Deep(widths::wide(i)));
     }
     let layout = layout::node_at(tags, values, names, at);
-    clock_laid(tags, values, names, layout, k, env, table)
+    clock_laid(tags, values, names, layout, k, env, table, sites)
 }
 
 // Word j of a clock in seventeen.
@@ -210,9 +216,9 @@ fn put_clock(list: &mut [u32], b: usize, c: Clock)
 }
 
 // The clocks of the equations that stand there.
-fn write_equations(tags: &[u8], values: &[u32], names: u32, env: &[u32], s: Span, list: &mut [u32])
+fn write_equations(tags: &[u8], values: &[u32], sites: &[u32], s: Span, list: &mut [u32])
     requires { ⌜ length (now values) ≡ length (now tags) ⌝ }
-    ensures { λ r. ⌜ ((clocks : Clocks) (es : List Equation) (q : ℕ) (cs : List Clocked) → Agrees (now (env .entry)) names clocks → times (s .count) (equation names) (tokens (now (tags .entry)) (now (values .entry))) (s .at) ≡ got es q → clockedBy clocks es ≡ formed cs → now (list .exit) ≡ clocksOver (map (λ c. c .clock) cs) (now (list .entry))) ⌝ }
+    ensures { λ r. ⌜ ((M : ℕ) (cs : List Clocked) (q : ℕ) → EquationsOn M (now (tags .entry)) (now (values .entry)) (now (sites .entry)) cs (s .at) q → length cs ≡ s .count → now (list .exit) ≡ clocksOver (map (λ c. c .clock) cs) (now (list .entry))) ⌝ }
 {
     let room = list.len() / flat::WORDS;
     let n = widths::wide(s.count);
@@ -220,12 +226,9 @@ fn write_equations(tags: &[u8], values: &[u32], names: u32, env: &[u32], s: Span
     let mut place = s.at;
     let mut i: usize = 0;
     while i < most {
-        let l = layout::equation_at(tags, values, names, place);
-        let right = l.right;
-        let end = l.end;
-        let c = infer_clocks::equation_clock(tags, values, names, env, right);
+        let c = rows::get(sites, place);
         put_clock(list, flat::WORDS * i, c);
-        place = end;
+        place = extents::equation_end(tags, values, place);
         i += 1;
     }
 }
@@ -315,7 +318,7 @@ pub fn write_clocks(
     letters: &[u8],
     tags: &[u8],
     values: &[u32],
-    env: &[u32],
+    sites: &[u32],
     table: &[u32],
     told: Told,
     rows: &mut [u32],
@@ -325,13 +328,13 @@ pub fn write_clocks(
     faults: &mut [u32],
 ) -> NodeCounts
     requires { ⌜ length (now values) ≡ length (now tags) ⌝ }
-    ensures { λ r. ⌜ ((n : ClockedNode) → NodeWithClocks (told .names) (tokens (now (tags .entry)) (now (values .entry))) (now (env .entry)) (now (table .entry)) (told .number) told n → Ample (now (table .entry)) (now (rows .entry)) (now (chain .entry)) → told .number < 16 → Written (told .number) (nodeClocks (lettersAt (now (starts .entry)) (now (letters .entry))) n) (now (equations .entry)) (now (chains .entry)) (now (faults .entry)) (now (equations .exit)) (now (chains .exit)) (now (faults .exit)) r) ⌝ }
+    ensures { λ r. ⌜ ((n : ClockedNode) → NodeWithClocks (told .names) (now (tags .entry)) (now (values .entry)) (now (table .entry)) (now (sites .entry)) (told .number) told n → Ample (now (table .entry)) (now (rows .entry)) (now (chain .entry)) → told .number < 16 → Written (told .number) (nodeClocks (lettersAt (now (starts .entry)) (now (letters .entry))) n) (now (equations .entry)) (now (chains .entry)) (now (faults .entry)) (now (equations .exit)) (now (chains .exit)) (now (faults .exit)) r) ⌝ }
 {
     let l = told.layout;
     let e = l.equations;
     let n = told.findings;
     let node = narrow(told.number);
-    write_equations(tags, values, told.names, env, e, equations);
+    write_equations(tags, values, sites, e, equations);
     let m = write_chains(starts, letters, table, n, rows, chain, chains);
     let f = write_faults(table, n, node, faults);
     NodeCounts {
@@ -349,7 +352,7 @@ pub fn measure_told(
     letters: &[u8],
     tags: &[u8],
     values: &[u32],
-    env: &[u32],
+    sites: &[u32],
     table: &[u32],
     told: Told,
     rows: &mut [u32],
@@ -357,7 +360,7 @@ pub fn measure_told(
 ) -> NodeSize
     requires { ⌜ length (now values) ≡ length (now tags) ⌝ }
     ensures { λ r. ⌜ r .listing ≤ farthest ⌝ }
-    ensures { λ r. ⌜ ((n : ClockedNode) → NodeWithClocks (told .names) (tokens (now (tags .entry)) (now (values .entry))) (now (env .entry)) (now (table .entry)) (told .number) told n → Ample (now (table .entry)) (now (rows .entry)) (now (chain .entry)) → length (now (letters .entry)) ≤ 16384 → length (now (tags .entry)) ≤ 4096 → SizedListing (lettersAt (now (starts .entry)) (now (letters .entry))) (now (table .entry)) (now (rows .exit)) (now (chain .exit)) told n r) ⌝ }
+    ensures { λ r. ⌜ ((n : ClockedNode) → NodeWithClocks (told .names) (now (tags .entry)) (now (values .entry)) (now (table .entry)) (now (sites .entry)) (told .number) told n → Ample (now (table .entry)) (now (rows .entry)) (now (chain .entry)) → length (now (letters .entry)) ≤ 16384 → length (now (tags .entry)) ≤ 4096 → SizedListing (lettersAt (now (starts .entry)) (now (letters .entry))) (now (table .entry)) (now (rows .exit)) (now (chain .exit)) told n r) ⌝ }
 {
     let chains = infer_clocks::chain_rows(starts, letters, table, told.findings, rows, chain);
     let listing = listing::measure_node(
@@ -365,7 +368,7 @@ pub fn measure_told(
         letters,
         tags,
         values,
-        env,
+        sites,
         table,
         told,
         rows,
@@ -383,7 +386,7 @@ pub fn put_told(
     letters: &[u8],
     tags: &[u8],
     values: &[u32],
-    env: &[u32],
+    sites: &[u32],
     table: &[u32],
     told: Told,
     rows: &[u32],
@@ -392,7 +395,7 @@ pub fn put_told(
 ) -> usize
     requires { ⌜ length (now values) ≡ length (now tags) ⌝ }
     ensures { λ r. ⌜ r ≤ farthest ⌝ }
-    ensures { λ r. ⌜ ((n : ClockedNode) → NodeWithClocks (told .names) (tokens (now (tags .entry)) (now (values .entry))) (now (env .entry)) (now (table .entry)) (told .number) told n → picked (rowOf (now (rows .entry))) (now (chain .entry)) 0 m ≡ chains (lettersAt (now (starts .entry)) (now (letters .entry))) (findingsIn (now (table .entry)) (told .findings)) → length (now (letters .entry)) ≤ 16384 → length (now (tags .entry)) ≤ 4096 → told .findings ≤ 4096 → PutText (nodeListing (lettersAt (now (starts .entry)) (now (letters .entry))) (told .number) n) at (now (out .entry)) r (now (out .exit))) ⌝ }
+    ensures { λ r. ⌜ ((n : ClockedNode) → NodeWithClocks (told .names) (now (tags .entry)) (now (values .entry)) (now (table .entry)) (now (sites .entry)) (told .number) told n → picked (rowOf (now (rows .entry))) (now (chain .entry)) 0 m ≡ chains (lettersAt (now (starts .entry)) (now (letters .entry))) (findingsIn (now (table .entry)) (told .findings)) → length (now (letters .entry)) ≤ 16384 → length (now (tags .entry)) ≤ 4096 → told .findings ≤ 4096 → PutText (nodeListing (lettersAt (now (starts .entry)) (now (letters .entry))) (told .number) n) at (now (out .entry)) r (now (out .exit))) ⌝ }
 {
     if out.len() <= at {
         return listing::measure_node(
@@ -400,7 +403,7 @@ pub fn put_told(
             letters,
             tags,
             values,
-            env,
+            sites,
             table,
             told,
             rows,
@@ -418,7 +421,7 @@ pub fn put_told(
         letters,
         tags,
         values,
-        env,
+        sites,
         table,
         told,
         rows,
@@ -442,12 +445,13 @@ fn put_laid(
     table: &mut [u32],
     rows: &mut [u32],
     chain: &mut [u32],
+    sites: &mut [u32],
 ) -> usize
     requires { ⌜ length (now values) ≡ length (now tags) ⌝ }
     ensures { λ r. ⌜ r ≤ farthest ⌝ }
-    ensures { λ r. ⌜ ((n : Node) (q : ℕ) (c : Clocking) → LaidNode names (tokens (now (tags .entry)) (now (values .entry))) n q layout → clocking n ≡ formed c → Roomy names (length (now (tags .entry))) (now (env .entry)) (now (table .entry)) → Ample (now (table .entry)) (now (rows .entry)) (now (chain .entry)) → length (now (letters .entry)) ≤ 16384 → length (now (tags .entry)) ≤ 4096 → PutText (nodeListing (lettersAt (now (starts .entry)) (now (letters .entry))) k (record { node = n; clocking = c })) at (now (out .entry)) r (now (out .exit))) ⌝ }
+    ensures { λ r. ⌜ ((n : Node) (q : ℕ) (c : Clocking) → LaidNode names (tokens (now (tags .entry)) (now (values .entry))) n q layout → clocking n ≡ formed c → Roomy names (length (now (tags .entry))) (now (env .entry)) (now (table .entry)) (now (sites .entry)) → Ample (now (table .entry)) (now (rows .entry)) (now (chain .entry)) → length (now (letters .entry)) ≤ 16384 → length (now (tags .entry)) ≤ 4096 → PutText (nodeListing (lettersAt (now (starts .entry)) (now (letters .entry))) k (record { node = n; clocking = c })) at (now (out .entry)) r (now (out .exit))) ⌝ }
 {
-    let answer = clock_laid(tags, values, names, layout, k, env, table);
+    let answer = clock_laid(tags, values, names, layout, k, env, table, sites);
     let NodeAnswer::Node(told) = answer else {
         return 0;
     };
@@ -459,7 +463,7 @@ fn put_laid(
         letters,
         tags,
         values,
-        env,
+        sites,
         table,
         told,
         rows,
@@ -482,9 +486,10 @@ pub fn put_listings(
     table: &mut [u32],
     rows: &mut [u32],
     chain: &mut [u32],
+    sites: &mut [u32],
 ) -> usize
     requires { ⌜ length (now values) ≡ length (now tags) ⌝ }
-    ensures { λ r. ⌜ ((ns : List Node) (q : ℕ) (l : List ClockedNode) → times n (node names) (tokens (now (tags .entry)) (now (values .entry))) from ≡ got ns q → clockings 0 ns ≡ accepted l → Roomy names (length (now (tags .entry))) (now (env .entry)) (now (table .entry)) → Ample (now (table .entry)) (now (rows .entry)) (now (chain .entry)) → length (now (letters .entry)) ≤ 16384 → length (now (tags .entry)) ≤ 4096 → PutText (join (numbered (nodeListing (lettersAt (now (starts .entry)) (now (letters .entry)))) 0 l)) 0 (now (out .entry)) r (now (out .exit))) ⌝ }
+    ensures { λ r. ⌜ ((ns : List Node) (q : ℕ) (l : List ClockedNode) → times n (node names) (tokens (now (tags .entry)) (now (values .entry))) from ≡ got ns q → clockings 0 ns ≡ accepted l → Roomy names (length (now (tags .entry))) (now (env .entry)) (now (table .entry)) (now (sites .entry)) → Ample (now (table .entry)) (now (rows .entry)) (now (chain .entry)) → length (now (letters .entry)) ≤ 16384 → length (now (tags .entry)) ≤ 4096 → PutText (join (numbered (nodeListing (lettersAt (now (starts .entry)) (now (letters .entry)))) 0 l)) 0 (now (out .entry)) r (now (out .exit))) ⌝ }
 {
     let mut place = from;
     let mut at: usize = 0;
@@ -506,6 +511,7 @@ pub fn put_listings(
             table,
             rows,
             chain,
+            sites,
         );
         at += size;
         place = one.end;
@@ -527,10 +533,11 @@ pub fn measure_listings(
     table: &mut [u32],
     rows: &mut [u32],
     chain: &mut [u32],
+    sites: &mut [u32],
 ) -> Measured
     requires { ⌜ length (now values) ≡ length (now tags) ⌝ }
     ensures { λ r. ⌜ sizeOf r ≤ 4294967296 * n ⌝ }
-    ensures { λ r. ⌜ ((ns : List Node) (q : ℕ) → times n (node names) (tokens (now (tags .entry)) (now (values .entry))) from ≡ got ns q → Roomy names (length (now (tags .entry))) (now (env .entry)) (now (table .entry)) → Ample (now (table .entry)) (now (rows .entry)) (now (chain .entry)) → length (now (letters .entry)) ≤ 16384 → length (now (tags .entry)) ≤ 4096 → Measures (lettersAt (now (starts .entry)) (now (letters .entry))) ns q r) ⌝ }
+    ensures { λ r. ⌜ ((ns : List Node) (q : ℕ) → times n (node names) (tokens (now (tags .entry)) (now (values .entry))) from ≡ got ns q → Roomy names (length (now (tags .entry))) (now (env .entry)) (now (table .entry)) (now (sites .entry)) → Ample (now (table .entry)) (now (rows .entry)) (now (chain .entry)) → length (now (letters .entry)) ≤ 16384 → length (now (tags .entry)) ≤ 4096 → Measures (lettersAt (now (starts .entry)) (now (letters .entry))) ns q r) ⌝ }
 {
     let mut place = from;
     let mut at: usize = 0;
@@ -538,11 +545,21 @@ pub fn measure_listings(
     while i < n {
         let one = layout::node_at(tags, values, names, place);
         let k = widths::wide(i);
-        let answer = clock_laid(tags, values, names, one, k, env, table);
+        let answer = clock_laid(tags, values, names, one, k, env, table, sites);
         let NodeAnswer::Node(told) = answer else {
             return Measured::Deep(k);
         };
-        let size = measure_told(starts, letters, tags, values, env, table, told, rows, chain);
+        let size = measure_told(
+            starts,
+            letters,
+            tags,
+            values,
+            sites,
+            table,
+            told,
+            rows,
+            chain,
+        );
         at += size.listing;
         place = one.end;
         i += 1;

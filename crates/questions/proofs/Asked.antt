@@ -1,5 +1,5 @@
 -- What is answered, question by question. Assumes nothing.
-use Prim.Native.Nat.{ℕ}
+use Prim.Native.Nat.{ℕ, _≤_}
 use mathlib.Core.Path.{_≡_}
 use mathlib.Core.List.{List}
 use lib.ListN.{length}
@@ -10,13 +10,14 @@ use Rattle.listings.specs.declared.ClocksAnswer.{ClocksAnswer}
 use Rattle.listings.specs.declared.ListingAnswer.{ListingAnswer}
 use Rattle.listings.specs.Answers.{clocksOf, listingOf, listingsOf, ClocksInWords, ListingGiven}
 use Rattle.listings.proofs.Given.{clocks-refused, listing-refused, listings-refused, clocks-read, listing-read, listings-read}
+use Rattle.first_faults.specs.Faults.{RoomToPlan}
 use Rattle.rewriting.specs.declared.RewriteAnswer.{RewriteAnswer}
 use Rattle.rewriting.specs.Given.{RewriteInWords}
 use Rattle.fault_text.specs.Texts.{textOf}
 use Rattle.fault_text.proofs.Texts.{text-down, text-read}
 use Rattle.questions.specs.declared.Question.{Question}
 use Rattle.questions.specs.declared.Reply.{Reply}
-use Rattle.questions.specs.Asked.{rewriteReplied, clocksReplied, listingReplied, Asked}
+use Rattle.questions.specs.Asked.{rewriteReplied, clocksReplied, listingReplied, Asked, Rooms}
 use Rattle.questions.proofs.Demand.{rewrite-down}
 
 -- refusals 1 to 7, whatever is asked
@@ -44,3 +45,8 @@ module _ (q : Question) (b out es cs fs out′ es′ cs′ fs′ : List ℕ) (r 
 
     pub text-asked : (k j : ℕ) (a : ListingAnswer) → q ≡ Question.Text k j → listingReplied r ≡ a → ListingGiven (textOf i k j (length out)) out out′ a → Asked q b out es cs fs out′ es′ cs′ fs′ r
     text-asked k j a e f g = rw (e, f, text-read b i h k j (length out)) g
+
+-- ---- room to plan
+pub to-plan : {M many : ℕ} {env table rows chain sites : List ℕ} → Rooms M many env table rows chain sites → many ≤ 4096 → RoomToPlan M many env table sites rows chain
+to-plan r few =
+    record { few = r .found .few; few-tokens = few; clocks = r .found .clocks; found = r .found .found; sited = r .found .sited; typed = r .typed; planned = r .planned }

@@ -1,5 +1,5 @@
 -- What is answered and written, question by question, by the definitions' answers.
-use Prim.Native.Nat.{ℕ}
+use Prim.Native.Nat.{ℕ, _≤_}
 use mathlib.Core.List.{List}
 use lib.ListN.{length}
 use Rattle.definitions.specs.declared.Refusal.{Refusal}
@@ -37,7 +37,9 @@ Asked (Question.Listing k) bytes out es cs fs out′ es′ cs′ fs′ r = Listi
 Asked Question.Listings bytes out es cs fs out′ es′ cs′ fs′ r = ListingGiven (listingsAnswer bytes (length out)) out out′ (listingReplied r)
 Asked (Question.Text k j) bytes out es cs fs out′ es′ cs′ fs′ r = ListingGiven (textAnswer bytes k j (length out)) out out′ (listingReplied r)
 
--- the working tables have room for a sheet of M names and so many tokens
-pub record Rooms (M many : ℕ) (env table rows chain : List ℕ) : Type 0 where
-  pub found : Roomy M many env table
+-- the working tables have room for a sheet of M names and so many tokens: for clocks and chains; those for chains for types and a plan too
+pub record Rooms (M many : ℕ) (env table rows chain sites : List ℕ) : Type 0 where
+  pub found : Roomy M many env table sites
   pub chained : Ample table rows chain
+  pub typed : M ≤ length rows
+  pub planned : many ≤ length chain

@@ -116,7 +116,8 @@ fn listing_answer(reply: Reply) -> ListingAnswer
 }
 
 // A question's answer, of a sheet that stands in these tables, with working tables: for the clocks of names, for what is found in
-// equations, and for chains and their order.
+// equations, for chains and their order, and for the clocks of sites. Where there are no chains, the types of names stand in the rows
+// of these, and the plan of tokens in their order.
 fn ask_in(
     given: &[u8],
     starts: &[u32],
@@ -129,6 +130,7 @@ fn ask_in(
     table: &mut [u32],
     rows: &mut [u32],
     chain: &mut [u32],
+    sites: &mut [u32],
     out: &mut [u8],
     equations: &mut [u32],
     chains: &mut [u32],
@@ -136,7 +138,7 @@ fn ask_in(
 ) -> Reply
     requires { ⌜ length (now values) ≡ length (now tags) ⌝ }
     requires { ⌜ (sum (now given) ≡ length (now letters)) × (length (now given) ≤ 1024) × (length (now letters) ≤ 16384) ⌝ }
-    ensures { λ r. ⌜ ((bytes : List ℕ) (i : Input) → Read (now (given .entry)) (now (starts .entry)) (now (letters .entry)) (now (tags .entry)) (now (values .entry)) names bytes i → Rooms names (length (now (tags .entry))) (now (env .entry)) (now (table .entry)) (now (rows .entry)) (now (chain .entry)) → Asked q bytes (now (out .entry)) (now (equations .entry)) (now (chains .entry)) (now (faults .entry)) (now (out .exit)) (now (equations .exit)) (now (chains .exit)) (now (faults .exit)) r) ⌝ }
+    ensures { λ r. ⌜ ((bytes : List ℕ) (i : Input) → Read (now (given .entry)) (now (starts .entry)) (now (letters .entry)) (now (tags .entry)) (now (values .entry)) names bytes i → Rooms names (length (now (tags .entry))) (now (env .entry)) (now (table .entry)) (now (rows .entry)) (now (chain .entry)) (now (sites .entry)) → Asked q bytes (now (out .entry)) (now (equations .entry)) (now (chains .entry)) (now (faults .entry)) (now (out .exit)) (now (equations .exit)) (now (chains .exit)) (now (faults .exit)) r) ⌝ }
 {
     match q {
         Question::Rewrite => rewrite_reply(rewriting::rewrite_in(
@@ -146,7 +148,11 @@ fn ask_in(
             tags,
             values,
             names,
+            env,
             table,
+            sites,
+            rows,
+            chain,
             out,
             faults,
         )),
@@ -164,6 +170,7 @@ fn ask_in(
             equations,
             chains,
             faults,
+            sites,
         )),
         Question::Listing(k) => listing_reply(listings::listing_in(
             out,
@@ -177,6 +184,7 @@ fn ask_in(
             table,
             rows,
             chain,
+            sites,
         )),
         Question::Listings => listing_reply(listings::listings_in(
             out,
@@ -189,6 +197,7 @@ fn ask_in(
             table,
             rows,
             chain,
+            sites,
         )),
         Question::Text(k, j) => listing_reply(fault_text::text_in(
             out,
@@ -202,6 +211,9 @@ fn ask_in(
             j,
             env,
             table,
+            sites,
+            rows,
+            chain,
         )),
     }
 }
@@ -228,6 +240,7 @@ fn ask_small(
     let mut table = [0u32; SMALL_FINDING_TABLE];
     let mut rows = [0u32; SMALL_CLOCK_TABLE];
     let mut chain = [0u32; SMALL_TOKENS];
+    let mut sites = [0u32; SMALL_CLOCK_TABLE];
     ask_in(
         given,
         starts,
@@ -240,6 +253,7 @@ fn ask_small(
         &mut table,
         &mut rows,
         &mut chain,
+        &mut sites,
         out,
         equations,
         chains,
@@ -269,6 +283,7 @@ fn ask_large(
     let mut table = [0u32; FINDING_TABLE];
     let mut rows = [0u32; CHAIN_TABLE];
     let mut chain = [0u32; MOST_TOKENS];
+    let mut sites = [0u32; CHAIN_TABLE];
     ask_in(
         given,
         starts,
@@ -281,6 +296,7 @@ fn ask_large(
         &mut table,
         &mut rows,
         &mut chain,
+        &mut sites,
         out,
         equations,
         chains,

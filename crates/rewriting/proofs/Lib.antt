@@ -1,2 +1,4 @@
--- What rewriting a sheet answers, outcome by outcome.
+-- The nodes one by one, and what rewriting a sheet answers.
+pub mod Walk
+pub mod Nodes
 pub mod Outcomes

@@ -1,5 +1,5 @@
 -- What rewriting a sheet answers, by what the working tables say: one law for each outcome, in checking order.
-use Prim.Native.Nat.{ℕ, zero, suc, _/_, _≤_, _<_}
+use Prim.Native.Nat.{ℕ, _≤_, _<_}
 use mathlib.Core.Path.{_≡_, refl, sym, ap, ap₂, _∙_, subst}
 use mathlib.Core.List.{List, [], _∷_, map}
 use mathlib.Core.Bool.{Bool, true, false, _&&_, not}
@@ -9,9 +9,8 @@ use lib.ListN.{length, take}
 use borrow.Author.Tests.{le-leb, leb-true, leb-false}
 use Rattle.definitions.specs.declared.Refusal.{Refusal}
 use Rattle.definitions.specs.declared.FaultRecord.{FaultRecord}
-use Rattle.definitions.specs.Lists.{choose, join, over, bytes}
+use Rattle.definitions.specs.Lists.{choose, over, bytes, Letters}
 use Rattle.definitions.specs.Tokens.{codeOf}
-use Rattle.definitions.specs.Tree.{Node}
 use Rattle.definitions.specs.Bytes.{cut, tokens}
 use Rattle.definitions.specs.Refusals.{Answer, accepted, refused, faulty}
 use Rattle.definitions.specs.Output.{condactId, ClockedNode, sheetTokens, sheetBytes, withinLimits, written}
@@ -22,18 +21,18 @@ use Rattle.fresh.proofs.Places.{cut-length}
 use Rattle.fresh.proofs.Table.{id-most, holds-limits}
 use Rattle.emit.specs.Out.{out, emits}
 use Rattle.emit.proofs.Laws.{emits-long, emits-whole}
-use Rattle.infer_clocks.specs.Clocked.{Sole}
 use Rattle.stateless.specs.Sheets.{firstFaultsFrom}
 use Rattle.stateless.proofs.Nodes.{many-tokens}
 use Rattle.stateless.proofs.Answers.{allNames, outSheet, rewrite-deep, rewrite-faulty, rewrite-large, rewrite-lent, rewrite-accepted}
-use Rattle.first_faults.specs.declared.NodesWalked.{NodesWalked}
-use Rattle.first_faults.specs.Faults.{Recorded, Walks}
+use Rattle.declock_sheet.specs.declared.Progress.{Progress}
+use Rattle.first_faults.specs.Faults.{Recorded}
 use Rattle.writing.specs.declared.Written.{Written}
 use Rattle.writing.specs.Bytes.{writtenAnswer, writtenBytes}
-use Rattle.output_names.specs.Faultless.{Faultless}
 use Rattle.query.specs.Words.{recordWords, entriesOver}
+use Rattle.rewriting.specs.declared.NodesWalked.{NodesWalked}
 use Rattle.rewriting.specs.declared.RewriteAnswer.{RewriteAnswer}
-use Rattle.rewriting.specs.Given.{faultWordsAfter, RewriteInWords, Read}
+use Rattle.rewriting.specs.Walk.{Faultless, Walks}
+use Rattle.rewriting.specs.Given.{RewriteInWords, Read}
 
 -- the output's bytes
 abbrev outBytes : Input → List ClockedNode → List ℕ
@@ -51,63 +50,38 @@ module _ (v : Answer (List ℕ)) (lent list : List ℕ) where
   given-written : (bytes : List ℕ) (n : ℕ) (lent′ : List ℕ) → v ≡ accepted bytes → n ≡ length bytes → lent′ ≡ over bytes lent → RewriteInWords v lent list lent′ list (RewriteAnswer.Written n)
   given-written bytes n lent′ e f g = rw e (record { answer = ap RewriteAnswer.Written f; bytes = g; faults = refl })
 
--- no entries leave a lent list as it is
-none-over : (fs : List FaultRecord) (list : List ℕ) → fs ≡ [] → entriesOver 3 (map recordWords fs) list ≡ list
-unfolding entriesOver
-none-over fs list e = ap (λ (l : List FaultRecord). over (join (take (length list / 3) (map recordWords l))) list) e ∙ ap (λ (l : List (List ℕ)). over (join l) list) (take-nil (length list / 3))
-  where
-    take-nil : (n : ℕ) → take {A = List ℕ} n [] ≡ []
-    take-nil zero = refl
-    take-nil (suc n) = refl
-
 -- where none is counted there is none
 no-items : (fs : List FaultRecord) (m : ℕ) → m ≡ length fs → m ≤ 0 → fs ≡ []
 no-items [] m e h = refl
 no-items (f ∷ fs) m e h = absurd (omega arith)
 
--- a fault list that is as it was
-pub same-list : (v : Answer (List ℕ)) (lent lent′ list list′ : List ℕ) (a : RewriteAnswer) → list′ ≡ list → RewriteInWords v lent list′ lent′ list′ a → RewriteInWords v lent list lent′ list′ a
-same-list v lent lent′ list list′ a e g = record { answer = g .answer; bytes = g .bytes; faults = g .faults ∙ ap (faultWordsAfter v) e }
-
 -- no clock is too deep: each node has its clocks, and each faulty one's first fault is recorded
-pub none-deep : (r : Input) (w : NodesWalked) (list list′ : List ℕ) (m : ℕ) → Walks r list list′ w → w ≡ NodesWalked.Faulty m → (ns : List ClockedNode) × (clockings 0 (r .sheet .nodes) ≡ accepted ns) × Recorded list (firstFaultsFrom r 0 ns) m list′
+pub none-deep : (r : Input) (w : NodesWalked) (list list′ : List ℕ) (m : ℕ) (p : Progress) → Walks r list list′ w → w ≡ NodesWalked.Faulty m p → (ns : List ClockedNode) × (clockings 0 (r .sheet .nodes) ≡ accepted ns) × Recorded list (firstFaultsFrom r 0 ns) m list′
 unfolding Walks
-none-deep r w list list′ m h e = rw e at h
+none-deep r w list list′ m p h e = rw e at h
 
--- where none is counted there is none, and the list is as it was
-pub none-recorded : (r : Input) (w : NodesWalked) (list list′ : List ℕ) (m : ℕ) → Walks r list list′ w → w ≡ NodesWalked.Faulty m → m ≤ 0 → (ns : List ClockedNode) × (clockings 0 (r .sheet .nodes) ≡ accepted ns) × (firstFaultsFrom r 0 ns ≡ []) × (list′ ≡ list)
-none-recorded r w list list′ m h e z =
-    let n = none-deep r w list list′ m h e in
-    let x = no-items (firstFaultsFrom r 0 (n .0)) m (n .2 .counted) z in
-    (n .0, n .1, x, n .2 .written ∙ none-over (firstFaultsFrom r 0 (n .0)) list x)
+-- where none is counted there is none
+pub none-recorded : (r : Input) (w : NodesWalked) (list list′ : List ℕ) (m : ℕ) (p : Progress) → Walks r list list′ w → w ≡ NodesWalked.Faulty m p → m ≤ 0 → (ns : List ClockedNode) × (clockings 0 (r .sheet .nodes) ≡ accepted ns) × (firstFaultsFrom r 0 ns ≡ [])
+none-recorded r w list list′ m p h e z =
+    let n = none-deep r w list list′ m p h e in
+    (n .0, n .1, no-items (firstFaultsFrom r 0 (n .0)) m (n .2 .counted) z)
 
--- the clocks of an only node, by the same number of names
-pub sole-named : {env : List ℕ} {m n : ℕ} {nodes : List Node} → m ≡ n → Sole env m nodes → Sole env n nodes
-sole-named {env} {nodes} e s = subst (λ (i : ℕ). Sole env i nodes) e s
+-- the input's names, copied
+pub names-copied : {lens text : List ℕ} {c : Counts} {names all : List Letters} → names ≡ all → NamesHeld lens text c all → NamesHeld lens text c names
+names-copied {lens} {text} {c} e h = subst (λ (l : List Letters). NamesHeld lens text c l) (sym e) h
 
 -- a sheet without faults
 pub faultless-read : {given starts letters tags values : List ℕ} {M : ℕ} {bytes : List ℕ} {r : Input} → Read given starts letters tags values M bytes r → (ns : List ClockedNode)
-    → clockings 0 (r .sheet .nodes) ≡ accepted ns → firstFaultsFrom r 0 ns ≡ [] → Faultless starts letters tags values M bytes r ns
-faultless-read h ns clocks none = record {
-  are-bytes = h .are-bytes;
-  read = h .reading;
-  named = h .standing .named;
-  few-names = h .standing .few-names;
-  few-tokens = h .standing .few-tokens;
-  tree = h .standing .tree;
-  clocked = clocks;
-  faultless = none;
-}
+    → clockings 0 (r .sheet .nodes) ≡ accepted ns → firstFaultsFrom r 0 ns ≡ [] → Faultless starts letters bytes r ns
+faultless-read h ns clocks none = record { are-bytes = h .are-bytes; read = h .reading; named = h .standing .named; clocked = clocks; faultless = none }
 
 module _ (bytes : List ℕ) (r : Input) (reading : input bytes ≡ accepted r) (lent list : List ℕ) where
   -- 9
-  pub deep-given : (w : NodesWalked) (i : ℕ) (list′ : List ℕ) → Walks r list list′ w → w ≡ NodesWalked.Deep i → ((k : ℕ) → w ≡ NodesWalked.Deep k → list′ ≡ list)
-      → RewriteInWords (rewriteAnswer bytes (length lent)) lent list lent list′ (RewriteAnswer.Refused (Refusal.Deep i))
+  pub deep-given : (w : NodesWalked) (i : ℕ) (first kept : List ℕ) → Walks r first kept w → w ≡ NodesWalked.Deep i → RewriteInWords (rewriteAnswer bytes (length lent)) lent list lent list (RewriteAnswer.Refused (Refusal.Deep i))
   unfolding Walks
-  deep-given w i list′ h e kept =
+  deep-given w i first kept h e =
       let x : clockings 0 (r .sheet .nodes) ≡ refused (Refusal.Deep i) = rw e at h in
-      let f = kept i e in
-      rw f (given-refused (rewriteAnswer bytes (length lent)) lent list (Refusal.Deep i) (rewrite-deep bytes (length lent) r reading (Refusal.Deep i) x))
+      given-refused (rewriteAnswer bytes (length lent)) lent list (Refusal.Deep i) (rewrite-deep bytes (length lent) r reading (Refusal.Deep i) x)
 
   module _ (ns : List ClockedNode) (clocks : clockings 0 (r .sheet .nodes) ≡ accepted ns) where
     -- 10

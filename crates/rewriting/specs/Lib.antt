@@ -1,2 +1,3 @@
--- What rewriting a sheet answers.
+-- What walking over a sheet's nodes leaves, and what rewriting a sheet answers.
+pub mod Walk
 pub mod Given

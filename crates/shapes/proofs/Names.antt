@@ -53,7 +53,7 @@ module _ (names : List Letters) (sheet : Sheet) where
       go true (stopped f) = goes-self all
       go true (done es s) = goes-of all (n .node) s
 
-  goes-output : (all : List Letters) (ns : List ClockedNode) → Goes all (outputNames names sheet all ns)
+  pub goes-output : (all : List Letters) (ns : List ClockedNode) → Goes all (outputNames names sheet all ns)
   unfolding outputNames
   goes-output all [] = goes-self all
   goes-output all (n ∷ ns) = goes-trans all (withNewNames names sheet all n) (outputNames names sheet (withNewNames names sheet all n) ns) (goes-with all n) (goes-output (withNewNames names sheet all n) ns)

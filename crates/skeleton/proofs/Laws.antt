@@ -233,10 +233,6 @@ module _ {gs vs : List ℕ} {S : Clock → Expr → ℕ → ℕ → Type 0} {c :
   calls-in (Seen.sample x a i lo hi d) t = absurd (omega arith)
   calls-in (Seen.join x a b r i u k d f) t = absurd (omega arith)
 
-  pub calls-out : (f : ℕ) (us : Exprs) (ds : Frame) → e ≡ Expr.call f us → getD gs p 0 ≡ 60 → codeAt gs vs p ≡ tagValue 60 f → Framed gs vs e us p ds → Lies gs vs S c us ds (p + 1) 1 q → Seen gs vs S c e p q
-  unfolding follows
-  calls-out f us ds i t k g d = Seen.calls f us ds i t k g (subst (λ (n : ℕ). Lies gs vs S c us ds (p + 1) n q) (sym (parts-of gs vs p 60 f 1 k refl)) d)
-
   pub plain-in : Seen gs vs S c e p q → (getD gs p 0 ≡ 58 → ⊥) → (getD gs p 0 ≡ 59 → ⊥) → (getD gs p 0 ≡ 60 → ⊥) → (getD gs p 0 ≡ 67 → ⊥) → (getD gs p 0 ≡ 68 → ⊥) → (getD gs p 0 ≡ 69 → ⊥) → (us : Exprs) × (ds : Frame) × Formed gs vs e us p ds × Lies gs vs S c us ds (p + 1) (partsAt gs vs p) q
   plain-in (Seen.computed us ds f d) a b g h i j = (us, ds, f, d)
   plain-in (Seen.previous x k u m d) a b g h i j = absurd (a u)

@@ -34,10 +34,9 @@ use Rattle.extents.proofs.Tags.{of-expr, of-type, mark-of, expr-tags, type-tags
 use Rattle.operands.specs.Spread.{tree}
 use Rattle.operands.proofs.Deeper.{expr-deeper}
 use Rattle.needs.specs.Need.{isBare}
-use Rattle.copying.specs.Copied.{around}
-use Rattle.copying.proofs.Codes.{type-decoded, expr-decoded}
-use Rattle.copying.proofs.Weaving.{codes-append, codes-join}
+use Rattle.skeleton.specs.Around.{around}
 use Rattle.skeleton.specs.Lies.{Frame, weave, isPlain, Computes, Lies, LiesAt}
+use Rattle.skeleton.proofs.Codes.{codes-append, codes-join, type-decoded, expr-decoded}
 
 -- ---- frames
 holes : ℕ → Frame → Frame

@@ -17,7 +17,7 @@ use Rattle.shapes.specs.Shape.{many}
 use Rattle.extents.specs.Owed.{follows}
 use Rattle.operands.specs.Role.{one}
 use Rattle.needs.specs.Need.{isBare}
-use Rattle.copying.specs.Copied.{around}
+use Rattle.skeleton.specs.Around.{around}
 
 -- what stands between expressions: a token that stays as it is, or the place of an expression
 abbrev pub Frame : Type 0
@@ -46,12 +46,6 @@ pub data Computes : Expr → Exprs → Type 0 where
 
 -- the two arrays
 module _ (gs vs : List ℕ) where
-  abbrev pub tagAt : ℕ → ℕ
-  tagAt p = getD gs p 0
-
-  abbrev pub valueAt : ℕ → ℕ
-  valueAt p = getD vs p 0
-
   abbrev pub codeAt : ℕ → TagValue
   codeAt p = tagValue (getD gs p 0) (getD vs p 0)
 

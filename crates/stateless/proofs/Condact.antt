@@ -1,5 +1,5 @@
 -- The id of `condact` may differ between the input's names and the output's: no fault and no need depends on it, as every id of the input is
--- of `condact` in both or in neither. `same-condact`, `sheet-fault`, `sheet-needs`.
+-- of `condact` in both or in neither. `same-condact`, `sheet-fault`.
 use Prim.Native.Nat.{ℕ, zero, suc, _<_}
 use mathlib.Core.Path.{_≡_, refl, sym, ap, _∙_, subst}
 use mathlib.Core.List.{List, [], _∷_, _++_, List·Memᴰ, List·Memᴰ·head, List·Memᴰ·tail}
@@ -51,13 +51,13 @@ same-condact names all g f h = subst (λ (z : List Letters). eqb f (condactId z)
 
 module _ (types : List TypeDef) (nodes : List Node) (node : Node) (N k k′ : ℕ) (same : (f : ℕ) → f < N → eqb f k ≡ eqb f k′) where
   -- what an expression is after rewriting under either id: it calls a node with an id below N, or each its `condact`
-  data Alike : Shape → Shape → Type 0 where
+  pub data Alike : Shape → Shape → Type 0 where
     both-bare : Alike bare bare
     both-other : Alike other other
     both-call : {f : ℕ} → f < N → Alike (calls f) (calls f)
     both-gate : Alike (calls k) (calls k′)
 
-  shape-alike : (e : Expr) (c : Clock) → Shaped N e → Alike (shapeAfter types nodes node k c e) (shapeAfter types nodes node k′ c e)
+  pub shape-alike : (e : Expr) (c : Clock) → Shaped N e → Alike (shapeAfter types nodes node k c e) (shapeAfter types nodes node k′ c e)
   unfolding shapeAfter Shaped
   shape-alike (Expr.const l w) c h = both-other
   shape-alike (Expr.var x) c h = both-bare
@@ -72,7 +72,7 @@ module _ (types : List TypeDef) (nodes : List Node) (node : Node) (N k k′ : �
   shape-alike (Expr.when j e) c h = shape-alike e (parent c) (h .0)
   shape-alike (Expr.merge x a b) c h = both-other
 
-  itself : eqb k k ≡ eqb k′ k′
+  pub itself : eqb k k ≡ eqb k′ k′
   itself = of-T (eqb k k) (eqb-refl k) ∙ sym (of-T (eqb k′ k′) (eqb-refl k′))
 
   -- faults
@@ -145,13 +145,8 @@ nodes-below bytes h r e ns f = is-accepted (clockings 0 (r .sheet .nodes)) ns f 
 
 module _ (bytes : List ℕ) (are-bytes : Bytes bytes) (r : Input) (reading : input bytes ≡ accepted r) (ns : List ClockedNode) (clocks : clockings 0 (r .sheet .nodes) ≡ accepted ns)
     (n : ClockedNode) (member : List·Memᴰ n ns) where
-  -- a node's fault and needs are the same under the input's names and under the output's
+  -- a node's fault is the same under the input's names and under the output's
   pub sheet-fault : faultOf (r .sheet) (namesOut (r .names) (r .sheet) ns) n ≡ faultOf (r .sheet) (r .names) n
   sheet-fault =
       same-fault (r .sheet .types) (r .sheet .nodes) (n .node) (length (r .names)) _ _ (same-condact (r .names) _ (goes-out (r .names) (r .sheet) ns))
       0 (n .clocking .equations) (nodes-below bytes are-bytes r reading ns clocks n member)
-
-  pub sheet-needs : needsOfNode (r .sheet) (namesOut (r .names) (r .sheet) ns) n ≡ needsOfNode (r .sheet) (r .names) n
-  sheet-needs =
-      same-needs (r .sheet .types) (r .sheet .nodes) (n .node) (length (r .names)) _ _ (same-condact (r .names) _ (goes-out (r .names) (r .sheet) ns))
-      (n .clocking .equations) noNeeds (nodes-below bytes are-bytes r reading ns clocks n member)

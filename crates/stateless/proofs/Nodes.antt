@@ -1,7 +1,6 @@
--- A sheet's nodes one by one: each has its clocks (`clockings-form`, `node-here`, `node-read`), where no clock fault is found no clock is too
--- deep (`all-within`), its faults are its clock faults, else the one that rewriting stops at (`node-faults`, `no-faults`). For loops over
--- nodes, names of the output from node i on (`names-left`), and faults, names and tokens of the output up to it (`..-front`).
-use Prim.Native.Nat.{ℕ, zero, suc, _+_, _-_, _≤_, _<_}
+-- A sheet's nodes one by one: each has its clocks (`clockings-form`, `node-here`), its faults are its clock faults, else the one that rewriting
+-- stops at (`node-faults`, `no-faults`). For loops over nodes, faults, names and tokens of the output up to node i (`..-front`).
+use Prim.Native.Nat.{ℕ, zero, suc, _+_, _≤_, _<_}
 use mathlib.Core.Path.{_≡_, refl, sym, ap, ap₂, _∙_, subst}
 use mathlib.Core.List.{List, [], _∷_, _++_, map, append-assoc, append-nil, cons≢nil, List·Memᴰ, List·Memᴰ·head, List·Memᴰ·tail}
 use mathlib.Core.Bool.{Bool, true, false, _&&_, false≢true}
@@ -9,28 +8,23 @@ use mathlib.Core.Option.{Option, none, some, Option·some-injective, Option·non
 use native.Mathlib.Omega.{arith}
 use native.Mathlib.Numerals.{add-one}
 use lib.Dec.{leb}
-use lib.ListN.{length, take, drop, getElem?, drop-of-length-le, length-map}
+use lib.ListN.{length, take, drop, getElem?, length-map}
 use lib.Seq.{length-take-le, take-all}
 use borrow.Author.Tests.{lt-leb}
 use Rattle.definitions.specs.declared.Refusal.{Refusal}
 use Rattle.definitions.specs.declared.FaultRecord.{FaultRecord}
 use Rattle.definitions.specs.declared.Token.{Token}
 use Rattle.definitions.specs.Lists.{choose, any, all, join, numbered, Letters}
-use Rattle.definitions.specs.Tokens.{TagValue}
 use Rattle.definitions.specs.Tree.{Node, Sheet}
-use Rattle.definitions.specs.Reading.{got, times}
 use Rattle.definitions.specs.Grammar.{node}
-use Rattle.definitions.specs.InferClocks.{Formed, deep, formed, _>>=_, Clocks, Inferred, inferred, Finding, NodeFault, Clocked, Clocking, clockedBy, checkLeft, check, checkEquation, isTooDeep, clocking, clockFaults, usesClocks}
+use Rattle.definitions.specs.InferClocks.{Formed, deep, formed, _>>=_, Inferred, inferred, Finding, NodeFault, Clocked, Clocking, clockedBy, checkEquation, isTooDeep, clocking, clockFaults, usesClocks}
 use Rattle.definitions.specs.Refusals as answers
 use Rattle.definitions.specs.Refusals.{Answer, accepted, refused}
 use Rattle.definitions.specs.Output.{ClockedNode, rewritten, stoppedAt, nodeFaults, withNewNames, outputNames, outputNode, namesOut, sheetOut, definitionTokens, nodeTokens, sheetTokens, withinLimits}
 use Rattle.definitions.specs.Answer.{Input, clockings, firstOf, firstFaults}
-use Rattle.shapes.proofs.Facts.{All, all-nil, all-cons, and-left, and-right}
+use Rattle.shapes.proofs.Facts.{All, all-nil, all-cons}
 use Rattle.shapes.proofs.Accepts.{Accepts, accepts, no-refused, accepts-after, is-accepted}
-use Rattle.grammar.proofs.Got.{times-cons}
-use Rattle.needs.specs.Need.{within}
-use Rattle.needs.proofs.Checked.{isSite, only-sites, sites-within}
-use Rattle.stateless.specs.Sheets.{Formings, NodeHere, withinAll, oneOf, faultsBy, firstFaultsFrom, headTokens, outputTokens}
+use Rattle.stateless.specs.Sheets.{Formings, NodeHere, oneOf, faultsBy, firstFaultsFrom, headTokens, outputTokens}
 use Rattle.stateless.proofs.Stops.{faultOf, stopped-at}
 
 -- ---- each node has its clocks
@@ -57,19 +51,19 @@ clockings-form i nodes ns e = is-accepted (clockings i nodes) ns e (clockings-ac
 
 -- ---- the nodes from node i on
 here-from : (nodes : List Node) (ns : List ClockedNode) (i : ℕ) → map (λ n. n .node) ns ≡ nodes → i < length ns
-    → (n : ClockedNode) × (getElem? nodes i ≡ some (n .node)) × (getElem? ns i ≡ some n) × (drop i nodes ≡ n .node ∷ drop (suc i) nodes) × (drop i ns ≡ n ∷ drop (suc i) ns) × List·Memᴰ n ns
+    → (n : ClockedNode) × (getElem? nodes i ≡ some (n .node)) × (getElem? ns i ≡ some n) × (drop i ns ≡ n ∷ drop (suc i) ns) × List·Memᴰ n ns
 here-from nodes [] i e h = absurd (omega arith)
-here-from nodes (n ∷ ns) zero e h = (n, ap (λ (l : List Node). getElem? l 0) (sym e), refl, sym e ∙ ap (λ (l : List Node). n .node ∷ drop 1 l) e, refl, List·Memᴰ·head refl)
+here-from nodes (n ∷ ns) zero e h = (n, ap (λ (l : List Node). getElem? l 0) (sym e), refl, refl, List·Memᴰ·head refl)
 here-from nodes (n ∷ ns) (suc i) e h =
     let r = here-from (map (λ n. n .node) ns) ns i refl (omega arith) in
-    (r .0, ap (λ (l : List Node). getElem? l (suc i)) (sym e) ∙ r .1, r .2, ap (drop (suc i)) (sym e) ∙ (r .3 ∙ ap (λ (l : List Node). r .0 .node ∷ drop (suc (suc i)) l) e), r .4, List·Memᴰ·tail (r .5))
+    (r .0, ap (λ (l : List Node). getElem? l (suc i)) (sym e) ∙ r .1, r .2, r .3, List·Memᴰ·tail (r .4))
 
 front-more : {A : Type 0} (l : List A) (i : ℕ) (a : A) → getElem? l i ≡ some a → take (suc i) l ≡ take i l ++ (a ∷ [])
 front-more [] i a e = absurd (Option·none-ne-some a e)
 front-more (b ∷ l) zero a e = ap (λ x. x ∷ []) (Option·some-injective b a e)
 front-more (b ∷ l) (suc i) a e = ap (λ (r : List _). b ∷ r) (front-more l i a e)
 
--- THE LAW: node i, the nodes left and the nodes left behind it
+-- THE LAW: node i, and the nodes left from it on
 pub node-here : {nodes : List Node} {ns : List ClockedNode} → Formings nodes ns → (i : ℕ) → i < length nodes → NodeHere nodes ns i
 node-here {nodes} {ns} h i l =
     let r = here-from nodes ns i (h .same-nodes) (omega (arith, h .same-length, l)) in
@@ -78,39 +72,16 @@ node-here {nodes} {ns} h i l =
       clocked = r .0;
       node-here = r .1;
       here = r .2;
-      nodes-left = r .3 ∙ ap (λ (j : ℕ). r .0 .node ∷ drop j nodes) (sym s);
-      left = r .4 ∙ ap (λ (j : ℕ). r .0 ∷ drop j ns) (sym s);
-      forms = h .each (r .0) (r .5);
+      left = r .3 ∙ ap (λ (j : ℕ). r .0 ∷ drop j ns) (sym s);
+      forms = h .each (r .0) (r .4);
       front = ap (λ (j : ℕ). take j ns) s ∙ front-more ns i (r .0) (r .2);
       before = length-take-le i ns (omega (arith, h .same-length, l));
-      member = r .5;
+      member = r .4;
     }
 
--- behind the last node none is left
-pub none-left : {nodes : List Node} {ns : List ClockedNode} → Formings nodes ns → (i : ℕ) → length nodes ≤ i → drop i ns ≡ []
-none-left {nodes} {ns} h i l = drop-of-length-le ns {i = i} (omega (arith, h .same-length, l))
-
--- and all are before
+-- all nodes are before the end
 pub all-before : {nodes : List Node} {ns : List ClockedNode} → Formings nodes ns → (i : ℕ) → length nodes ≤ i → take i ns ≡ ns
 all-before {nodes} {ns} h i l = take-all i ns (omega (arith, h .same-length, l))
-
-cons-eq : {A : Type 0} {a b : A} {l m : List A} → a ∷ l ≡ b ∷ m → (a ≡ b) × (l ≡ m)
-cons-eq e = (cc, cc)
-
--- a walk over tokens: the nodes left stand there, from node i on
-pub nodes-start : (M : ℕ) (ts : List TagValue) (count at q : ℕ) (nodes : List Node) → times count (node M) ts at ≡ got nodes q → times (count - 0) (node M) ts at ≡ got (drop 0 nodes) q
-nodes-start M ts count at q nodes g = let k : count - 0 ≡ count = omega arith in rw k g
-
-module _ (M : ℕ) (ts : List TagValue) (count i place q : ℕ) {nodes : List Node} {ns : List ClockedNode} (few : i < count) (all-read : count ≡ length nodes) (h : Formings nodes ns)
-    (items : times (count - i) (node M) ts place ≡ got (drop i nodes) q) where
-  -- node i stands at this place, and the nodes left behind it where it ends
-  pub node-read : (u : NodeHere nodes ns i) × (p : ℕ) × (node M ts place ≡ got (u .clocked .node) p) × (times (count - (i + 1)) (node M) ts p ≡ got (drop (i + 1) nodes) q)
-  node-read =
-      let u = node-here h i (omega (arith, few, all-read)) in
-      let c = times-cons (node M) ts (count - i) place (drop i nodes) q (λ y. omega (arith, few, y)) items in
-      let d : c .0 ∷ c .2 ≡ u .clocked .node ∷ drop (i + 1) nodes = sym (c .5) ∙ u .nodes-left in
-      let k : count - (i + 1) ≡ count - i - 1 = omega arith in
-      (u, c .1, c .3 ∙ ap (λ (n : Node). got n (c .1)) (cons-eq d .0), rw k (c .4 ∙ ap (λ (l : List Node). got l q) (cons-eq d .1)))
 
 -- ---- what is found in a node
 not-deep : {A : Type 0} {B : Type 0} (a : A) → deep ≡ formed a → B
@@ -166,45 +137,6 @@ node-checks n k q =
 -- the equations with their clocks
 pub clocked : (n : Node) (k : Clocking) → clocking n ≡ formed k → clockedBy (k .names) (n .equations) ≡ formed (k .equations)
 clocked n k e = node-checks n k e .equations
-
--- ---- where no clock fault is found, no clock is too deep
-all-split : {A : Type 0} (p : A → Bool) (a b : List A) → all p (a ++ b) ≡ true → (all p a ≡ true) × (all p b ≡ true)
-all-split p [] b h = (refl, h)
-all-split p (x ∷ a) b h =
-    let r = all-split p a b (and-right (p x) (all p (a ++ b)) h) in
-    (both (p x) (all p a) (and-left (p x) (all p (a ++ b)) h) (r .0), r .1)
-  where
-    both : (u v : Bool) → u ≡ true → v ≡ true → u && v ≡ true
-    both u v e f = rw (e, f)
-
-module _ (n : Node) (clocks : Clocks) where
-  equations-within : (i : ℕ) (es : List Clocked) → all isSite (join (numbered (checkEquation n clocks) i es)) ≡ true → withinAll es ≡ true
-  unfolding withinAll checkEquation
-  equations-within i [] h = refl
-  equations-within i (e ∷ es) h =
-      let a = all-split isSite (checkEquation n clocks i e) (join (numbered (checkEquation n clocks) (suc i) es)) h in
-      let b = all-split isSite (checkLeft clocks i n (e .clock) (e .equation .left)) (check clocks i (e .clock) (e .equation .right)) (a .0) in
-      let u = sites-within clocks i (e .equation .right) (e .clock) (b .1) in
-      let v = equations-within (suc i) es (a .1) in
-      rw (u, v)
-
--- THE LAW
-pub all-within : (n : Node) (k : Clocking) → clocking n ≡ formed k → clockFaults (k .findings) ≡ [] → withinAll (k .equations) ≡ true
-all-within n k e f =
-    let c = node-checks n k e in
-    equations-within n (k .names) 0 (k .equations) (ap (all isSite) (sym (c .findings)) ∙ only-sites (k .findings) (c .shallow) f)
-
-pub within-head : (e : Clocked) (es : List Clocked) → withinAll (e ∷ es) ≡ true → within (e .clock) (e .equation .right) ≡ true
-unfolding withinAll
-within-head e es h = and-left _ (withinAll es) h
-
-pub within-tail : (e : Clocked) (es : List Clocked) → withinAll (e ∷ es) ≡ true → withinAll es ≡ true
-unfolding withinAll
-within-tail e es h = and-right (within (e .clock) (e .equation .right)) _ h
-
-pub within-each : (es : List Clocked) → withinAll es ≡ true → All (λ e. within (e .clock) (e .equation .right) ≡ true) es
-within-each [] h = all-nil _
-within-each (e ∷ es) h = all-cons _ e es (within-head e es h) (within-each es (within-tail e es h))
 
 -- ---- a node's faults
 module _ (names : List Letters) (sheet : Sheet) (n : ClockedNode) where
@@ -299,11 +231,7 @@ module _ (names : List Letters) (sheet : Sheet) where
   unfolding outputNames
   names-end all = refl
 
-  pub names-step : (all : List Letters) (n : ClockedNode) (rest : List ClockedNode) → outputNames names sheet all (n ∷ rest) ≡ outputNames names sheet (withNewNames names sheet all n) rest
-  unfolding outputNames
-  names-step all n rest = refl
-
-  names-append : (all : List Letters) (l m : List ClockedNode) → outputNames names sheet all (l ++ m) ≡ outputNames names sheet (outputNames names sheet all l) m
+  pub names-append : (all : List Letters) (l m : List ClockedNode) → outputNames names sheet all (l ++ m) ≡ outputNames names sheet (outputNames names sheet all l) m
   unfolding outputNames
   names-append all [] m = refl
   names-append all (n ∷ l) m = names-append (withNewNames names sheet all n) l m
@@ -314,9 +242,6 @@ module _ (names : List Letters) (sheet : Sheet) where
   names-same all n f = rw f
 
   module _ {nodes : List Node} {ns : List ClockedNode} {i : ℕ} (u : NodeHere nodes ns i) (all : List Letters) where
-    pub names-left : outputNames names sheet all (drop i ns) ≡ outputNames names sheet (withNewNames names sheet all (u .clocked)) (drop (i + 1) ns)
-    names-left = ap (outputNames names sheet all) (u .left) ∙ names-step all (u .clocked) (drop (i + 1) ns)
-
     pub names-front : outputNames names sheet all (take (i + 1) ns) ≡ withNewNames names sheet (outputNames names sheet all (take i ns)) (u .clocked)
     unfolding outputNames
     names-front = ap (outputNames names sheet all) (u .front) ∙ names-append all (take i ns) (u .clocked ∷ [])
@@ -349,18 +274,6 @@ module _ (names : List Letters) (sheet : Sheet) where
 
 -- ---- the limits of an output
 module _ (names : List Letters) (out : Sheet) where
-  pub many-names : 1024 < length names → withinLimits names out ≡ false
-  unfolding withinLimits
-  many-names h = rw (lt-leb (length names) 1024 h)
-
-  pub many-letters : 16384 < length (join names) → withinLimits names out ≡ false
-  unfolding withinLimits
-  many-letters h = rw (lt-leb (length (join names)) 16384 h) (and-none (leb (length names) 1024) (leb (length (sheetTokens out)) 8192))
-    where
-      and-none : (a b : Bool) → a && false && b ≡ false
-      and-none true b = refl
-      and-none false b = refl
-
   pub many-tokens : 8192 < length (sheetTokens out) → withinLimits names out ≡ false
   unfolding withinLimits
   many-tokens h = rw (lt-leb (length (sheetTokens out)) 8192 h) (and-none (leb (length names) 1024) (leb (length (join names)) 16384))

@@ -1,9 +1,9 @@
 -- Rewriting stops at the first fault that it meets, whatever was needed before and whatever ids new names have: `rewrite-outcome`, `stopped-at`.
 use Prim.Native.Nat.{ℕ, suc}
-use mathlib.Core.Path.{_≡_, refl, sym, ap, subst}
+use mathlib.Core.Path.{_≡_, refl, sym, subst}
 use mathlib.Core.List.{List, [], _∷_}
 use mathlib.Core.Bool.{Bool, true, false}
-use mathlib.Core.Option.{Option, none, some, Option·some-injective, Option·none-ne-some}
+use mathlib.Core.Option.{Option, none, some, Option·none-ne-some}
 use lib.Dec.{eqb}
 use Rattle.definitions.specs.Lists.{choose, orElse, Letters}
 use Rattle.definitions.specs.Tree.{Ty, Declared, TypeDef, Expr, Exprs, Equation, Node, Sheet}
@@ -36,11 +36,7 @@ module _ {F A : Type 0} {at : F → NodeFault} {Q : A → Type 0} where
   meets-map f stops h = stops
   meets-map f (ends {a} {s} q) h = h a s q
 
-  -- what it says of each
-  pub meets-fault : {o : Option F} {r : Rewritten A} → Meets at Q o r → (f : F) → o ≡ some f → r ≡ stopped (at f)
-  meets-fault (stops {f = g}) f e = ap (λ (z : F). stopped (at z)) (Option·some-injective g f e)
-  meets-fault (ends q) f e = absurd (Option·none-ne-some f e)
-
+  -- where there is no fault, it ends
   pub meets-none : {o : Option F} {r : Rewritten A} → Meets at Q o r → o ≡ none → (a : A) × (s : State) × (r ≡ done a s) × Q a
   meets-none (stops {f}) e = absurd (Option·none-ne-some f (sym e))
   meets-none (ends {a} {s} q) e = (a, s, refl, q)

@@ -2,18 +2,17 @@
 use Prim.Native.Nat.{ℕ, _+_}
 use mathlib.Core.Path.{_≡_}
 use mathlib.Core.List.{List, [], _∷_, _++_, map, List·Memᴰ}
-use mathlib.Core.Bool.{Bool, true, false, _&&_}
+use mathlib.Core.Bool.{Bool, true, false}
 use mathlib.Core.Option.{Option, none, some}
 use lib.ListN.{length, take, drop, getElem?}
 use Rattle.definitions.specs.declared.FaultRecord.{FaultRecord}
 use Rattle.definitions.specs.declared.Token.{Token}
 use Rattle.definitions.specs.Lists.{join, numbered, Letters}
 use Rattle.definitions.specs.Tree.{TypeDef, Node, Sheet}
-use Rattle.definitions.specs.InferClocks.{formed, NodeFault, Clocked, clocking}
+use Rattle.definitions.specs.InferClocks.{formed, NodeFault, clocking}
 use Rattle.definitions.specs.Output.{ClockedNode, definitionTokens, nodeTokens, nodeFaults, outputNode}
 use Rattle.definitions.specs.Answer.{Input, firstOf}
 use Rattle.shapes.specs.Shape.{All}
-use Rattle.needs.specs.Need.{within}
 
 -- each node with its clocks, in order
 pub record Formings (nodes : List Node) (ns : List ClockedNode) : Type 0 where
@@ -26,18 +25,11 @@ pub record NodeHere (nodes : List Node) (ns : List ClockedNode) (i : ℕ) : Type
   pub clocked : ClockedNode
   pub node-here : getElem? nodes i ≡ some (clocked .node)
   pub here : getElem? ns i ≡ some clocked
-  pub nodes-left : drop i nodes ≡ clocked .node ∷ drop (i + 1) nodes
   pub left : drop i ns ≡ clocked ∷ drop (i + 1) ns
   pub front : take (i + 1) ns ≡ take i ns ++ (clocked ∷ [])
   pub before : length (take i ns) ≡ i
   pub forms : clocking (clocked .node) ≡ formed (clocked .clocking)
   pub member : List·Memᴰ clocked ns
-
--- no clock below a right side has more than eight conditions
-unfoldable pub withinAll : List Clocked → Bool
-unfolding within
-withinAll [] = true
-withinAll (e ∷ es) = within (e .clock) (e .equation .right) && withinAll es
 
 -- none or one
 abbrev pub oneOf : Option NodeFault → List NodeFault

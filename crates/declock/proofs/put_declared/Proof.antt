@@ -1,15 +1,14 @@
--- `declock::put_declared` meets its contract: one part after the other. Assumes nothing.
-use mathlib.Core.Path.{refl}
-use Rattle.declock.proofs.Written.{flags-tabled, firsts-tabled, ready-front}
-use denote.Ref.{now}
+-- `declock::put_declared` meets its contract: one part after the other.
+-- Assumes nothing.
+use Rattle.declock.proofs.Written.{flags-tabled, firsts-tabled, hold-ids, ready-holds, held-many, ready-front}
 use borrow.Author.Needs.{needs}
 use Rattle.declock.proofs.put_declared.Statement.{statement}
 use Rattle.declock.proofs.put_declared.Tie as tie
 use Rattle.declock.proofs.put_declared.Reads as reads
 use Rattle.declock.proofs.put_declared.Lts as lts
 use Rattle.declock.proofs.count_of.Reads as count-of-reads
-use Rattle.declock.proofs.put_holds.Reads as put-holds-reads
 use Rattle.flags.proofs.put_declarations.Reads as put-declarations-reads
+use Rattle.holds.proofs.put_hold_declarations.Reads as put-hold-declarations-reads
 use Rattle.node_parts.proofs.put_front.Reads as put-front-reads
 use Rattle.node_parts.proofs.put_locals.Reads as put-locals-reads
 
@@ -28,14 +27,11 @@ put-declarations-requires c κs = search needs
 put-declarations-requires-2 : tie.Need-put-declarations-requires-2
 put-declarations-requires-2 c κs = search needs
 
-put-holds-requires : tie.Need-put-holds-requires
-put-holds-requires c κs = c .before .before .before .before .before .before .before .before .before .before .before .before .before .before .before .before .before .before .before .before .before .before .before .before .before .pre
+put-hold-declarations-requires : tie.Need-put-hold-declarations-requires
+put-hold-declarations-requires c κs = c .before .before .before .before .before .before .before .before .before .before .before .before .before .before .before .before .before .before .before .before .before .before .before .before .before .before .pre
 
 returns : tie.Need-returns
-returns c = let a = c .before .before .before .before .before .before .before .before .before .before .before .before .before .before .before .before .before .before .before .before .before .before .before .before .before .before .args in
-    λ names h ids q. ready-front names h (now (a .flag-ids)) (now (a .first-ids)) (now (a .hold-ids)) ids q _ (c .before .before .before .before .before .before .before .before .before .before .before .before .before .before .before .count-of .ensures) (c .before .before .before .before .before .before .before .before .before .before .before .before .put-front .ensures _ _ _ (h .grounds .laid)) (c .before .before .before .before .before .before .before .before .before .put-locals .ensures _ _ _ (h .grounds .laid))
-    (c .before .before .before .before .before .before .put-declarations .ensures .0 ids (flags-tabled names h (now (a .flag-ids)) (now (a .first-ids)) (now (a .hold-ids)) ids q)) (c .before .before .before .put-declarations2 .ensures .1 ids (firsts-tabled names h (now (a .flag-ids)) (now (a .first-ids)) (now (a .hold-ids)) ids q))
-    (c .put-holds .ensures names _ _ h ids q refl)
+returns c = λ names places typePlaces plan h ids q. ready-front names h ids q _ (c .before .before .before .before .before .before .before .before .before .before .before .before .before .before .before .count-of .ensures) (c .before .before .before .before .before .before .before .before .before .before .before .before .put-front .ensures _ _ _ (h .grounds .laid)) (c .before .before .before .before .before .before .before .before .before .put-locals .ensures _ _ _ (h .grounds .laid)) (c .before .before .before .before .before .before .put-declarations .ensures .0 ids (flags-tabled names h ids q)) (c .before .before .before .put-declarations2 .ensures .1 ids (firsts-tabled names h ids q)) (c .put-hold-declarations .ensures (h .writer) plan _ ids (held-many names h ids q) (ready-holds names h ids q) (h .grounds .declares) (hold-ids names h ids q))
 
 pub put-declared-spec : {M : Type 1} → statement M
 put-declared-spec =
@@ -46,5 +42,5 @@ put-declared-spec =
     put-locals-requires
     put-declarations-requires
     put-declarations-requires-2
-    put-holds-requires
+    put-hold-declarations-requires
     returns)

@@ -1,51 +1,59 @@
--- `equations::old_equations` meets its contract: those written so far, and those left. The measure is the number left.
+-- `equations::old_equations` meets its contract: one after another.
 -- Assumes nothing.
-use Prim.Native.Nat.{_-_, _≤_}
-use mathlib.Core.Path.{_≡_, refl}
-use mathlib.Core.List.{List}
+use mathlib.Core.Path.{_≡_}
+use mathlib.Core.List.{List, map}
+use mathlib.Core.Option.{none}
+use Prim.Native.Nat.{ℕ}
 use native.Mathlib.Omega.{arith}
-use Rattle.definitions.specs.Bytes.{tokens}
-use Rattle.definitions.specs.InferClocks.{Clocks, Clocked}
-use Rattle.stateless.specs.Yield.{Ids}
-use Rattle.emit.specs.Out.{out}
-use Rattle.openings.specs.Planned.{Grounds, idsOf}
-use Rattle.equations.specs.Old.{FineOld}
-use Rattle.equations.proofs.Old.{Left, left-start, left-step, left-end}
-use borrow.Author.Needs.{needs}
+use lib.ListN.{length}
+use denote.Ref.{now}
+use Rattle.definitions.specs.Lists.{join}
+use Rattle.definitions.specs.InferClocks.{Clocked}
+use Rattle.definitions.specs.Output.{equationTokens}
+use Rattle.stateless.specs.Yield.{Ids, oldYield}
+use Rattle.stateless.specs.Faults.{oldFault}
+use Rattle.emit.specs.Out.{out, emits}
+use Rattle.planned.specs.Writes.{Writer}
+use Rattle.frames.specs.Planned.{EquationsPlanned}
+use Rattle.layout.specs.declared.NodeLayout.{NodeLayout}
+use Rattle.equations.specs.Grounds.{Grounds}
+use Rattle.equations.proofs.Old.{Left, left-all, left-none, left-more}
 use borrow.Author.Needs.{needs}
 use Rattle.equations.proofs.old_equations.Statement.{statement}
 use Rattle.equations.proofs.old_equations.Tie as tie
 use Rattle.equations.proofs.old_equations.Reads as reads
 use Rattle.equations.proofs.old_equations.Lts as lts
 use Rattle.equations.proofs.one_equation.Reads as one-equation-reads
+use Rattle.extents.proofs.parts_table.Reads as parts-table-reads
 
 abbrev Inv-loop : tie.InvT-loop
-Inv-loop tags values places type-places flags firsts flag-ids first-ids hold-ids env otags₀ ovalues₀ k layout mode w n count next₀ holds₀ place₀ i₀ otags ovalues next holds place i =
-    (i ≤ count) × ((g : Grounds tags values places type-places flags firsts k layout) (ids : Ids) (clocks : Clocks) (cs : List Clocked) → ids ≡ idsOf flags firsts flag-ids first-ids hold-ids k → FineOld (g .types) (g .nodes) (g .node) ids env (k .names) clocks n cs → Left (g .types) (g .nodes) (g .node) ids (k .names) (tokens tags values) clocks mode (count - i) place (layout .equations .end) holds (out otags ovalues next) n cs (out otags₀ ovalues₀ w))
+Inv-loop tags values places type-places plan types flag-ids first-ids hold-ids otags₀ ovalues₀ k count at w table left₀ place₀ to₀ otags ovalues left place to =
+    (W : Writer) (ids : Ids) (layout : NodeLayout) (cs : List Clocked) (end : ℕ) → Grounds tags values places type-places types flag-ids first-ids hold-ids k layout W → ids .condact ≡ W .condact → oldFault (W .types) (W .nodes) (W .node) (W .condact) 0 cs ≡ none → length cs ≡ count
+    → EquationsPlanned (k .names) tags values W plan (W .condact) ids 0 cs at end → Left (k .names) tags values W plan ids (emits (out otags₀ ovalues₀ w) (join (map equationTokens (oldYield (W .types) (W .nodes) (W .node) ids 0 cs .value)))) (out otags ovalues to) left place end
 
 abbrev μ-loop : tie.MeasureT-loop
-μ-loop tags values places type-places flags firsts flag-ids first-ids hold-ids env otags₀ ovalues₀ k layout mode w n count next₀ holds₀ place₀ i₀ otags ovalues next holds place i = count - i
+μ-loop tags values places type-places plan types flag-ids first-ids hold-ids otags₀ ovalues₀ k count at w table left₀ place₀ to₀ otags ovalues left place to = left
 
-cast-count : tie.Need-cast-count Inv-loop μ-loop
-cast-count c = search needs
+parts-table-requires : tie.Need-parts-table-requires Inv-loop μ-loop
+parts-table-requires c κs = search needs
 
 loop-holds : tie.Need-loop-holds Inv-loop μ-loop
-loop-holds c = (omega arith, λ g ids clocks cs i f. left-start (g .types) (g .nodes) (g .node) ids _ _ clocks _ _ cs _ _ _ _ (g .node .equations) (g .laid .equations .items) (f .each) (f .within-all) (f .faultless) (f .few) _ (omega arith))
+loop-holds c = λ W ids lay cs end g i free n h. left-all _ (now (c .before .before .before .before .before .before .before .before .args .tags)) (now (c .before .before .before .before .before .before .before .before .args .values)) W (now (c .before .before .before .before .before .before .before .before .args .plan)) ids cs _ _ _ _ free n h
 
 one-equation-requires : tie.Need-one-equation-requires Inv-loop μ-loop
-one-equation-requires c κs = search needs
+one-equation-requires c κs = (c .before .before .before .before .before .before .before .before .before .before .before .before .before .pre .0, (c .before .before .before .before .before .parts-table .ensures, c .before .before .before .before .before .before .before .before .before .before .before .before .before .pre .1))
 
-add-i : tie.Need-add-i Inv-loop μ-loop
-add-i c = search needs
+sub-left : tie.Need-sub-left Inv-loop μ-loop
+sub-left c = search needs
 
 loop-less : tie.Need-loop-less Inv-loop μ-loop
 loop-less c = search needs
 
 loop-again : tie.Need-loop-again Inv-loop μ-loop
-loop-again c = (omega arith, λ g ids clocks cs i f. left-step (g .types) (g .nodes) (g .node) ids _ _ clocks _ _ cs _ _ _ _ _ _ (c .before .before .before .before .loop .inv .1 g ids clocks cs i f) _ _ (λ z. omega (arith, z, c .before .before .before .loop-test .taken)) (λ e c′ s h. c .one-equation .ensures g ids clocks e c′ s i (f .agree) h) _ (omega arith))
+loop-again c = λ W ids lay cs end g i free n h. left-more _ (now (c .before .before .before .before .before .before .before .before .before .before .before .before .before .before .args .tags)) (now (c .before .before .before .before .before .before .before .before .before .before .before .before .before .before .args .values)) W (now (c .before .before .before .before .before .before .before .before .before .before .before .before .before .before .args .plan)) ids _ _ _ _ _ _ _ (c .before .before .before .before .loop-test .taken) (c .before .before .before .before .before .loop .inv W ids lay cs end g i free n h) (λ m κ e q f u. c .one-equation .ensures W ids lay m κ e q g i f u)
 
 returns : tie.Need-returns Inv-loop μ-loop
-returns c = λ g ids clocks cs i f. left-end (g .types) (g .nodes) (g .node) ids _ _ clocks _ _ cs _ _ _ _ _ _ (c .before .loop .inv .1 g ids clocks cs i f) (omega (arith, c .loop-test .left)) _ refl refl
+returns c = λ W ids lay cs end g i free n h. left-none _ (now (c .before .before .before .before .before .before .before .before .before .before .args .tags)) (now (c .before .before .before .before .before .before .before .before .before .before .args .values)) W (now (c .before .before .before .before .before .before .before .before .before .before .args .plan)) ids _ _ _ _ _ (omega (arith, c .loop-test .left)) (c .before .loop .inv W ids lay cs end g i free n h)
 
 pub old-equations-spec : {M : Type 1} → statement M
 old-equations-spec =
@@ -53,10 +61,10 @@ old-equations-spec =
     (tie.spec
     Inv-loop
     μ-loop
-    cast-count
+    parts-table-requires
     loop-holds
     one-equation-requires
-    add-i
+    sub-left
     loop-less
     loop-again
     returns)

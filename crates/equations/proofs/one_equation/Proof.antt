@@ -1,37 +1,53 @@
--- `equations::one_equation` meets its contract: the left names, then the right side on the equation's clock.
+-- `equations::one_equation` meets its contract: left names, what is before the right side, the right side, what is behind it.
 -- Assumes nothing.
-use Rattle.equations.proofs.Rights.{equation-done}
+use denote.Ref.{now}
+use Rattle.equations.proofs.Rights.{parts-at, equation-written}
 use borrow.Author.Needs.{needs}
 use Rattle.equations.proofs.one_equation.Statement.{statement}
 use Rattle.equations.proofs.one_equation.Tie as tie
 use Rattle.equations.proofs.one_equation.Reads as reads
 use Rattle.equations.proofs.one_equation.Lts as lts
-use Rattle.equations.proofs.put_left.Reads as put-left-reads
-use Rattle.equations.proofs.right.Reads as right-reads
-use Rattle.infer_clocks.proofs.equation_clock.Reads as equation-clock-reads
-use Rattle.layout.proofs.equation_at.Reads as equation-at-reads
+use Rattle.frames.proofs.frame_by.Reads as frame-by-reads
+use Rattle.frames.proofs.put_before.Reads as put-before-reads
+use Rattle.frames.proofs.put_behind.Reads as put-behind-reads
+use Rattle.layout.proofs.names_at.Reads as names-at-reads
+use Rattle.left_defaults.proofs.put_left.Reads as put-left-reads
+use Rattle.planned.proofs.expr.Reads as expr-reads
+use Rattle.flat.proofs.word_at.Reads as word-at-reads
 
-equation-at-requires : tie.Need-equation-at-requires
-equation-at-requires c κs = search needs
+names-at-requires : tie.Need-names-at-requires
+names-at-requires c κs = search needs
 
-equation-clock-requires : tie.Need-equation-clock-requires
-equation-clock-requires c κs = search needs
+word-at-requires : tie.Need-word-at-requires
+word-at-requires c κs = search needs
+
+frame-by-requires : tie.Need-frame-by-requires
+frame-by-requires c κs = search needs
 
 put-left-requires : tie.Need-put-left-requires
 put-left-requires c κs = search needs
 
-right-requires : tie.Need-right-requires
-right-requires c κs = search needs
+put-before-requires : tie.Need-put-before-requires
+put-before-requires c κs = search needs
+
+expr-requires : tie.Need-expr-requires
+expr-requires c κs = search needs
+
+put-behind-requires : tie.Need-put-behind-requires
+put-behind-requires c κs = (c .before .before .before .before .before .before .before .before .before .before .before .before .before .before .before .before .before .before .before .before .before .pre .0, c .before .before .before .before .before .before .before .before .before .before .before .before .before .before .before .before .before .before .before .before .before .pre .1 .1 .1)
 
 returns : tie.Need-returns
-returns c = λ g ids clocks e c′ q i a h. equation-done (g .types) (g .nodes) (g .node) ids _ _ clocks _ _ e c′ q h _ _ (c .before .before .before .before .before .before .before .before .equation-at .ensures e q (h .stands)) (λ s. c .before .before .before .before .before .before .equation-clock .ensures (e .right) q clocks (h .known) s a (h .is-natural)) _ _ _ _ _ (λ s. c .before .before .before .put-left .ensures (e .left) s) (λ f. c .right .ensures g ids (e .left) (e .right) q i f)
+returns c = λ W ids lay n κ e q g i free h. let s = parts-at _ (now (c .before .before .before .before .before .before .before .before .before .before .before .before .before .before .before .before .before .before .before .before .before .before .args .tags)) (now (c .before .before .before .before .before .before .before .before .before .before .before .before .before .before .before .before .before .before .before .before .before .before .args .values)) (c .before .before .before .before .before .before .before .before .before .before .before .before .before .before .before .before .before .before .before .before .before .before .pre .0) _ e q _ (h .stands) (c .before .before .before .before .before .before .before .before .before .before .before .before .before .before .names-at .ensures) in equation-written _ (now (c .before .before .before .before .before .before .before .before .before .before .before .before .before .before .before .before .before .before .before .before .before .before .args .tags)) (now (c .before .before .before .before .before .before .before .before .before .before .before .before .before .before .before .before .before .before .before .before .before .before .args .values)) W (now (c .before .before .before .before .before .before .before .before .before .before .before .before .before .before .before .before .before .before .before .before .before .before .args .plan)) ids n _ κ e q i free h _ s (now (c .before .before .before .before .before .before .before .before .before .before .before .before .before .before .before .before .before .before .before .before .before .before .args .flag-ids)) (g .stands .flags) _ (g .stands .condact) _ (c .before .before .before .before .before .before .before .before .before .before .before .before .before .word-at .ensures) _ (c .before .before .before .before .before .before .before .before .before .before .before .before .frame-by .ensures) _ _ _ _ _ _ (c .before .before .before .before .before .before .before .before .before .put-left .ensures (e .left) (s .names)) (c .before .before .before .before .before .before .put-before .ensures) (c .before .before .before .expr .ensures W (g .stands)) (λ ks k. c .put-behind .ensures (W .types) (W .nodes) (W .node) (g .end) lay (e .left) ks (g .stands .table) (g .laid) (g .declares) (s .names) k)
 
 pub one-equation-spec : {M : Type 1} → statement M
 one-equation-spec =
     tie.close
     (tie.spec
-    equation-at-requires
-    equation-clock-requires
+    names-at-requires
+    word-at-requires
+    frame-by-requires
     put-left-requires
-    right-requires
+    put-before-requires
+    expr-requires
+    put-behind-requires
     returns)

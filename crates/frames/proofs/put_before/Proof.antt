@@ -6,8 +6,8 @@ use Rattle.frames.proofs.put_before.Statement.{statement}
 use Rattle.frames.proofs.put_before.Tie as tie
 use Rattle.frames.proofs.put_before.Reads as reads
 use Rattle.frames.proofs.put_before.Lts as lts
-use Rattle.openings.proofs.put_gate.Reads as put-gate-reads
-use Rattle.openings.proofs.put_two.Reads as put-two-reads
+use Rattle.defaults.proofs.emit_two.Reads as emit-two-reads
+use Rattle.planned.proofs.put_gate.Reads as put-gate-reads
 
 enum-told : tie.Need-enum-told
 enum-told c = search needs
@@ -15,8 +15,8 @@ enum-told c = search needs
 enum-known-f : tie.Need-enum-known-f
 enum-known-f c = search needs
 
-put-two-requires : tie.Need-put-two-requires
-put-two-requires c κs = search needs
+emit-two-requires : tie.Need-emit-two-requires
+emit-two-requires c κs = search needs
 
 enum-known-f-2 : tie.Need-enum-known-f-2
 enum-known-f-2 c = search needs
@@ -25,13 +25,13 @@ put-gate-requires : tie.Need-put-gate-requires
 put-gate-requires c κs = search needs
 
 returns : tie.Need-returns
-returns c = before-plain _ _ _ _ _ (c .enum-told .given .1)
+returns c = before-plain _ _ _ _ (c .enum-told .given .1)
 
 returns-2 : tie.Need-returns-2
-returns-2 c = before-choice _ _ _ _ _ _ _ (c .before .before .before .before .f .given .1) (c .put-two .ensures)
+returns-2 c = before-choice _ _ _ _ _ _ (c .before .before .before .before .f .given .1) (c .emit-two .ensures)
 
 returns-3 : tie.Need-returns-3
-returns-3 c = before-gate _ _ _ _ _ _ _ (c .before .before .before .before .f2 .given .1) (c .put-gate .ensures)
+returns-3 c = before-gate _ _ _ _ _ _ (c .before .before .before .before .f2 .given .1) (c .put-gate .ensures)
 
 pub put-before-spec : {M : Type 1} → statement M
 put-before-spec =
@@ -39,7 +39,7 @@ put-before-spec =
     (tie.spec
     enum-told
     enum-known-f
-    put-two-requires
+    emit-two-requires
     enum-known-f-2
     put-gate-requires
     returns

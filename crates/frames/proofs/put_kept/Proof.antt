@@ -24,9 +24,14 @@ emit-two-requires : tie.Need-emit-two-requires
 emit-two-requires c κs = search needs
 
 returns : tie.Need-returns
-returns c = λ ts l n u xs ks t d s k. kept-written ts l n xs ks _ _ _ (c .before .before .before .before .before .before .before .before .before .before .before .before .pre .0) _ s k _ (c .before .before .before .before .before .before .before .before .before .value-at .ensures) _ _ _ _ (c .before .before .before .before .before .before .emit .ensures) (λ f. c .before .before .before .put-left-default .ensures ts l n u t d f) (c .emit-two .ensures)
+returns c = λ ts l n u lay xs ks t d v s k. kept-written ts l n xs ks _ _ _ (c .before .before .before .before .before .before .before .before .before .before .before .before .before .pre .0) _ s k _ (c .before .before .before .before .before .before .before .before .before .value-at .ensures) _ _ _ _ (c .before .before .before .before .before .before .emit .ensures) (λ b f. c .before .before .before .put-left-default .ensures ts l n u lay t d v b f) (c .emit-two .ensures)
 
 pub put-kept-spec : {M : Type 1} → statement M
 put-kept-spec =
     tie.close
-    (tie.spec value-at-requires emit-requires put-left-default-requires emit-two-requires returns)
+    (tie.spec
+    value-at-requires
+    emit-requires
+    put-left-default-requires
+    emit-two-requires
+    returns)

@@ -32,11 +32,11 @@ same-length-3 c = search needs
 same-length-4 : tie.Need-same-length-4
 same-length-4 c = search needs
 
-returns-2 : tie.Need-returns-2
-returns-2 c = λ n q l u v x y. deep-told _ n _ _ _ (c .before .before .before .before .before .before .before .before .before .before .clock-laid .ensures n q l u v x y) (c .enum-told .given .1)
-
 same-length-5 : tie.Need-same-length-5
 same-length-5 c = search needs
+
+returns-2 : tie.Need-returns-2
+returns-2 c = λ n q l u v x y. deep-told _ n _ _ _ (c .before .before .before .before .before .before .before .before .before .before .before .before .clock-laid .ensures .0 n q l u v x y) (c .enum-told .given .1)
 
 same-length-6 : tie.Need-same-length-6
 same-length-6 c = search needs
@@ -47,8 +47,14 @@ same-length-7 c = search needs
 same-length-8 : tie.Need-same-length-8
 same-length-8 c = search needs
 
+same-length-9 : tie.Need-same-length-9
+same-length-9 c = search needs
+
+same-length-10 : tie.Need-same-length-10
+same-length-10 c = search needs
+
 returns-3 : tie.Need-returns-3
-returns-3 c = λ n q l u v x y. deep-not-told _ n _ _ _ (c .before .before .before .before .before .before .before .before .before .before .clock-laid .ensures n q l u v x y) _ _ (c .enum-told2 .given .1)
+returns-3 c = λ n q l u v x y. deep-not-told _ n _ _ _ (c .before .before .before .before .before .before .before .before .before .before .before .before .clock-laid .ensures .0 n q l u v x y) _ _ (c .enum-told2 .given .1)
 
 pub deep-laid-spec : {M : Type 1} → statement M
 deep-laid-spec =
@@ -63,9 +69,11 @@ deep-laid-spec =
     same-length-2
     same-length-3
     same-length-4
-    returns-2
     same-length-5
+    returns-2
     same-length-6
     same-length-7
     same-length-8
+    same-length-9
+    same-length-10
     returns-3)

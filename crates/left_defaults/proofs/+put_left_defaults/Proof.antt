@@ -14,30 +14,30 @@ use Rattle.typedefs.proofs.value_at.Reads as value-at-reads
 use Rattle.left_defaults.proofs.+put_left_defaults.{statement}
 use Rattle.left_defaults.proofs.+put_left_defaults.Tie.{close}
 
-abbrev μ-put-left-defaults : Measures 5 put-left-defaults-kinds.ps ℕ
+abbrev μ-put-left-defaults : Measures 6 put-left-defaults-kinds.ps ℕ
 μ-put-left-defaults κs a = a .1 .1 .1 .1 .1 .1 .0
 
-abbrev put-left-defaults-at : ℕ → In 5 put-left-defaults-kinds.ps
+abbrev put-left-defaults-at : ℕ → In 6 put-left-defaults-kinds.ps
 put-left-defaults-at t =
     and
-    5
+    6
     put-left-defaults-kinds.ps
-    (is 5 put-left-defaults-kinds.ps μ-put-left-defaults t)
+    (is 6 put-left-defaults-kinds.ps μ-put-left-defaults t)
     put-left-defaults.Pre
 
-abbrev put-left-defaults-below : ℕ → In 5 put-left-defaults-kinds.ps
+abbrev put-left-defaults-below : ℕ → In 6 put-left-defaults-kinds.ps
 put-left-defaults-below t =
     and
-    5
+    6
     put-left-defaults-kinds.ps
-    (falls 5 put-left-defaults-kinds.ps _<_ μ-put-left-defaults t)
+    (falls 6 put-left-defaults-kinds.ps _<_ μ-put-left-defaults t)
     put-left-defaults.Pre
 
 abbrev put-left-defaults-uses : ℕ → put-left-defaults-lts.Claims
 put-left-defaults-uses t = (value-at-reads.Asked, value-at-reads.Learnt, past-reads.Asked, past-reads.Learnt, put-left-default-reads.Asked, put-left-default-reads.Learnt, put-left-defaults-below t, put-left-defaults.Post)
 
 put-left-defaults-returns : (t : ℕ) → put-left-defaults-lts.Need-returns (put-left-defaults-uses t) (put-left-defaults-at t) put-left-defaults.Post
-put-left-defaults-returns t c = λ ts l n u xs q t d g free. wrote-no-left ts l n xs _ (no-name _ _ _ (c .before .before .before .pre .1 .0) _ _ xs q (c .if1 .taken) g)
+put-left-defaults-returns t c = λ ts l n u lay xs q t d k g free. wrote-no-left ts l n xs _ (no-name _ _ _ (c .before .before .before .before .pre .1 .0) _ _ xs q (c .if1 .taken) g)
 
 put-left-defaults-value-at-requires : (t : ℕ) → put-left-defaults-lts.Need-value-at-requires (put-left-defaults-uses t) (put-left-defaults-at t) put-left-defaults.Post
 put-left-defaults-value-at-requires t c κs = search needs
@@ -85,7 +85,7 @@ put-left-defaults-put-left-defaults-requires :
 put-left-defaults-put-left-defaults-requires t c κs = search needs
 
 put-left-defaults-returns-2 : (t : ℕ) → put-left-defaults-lts.Need-returns-2 (put-left-defaults-uses t) (put-left-defaults-at t) put-left-defaults.Post
-put-left-defaults-returns-2 t c = λ ts l n u xs q t d g free. wrote-lefts ts l n _ _ _ q xs _ _ _ _ _ free (λ f. c .before .before .before .put-left-default .ensures ts l n u t d f) (λ rest h f. c .put-left-defaults .ensures ts l n u rest q t d h f) (first-name _ _ _ (c .before .before .before .before .before .before .before .before .before .before .before .pre .1 .0) _ _ xs q _ _ (c .before .before .before .before .before .before .before .before .if1 .left) (c .before .before .before .before .before .before .before .value-at .ensures) (c .before .before .before .before .before .before .past .ensures) g)
+put-left-defaults-returns-2 t c = λ ts l n u lay xs q t d k g free. wrote-lefts ts l n _ _ _ q xs _ _ _ _ _ free (λ b f. c .before .before .before .put-left-default .ensures ts l n u lay t d k b f) (λ rest h f. c .put-left-defaults .ensures ts l n u lay rest q t d k h f) (first-name _ _ _ (c .before .before .before .before .before .before .before .before .before .before .before .before .pre .1 .0) _ _ xs q _ _ (c .before .before .before .before .before .before .before .before .if1 .left) (c .before .before .before .before .before .before .before .value-at .ensures) (c .before .before .before .before .before .before .past .ensures) g)
 
 pub +put-left-defaults-spec : {M : Type 1} → statement M
 +put-left-defaults-spec = close μ-put-left-defaults λ t. put-left-defaults-lts.spec (put-left-defaults-uses t)

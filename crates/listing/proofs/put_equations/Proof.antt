@@ -3,16 +3,11 @@ use mathlib.Core.Path.{_≡_, refl, _∙_}
 use mathlib.Core.List.{List, map}
 use Prim.Native.Nat.{ℕ, _-_}
 use native.Mathlib.Omega.{arith}
-use denote.Ref.{now}
 use lib.ListN.{length}
-use Rattle.definitions.specs.Bytes.{tokens}
-use Rattle.definitions.specs.Tree.{Equation}
-use Rattle.definitions.specs.Reading.{got, times}
-use Rattle.definitions.specs.Grammar.{equation}
-use Rattle.definitions.specs.InferClocks.{Clocks, Clocked, formed, clockedBy}
+use Rattle.definitions.specs.InferClocks.{Clocked}
 use Rattle.clock.proofs.Laws.{value-depth}
-use Rattle.environment.specs.Environment.{Agrees}
 use Rattle.fresh.specs.Places.{lettersAt}
+use Rattle.skeleton.specs.Sites.{EquationsOn}
 use Rattle.texts.specs.Pieces.{equationLine}
 use Rattle.listing.proofs.Laws.{Lines, lines-start, lines-end, lines-low, lines-step}
 use borrow.Author.Needs.{needs}
@@ -20,11 +15,11 @@ use Rattle.listing.proofs.put_equations.Statement.{statement}
 use Rattle.listing.proofs.put_equations.Tie as tie
 
 abbrev Inv-loop : tie.InvT-loop
-Inv-loop out₀ at starts letters tags values names env n next₀ place₀ i₀ out next place i =
-    (length out ≡ length out₀) × ((clocks : Clocks) (es : List Equation) (q : ℕ) (cs : List Clocked) → Agrees env names clocks → times n (equation names) (tokens tags values) place₀ ≡ got es q → clockedBy clocks es ≡ formed cs → Lines names (tokens tags values) clocks (equationLine (lettersAt starts letters)) (n - i) i place q at out₀ next out (map (λ (c : Clocked). c .clock) cs))
+Inv-loop out₀ at starts letters tags values sites n next₀ place₀ i₀ out next place i =
+    (length out ≡ length out₀) × ((M : ℕ) (cs : List Clocked) (q : ℕ) → EquationsOn M tags values sites cs place₀ q → length cs ≡ n → Lines M tags values sites (equationLine (lettersAt starts letters)) (n - i) i place q at out₀ next out (map (λ (c : Clocked). c .clock) cs))
 
 abbrev μ-loop : tie.MeasureT-loop
-μ-loop out₀ at starts letters tags values names env n next₀ place₀ i₀ out next place i = n - i
+μ-loop out₀ at starts letters tags values sites n next₀ place₀ i₀ out next place i = n - i
 
 cast-n : tie.Need-cast-n Inv-loop μ-loop
 cast-n c = search needs
@@ -33,16 +28,16 @@ counted-requires : tie.Need-counted-requires Inv-loop μ-loop
 counted-requires c κs = search needs
 
 loop-holds : tie.Need-loop-holds Inv-loop μ-loop
-loop-holds c = (refl, λ clocks es q cs a g h. lines-start _ _ clocks _ _ _ _ q es cs refl g h (c .counted .ensures))
+loop-holds c = (refl, λ M cs q g h. lines-start M _ _ _ _ _ _ _ q cs refl g h (c .counted .ensures))
 
-equation-at-requires : tie.Need-equation-at-requires Inv-loop μ-loop
-equation-at-requires c κs = search needs
-
-equation-clock-requires : tie.Need-equation-clock-requires Inv-loop μ-loop
-equation-clock-requires c κs = search needs
+get-requires : tie.Need-get-requires Inv-loop μ-loop
+get-requires c κs = search needs
 
 put-equation-line-requires : tie.Need-put-equation-line-requires Inv-loop μ-loop
-put-equation-line-requires c κs = omega (arith, c .before .before .before .before .before .before .before .before .before .before .before .before .before .pre .0, c .before .before .before .before .loop .inv .0)
+put-equation-line-requires c κs = omega (arith, c .before .before .before .before .before .before .before .before .before .before .before .before .pre .0, c .before .before .before .loop .inv .0)
+
+equation-end-requires : tie.Need-equation-end-requires Inv-loop μ-loop
+equation-end-requires c κs = search needs
 
 add-i : tie.Need-add-i Inv-loop μ-loop
 add-i c = search needs
@@ -53,14 +48,13 @@ loop-less c = search needs
 loop-again : tie.Need-loop-again Inv-loop μ-loop
 loop-again c =
     let s = c .before .before .before .before .before .before .before .before .before .before .before .before .before .before .before .before in
-    let l = c .before .before .before .before .before .before .before .loop in
-    (c .before .before .put-equation-line .kept .0 ∙ l .inv .0, λ clocks es q cs a g h. lines-step _ _ clocks _ (now (s .args .env)) _ _ _ q _ _ _ (value-depth (c .before .before .before .before .equation-clock .result)) (c .before .before .before .before .before .before .loop-test .taken) (s .pre .0) a (c .before .before .before .before .before .equation-at .ensures) (c .before .before .before .before .equation-clock .ensures) (c .before .before .put-equation-line .ensures) (l .inv .1 clocks es q cs a g h))
+    (c .before .before .before .put-equation-line .kept .0 ∙ c .before .before .before .before .before .before .before .loop .inv .0, λ M cs q g h. lines-step M _ _ _ _ _ _ _ q _ _ _ (value-depth (c .before .before .before .before .before .get .result)) (c .before .before .before .before .before .before .loop-test .taken) (s .pre .0) (c .before .before .before .before .before .get .ensures) (c .equation-end .ensures) (c .before .before .before .put-equation-line .ensures) (c .before .before .before .before .before .before .before .loop .inv .1 M cs q g h))
 
 same-length : tie.Need-same-length Inv-loop μ-loop
 same-length c = c .before .loop .inv .0
 
 returns : tie.Need-returns Inv-loop μ-loop
-returns c = (λ clocks es q cs a g h. lines-end _ _ clocks _ _ _ _ q _ (omega (arith, c .loop-test .left)) (c .before .loop .inv .1 clocks es q cs a g h), λ clocks es q cs a g h. lines-low _ _ clocks _ _ _ _ q _ (omega (arith, c .loop-test .left)) (c .before .loop .inv .1 clocks es q cs a g h))
+returns c = (λ M cs q g h. lines-end M _ _ _ _ _ _ _ q _ (omega (arith, c .loop-test .left)) (c .before .loop .inv .1 M cs q g h), λ M cs q g h. lines-low M _ _ _ _ _ _ _ q _ (omega (arith, c .loop-test .left)) (c .before .loop .inv .1 M cs q g h))
 
 pub put-equations-spec : {M : Type 1} → statement M
 put-equations-spec =
@@ -71,9 +65,9 @@ put-equations-spec =
     cast-n
     counted-requires
     loop-holds
-    equation-at-requires
-    equation-clock-requires
+    get-requires
     put-equation-line-requires
+    equation-end-requires
     add-i
     loop-less
     loop-again

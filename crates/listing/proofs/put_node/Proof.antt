@@ -30,7 +30,7 @@ same-length c = search needs
 returns : tie.Need-returns
 returns c =
     let s = c .before .before .before .before .before .before .before .before .before .before .before .before .before .before .before .before .before .before .before .before .before .before .before .before .before .before .before .before in
-    (omega (arith, c .before .before .put-faults .ensures .place), (λ node q k laid h told e. node-put (lettersAt (now (s .args .starts)) (now (s .args .letters))) _ _ _ node q _ k (now (s .args .env)) (now (s .args .table)) _ _ _ _ _ _ laid h told e (c .before .before .before .before .before .before .before .before .before .before .before .before .before .before .before .before .wide .ensures) (s .pre .0) (c .before .before .before .before .before .before .before .before .before .before .before .before .before .before .put-head .ensures) (c .before .before .before .before .before .before .before .before .before .before .put-equations .ensures .0) (c .before .before .before .before .before .before .put-chains .ensures) (c .before .before .put-faults .ensures), λ node q k laid h told e x y z. node-fits (now (s .args .starts)) (now (s .args .letters)) _ _ (now (s .args .tags)) (now (s .args .values)) node q _ k (now (s .args .env)) (now (s .args .table)) _ _ _ _ _ (s .pre .1) laid h told e (c .before .before .before .before .before .before .before .before .before .before .put-equations .ensures .1) x y z))
+    (omega (arith, c .before .before .put-faults .ensures .place), (λ node q k laid h tells e. node-put (lettersAt (now (s .args .starts)) (now (s .args .letters))) _ _ node q k (now (s .args .table)) (now (s .args .sites)) _ _ (s .args .told) _ _ laid h tells e (c .before .before .before .before .before .before .before .before .before .before .before .before .before .before .before .before .wide .ensures) (s .pre .0) (c .before .before .before .before .before .before .before .before .before .before .before .before .before .before .put-head .ensures) (c .before .before .before .before .before .before .before .before .before .before .put-equations .ensures .0) (c .before .before .before .before .before .before .put-chains .ensures) (c .before .before .put-faults .ensures), λ node q k laid h tells e x y z. node-fits (now (s .args .starts)) (now (s .args .letters)) (now (s .args .tags)) (now (s .args .values)) node q k (now (s .args .table)) (now (s .args .sites)) _ _ (s .args .told) _ (s .pre .1) laid h tells e (c .before .before .before .before .before .before .before .before .before .before .put-equations .ensures .1) x y z))
 
 pub put-node-spec : {M : Type 1} → statement M
 put-node-spec =

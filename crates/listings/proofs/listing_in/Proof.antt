@@ -16,7 +16,7 @@ enum-known-found-2 : tie.Need-enum-known-found-2
 enum-known-found-2 c = search needs
 
 listing-told-requires : tie.Need-listing-told-requires
-listing-told-requires c κs = c .before .before .before .before .before .before .before .before .before .before .before .before .before .before .before .before .before .before .before .before .before .before .before .before .pre
+listing-told-requires c κs = c .before .before .before .before .before .before .before .before .before .before .before .before .before .before .before .before .before .before .before .before .before .before .before .before .before .before .before .before .pre
 
 same-length : tie.Need-same-length
 same-length c = search needs
@@ -24,11 +24,11 @@ same-length c = search needs
 same-length-2 : tie.Need-same-length-2
 same-length-2 c = search needs
 
-returns : tie.Need-returns
-returns c = λ i s r a. listing-turned _ _ _ _ i _ _ (c .before .before .before .before .before .before .before .clock-at .ensures i _ (s .tree) r) _ _ (c .before .found .given .1)
-
 same-length-3 : tie.Need-same-length-3
 same-length-3 c = search needs
+
+returns : tie.Need-returns
+returns c = λ i s r a. listing-turned _ _ _ _ _ i _ _ (c .before .before .before .before .before .before .before .before .before .clock-at .ensures i _ (s .tree) r) _ _ (c .before .found .given .1)
 
 same-length-4 : tie.Need-same-length-4
 same-length-4 c = search needs
@@ -42,8 +42,14 @@ same-length-6 c = search needs
 same-length-7 : tie.Need-same-length-7
 same-length-7 c = search needs
 
+same-length-8 : tie.Need-same-length-8
+same-length-8 c = search needs
+
+same-length-9 : tie.Need-same-length-9
+same-length-9 c = search needs
+
 returns-2 : tie.Need-returns-2
-returns-2 c = λ i s r a. let z = node-there _ _ _ _ i _ _ (c .before .before .before .before .before .before .before .before .before .before .before .before .before .before .before .before .before .before .before .clock-at .ensures i _ (s .tree) r) _ (c .before .before .before .before .before .before .before .before .before .before .before .before .before .found2 .given .1) in listing-given _ i _ _ (z .0) _ _ _ (s .named) (z .2 .number) (z .1) (c .before .before .before .before .before .before .listing-told .ensures (z .0) (told-own _ _ _ _ _ _ _ (z .2)) (ample-kept _ _ _ a _ _ _ (c .before .before .before .before .before .before .before .before .before .before .before .before .before .before .before .before .before .before .before .clock-at .kept .1 .1 .1 .1 .1 .0) refl refl) (s .few-letters) (s .few-tokens))
+returns-2 c = λ i s r a. let z = node-there _ _ _ _ _ i _ _ (c .before .before .before .before .before .before .before .before .before .before .before .before .before .before .before .before .before .before .before .before .before .clock-at .ensures i _ (s .tree) r) _ (c .before .before .before .before .before .before .before .before .before .before .before .before .before .found2 .given .1) in listing-given _ i _ _ (z .0) _ _ _ (s .named) (z .2 .number) (z .1) (c .before .before .before .before .before .before .listing-told .ensures (z .0) (told-own _ _ _ _ _ _ _ _ (z .2)) (ample-kept _ _ _ a _ _ _ (c .before .before .before .before .before .before .before .before .before .before .before .before .before .before .before .before .before .before .before .before .before .clock-at .kept .1 .1 .1 .1 .1 .0) refl refl) (s .few-letters) (s .few-tokens))
 
 pub listing-in-spec : {M : Type 1} → statement M
 listing-in-spec =
@@ -55,10 +61,12 @@ listing-in-spec =
     listing-told-requires
     same-length
     same-length-2
-    returns
     same-length-3
+    returns
     same-length-4
     same-length-5
     same-length-6
     same-length-7
+    same-length-8
+    same-length-9
     returns-2)

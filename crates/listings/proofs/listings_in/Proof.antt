@@ -26,7 +26,7 @@ enum-known-measured-2 : tie.Need-enum-known-measured-2
 enum-known-measured-2 c = search needs
 
 listings-last-requires : tie.Need-listings-last-requires
-listings-last-requires c κs = (c .before .before .before .before .before .before .before .before .before .before .before .before .before .before .before .before .before .before .before .before .before .before .before .before .before .before .before .before .before .before .before .before .before .before .before .pre, before-fits _ _ _ _ (c .before .before .before .before .before .before .measured2 .given .1) (c .before .before .before .before .before .before .before .before .before .before .before .before .before .before .before .before .measure-listings .ensures .0) (omega (arith, c .before .before .before .before .before .before .before .before .before .before .before .before .before .before .before .before .before .before .before .before .before .before .if1 .left, c .before .before .before .before .before .before .before .before .before .before .before .before .before .before .before .before .before .before .before .before .before .before .before .before .before .sheet-at .ok)))
+listings-last-requires c κs = (c .before .before .before .before .before .before .before .before .before .before .before .before .before .before .before .before .before .before .before .before .before .before .before .before .before .before .before .before .before .before .before .before .before .before .before .before .before .before .before .before .pre, before-fits _ _ _ _ (c .before .before .before .before .before .before .before .measured2 .given .1) (c .before .before .before .before .before .before .before .before .before .before .before .before .before .before .before .before .before .before .before .measure-listings .ensures .0) (omega (arith, c .before .before .before .before .before .before .before .before .before .before .before .before .before .before .before .before .before .before .before .before .before .before .before .before .before .before .if1 .left, c .before .before .before .before .before .before .before .before .before .before .before .before .before .before .before .before .before .before .before .before .before .before .before .before .before .before .before .before .before .sheet-at .ok)))
 
 same-length : tie.Need-same-length
 same-length c = search needs
@@ -40,11 +40,11 @@ same-length-3 c = search needs
 same-length-4 : tie.Need-same-length-4
 same-length-4 c = search needs
 
-returns-2 : tie.Need-returns-2
-returns-2 c = λ i s r a. front-deep i _ _ _ _ _ (c .before .before .before .before .before .before .before .before .before .before .before .before .before .before .before .before .before .before .before .before .sheet-at .ensures (i .sheet) _ (s .tree) .nodes .items) (c .before .before .before .before .before .before .before .before .before .before .before .before .before .before .before .before .before .if1 .left) _ _ (λ ns q g. c .before .before .before .before .before .before .before .before .before .before .before .measure-listings .ensures .1 ns q g r a (s .few-letters) (s .few-tokens)) _ _ (c .before .measured .given .1)
-
 same-length-5 : tie.Need-same-length-5
 same-length-5 c = search needs
+
+returns-2 : tie.Need-returns-2
+returns-2 c = λ i s r a. front-deep i _ _ _ _ _ (c .before .before .before .before .before .before .before .before .before .before .before .before .before .before .before .before .before .before .before .before .before .before .before .sheet-at .ensures (i .sheet) _ (s .tree) .nodes .items) (c .before .before .before .before .before .before .before .before .before .before .before .before .before .before .before .before .before .before .before .before .if1 .left) _ _ (λ ns q g. c .before .before .before .before .before .before .before .before .before .before .before .before .before .measure-listings .ensures .1 ns q g r a (s .few-letters) (s .few-tokens)) _ _ (c .before .measured .given .1)
 
 same-length-6 : tie.Need-same-length-6
 same-length-6 c = search needs
@@ -58,8 +58,14 @@ same-length-8 c = search needs
 same-length-9 : tie.Need-same-length-9
 same-length-9 c = search needs
 
+same-length-10 : tie.Need-same-length-10
+same-length-10 c = search needs
+
+same-length-11 : tie.Need-same-length-11
+same-length-11 c = search needs
+
 returns-3 : tie.Need-returns-3
-returns-3 c = λ i s r a. front-listed i _ _ _ _ _ (c .before .before .before .before .before .before .before .before .before .before .before .before .before .before .before .before .before .before .before .before .before .before .before .before .before .before .before .before .before .before .before .before .before .before .before .before .sheet-at .ensures (i .sheet) _ (s .tree) .nodes .items) (c .before .before .before .before .before .before .before .before .before .before .before .before .before .before .before .before .before .before .before .before .before .before .before .before .before .before .before .before .before .before .before .before .before .if1 .left) _ _ (λ ns q g. c .before .before .before .before .before .before .before .before .before .before .before .before .before .before .before .before .before .before .before .before .before .before .before .before .before .before .before .measure-listings .ensures .1 ns q g r a (s .few-letters) (s .few-tokens)) _ _ _ _ _ (c .before .before .before .before .before .before .before .before .before .before .before .before .before .before .before .before .before .measured2 .given .1) (s .named) (λ ns l x q g t h e. c .before .before .before .before .before .before .before .before .before .before .listings-last .ensures ns l x q g t h e (roomy-kept _ _ _ _ _ _ r (c .before .before .before .before .before .before .before .before .before .before .before .before .before .before .before .before .before .before .before .before .before .before .before .before .before .before .before .measure-listings .kept .1 .1 .1 .1 .1 .1 .1 .0) (c .before .before .before .before .before .before .before .before .before .before .before .before .before .before .before .before .before .before .before .before .before .before .before .before .before .before .before .measure-listings .kept .1 .1 .1 .1 .1 .1 .1 .1 .0)) (ample-kept _ _ _ a _ _ _ (c .before .before .before .before .before .before .before .before .before .before .before .before .before .before .before .before .before .before .before .before .before .before .before .before .before .before .before .measure-listings .kept .1 .1 .1 .1 .1 .1 .1 .1 .0) (c .before .before .before .before .before .before .before .before .before .before .before .before .before .before .before .before .before .before .before .before .before .before .before .before .before .before .before .measure-listings .kept .1 .1 .1 .1 .1 .1 .1 .1 .1 .0) (c .before .before .before .before .before .before .before .before .before .before .before .before .before .before .before .before .before .before .before .before .before .before .before .before .before .before .before .measure-listings .kept .1 .1 .1 .1 .1 .1 .1 .1 .1 .1 .0)) (s .few-letters) (s .few-tokens))
+returns-3 c = λ i s r a. front-listed i _ _ _ _ _ (c .before .before .before .before .before .before .before .before .before .before .before .before .before .before .before .before .before .before .before .before .before .before .before .before .before .before .before .before .before .before .before .before .before .before .before .before .before .before .before .before .before .before .sheet-at .ensures (i .sheet) _ (s .tree) .nodes .items) (c .before .before .before .before .before .before .before .before .before .before .before .before .before .before .before .before .before .before .before .before .before .before .before .before .before .before .before .before .before .before .before .before .before .before .before .before .before .before .before .if1 .left) _ _ (λ ns q g. c .before .before .before .before .before .before .before .before .before .before .before .before .before .before .before .before .before .before .before .before .before .before .before .before .before .before .before .before .before .before .before .before .measure-listings .ensures .1 ns q g r a (s .few-letters) (s .few-tokens)) _ _ _ _ _ (c .before .before .before .before .before .before .before .before .before .before .before .before .before .before .before .before .before .before .before .before .measured2 .given .1) (s .named) (λ ns l x q g t h e. c .before .before .before .before .before .before .before .before .before .before .before .before .listings-last .ensures ns l x q g t h e (roomy-kept _ _ _ _ _ _ _ _ r (c .before .before .before .before .before .before .before .before .before .before .before .before .before .before .before .before .before .before .before .before .before .before .before .before .before .before .before .before .before .before .before .before .measure-listings .kept .1 .1 .1 .1 .1 .1 .1 .0) (c .before .before .before .before .before .before .before .before .before .before .before .before .before .before .before .before .before .before .before .before .before .before .before .before .before .before .before .before .before .before .before .before .measure-listings .kept .1 .1 .1 .1 .1 .1 .1 .1 .0) (c .before .before .before .before .before .before .before .before .before .before .before .before .before .before .before .before .before .before .before .before .before .before .before .before .before .before .before .before .before .before .before .before .measure-listings .kept .1 .1 .1 .1 .1 .1 .1 .1 .1 .1 .1 .0)) (ample-kept _ _ _ a _ _ _ (c .before .before .before .before .before .before .before .before .before .before .before .before .before .before .before .before .before .before .before .before .before .before .before .before .before .before .before .before .before .before .before .before .measure-listings .kept .1 .1 .1 .1 .1 .1 .1 .1 .0) (c .before .before .before .before .before .before .before .before .before .before .before .before .before .before .before .before .before .before .before .before .before .before .before .before .before .before .before .before .before .before .before .before .measure-listings .kept .1 .1 .1 .1 .1 .1 .1 .1 .1 .0) (c .before .before .before .before .before .before .before .before .before .before .before .before .before .before .before .before .before .before .before .before .before .before .before .before .before .before .before .before .before .before .before .before .measure-listings .kept .1 .1 .1 .1 .1 .1 .1 .1 .1 .1 .0)) (s .few-letters) (s .few-tokens))
 
 pub listings-in-spec : {M : Type 1} → statement M
 listings-in-spec =
@@ -76,10 +82,12 @@ listings-in-spec =
     same-length-2
     same-length-3
     same-length-4
-    returns-2
     same-length-5
+    returns-2
     same-length-6
     same-length-7
     same-length-8
     same-length-9
+    same-length-10
+    same-length-11
     returns-3)

@@ -1,17 +1,12 @@
 -- `node_tables::fill_tables` meets its contract: what is needed is counted; where that is few, it is put in order and numbered. Assumes nothing.
-use mathlib.Core.Path.{_∙_}
-use native.Mathlib.Omega.{arith}
 use denote.Ref.{now}
 use Rattle.fresh.specs.Places.{lettersAt}
 use Rattle.stateless.specs.Whole.{noNeeds, oldNeeds}
-use Rattle.node_needs.proofs.Apart.{apart-none, apart-old}
+use Rattle.many_names.proofs.Apart.{apart-none, apart-old}
 use Rattle.node_tables.proofs.Laws.{told-full, told-filled}
 use borrow.Author.Needs.{needs}
 use Rattle.node_tables.proofs.fill_tables.Statement.{statement}
 use Rattle.node_tables.proofs.fill_tables.Tie as tie
-
-node-needs-requires : tie.Need-node-needs-requires
-node-needs-requires c κs = search needs
 
 is-crowded-requires : tie.Need-is-crowded-requires
 is-crowded-requires c κs = search needs
@@ -20,37 +15,31 @@ full-tables-requires : tie.Need-full-tables-requires
 full-tables-requires c κs = search needs
 
 returns : tie.Need-returns
-returns c = λ all node q clocks cs types ns e laid few agrees f shallow stands.
-    let s = c .before .before .before .before .before .before .before .before .before .before .before in
-    let r = c .before .before .before .node-needs .ensures in
-    told-full (oldNeeds types ns node (s .args .condact) cs noNeeds) (r .0 ∙ omega (arith, c .before .before .before .before .before .node-needs-arg .given)) (r .1 .0 ∙ omega (arith, c .before .before .before .before .node-needs-arg2 .given)) (r .1 .1 node q clocks cs types ns laid agrees f shallow stands) all node (c .full-tables .ensures) (c .before .before .is-crowded .ensures .0 (c .before .if1 .taken))
+returns c = λ all node q condact cs types ns e laid few a b h. told-full (oldNeeds types ns node condact cs noNeeds) a b h all node (c .full-tables .ensures) (c .before .before .is-crowded .ensures .0 (c .before .if1 .taken))
 
 wide-requires : tie.Need-wide-requires
 wide-requires c κs = search needs
 
 order-rows-requires : tie.Need-order-rows-requires
-order-rows-requires c κs = c .before .before .before .before .is-crowded .ensures .1 (c .before .before .before .if1 .left) .flags
+order-rows-requires c κs = c .before .before .before .is-crowded .ensures .1 (c .before .before .if1 .left) .flags
 
 order-rows-requires-2 : tie.Need-order-rows-requires-2
-order-rows-requires-2 c κs = c .before .before .before .before .before .before .before .is-crowded .ensures .1 (c .before .before .before .before .before .before .if1 .left) .firsts
+order-rows-requires-2 c κs = c .before .before .before .before .before .is-crowded .ensures .1 (c .before .before .before .before .if1 .left) .firsts
 
 number-names-requires : tie.Need-number-names-requires
-number-names-requires c κs = c .before .before .before .before .before .before .before .before .before .before .before .before .before .before .before .before .before .before .before .before .pre .0
+number-names-requires c κs = c .before .before .before .before .before .before .before .before .before .before .before .before .before .before .before .before .pre
 
 returns-2 : tie.Need-returns-2
-returns-2 c = λ all node q clocks cs types ns e laid few agrees f shallow stands.
-    let s = c .before .before .before .before .before .before .before .before .before .before .before .before .before .before .before .before .before .before .before .before .before in
-    let r = c .before .before .before .before .before .before .before .before .before .before .before .before .before .node-needs .ensures in
-    let small = c .before .before .before .before .before .before .before .before .before .before .before .before .is-crowded .ensures .1 (c .before .before .before .before .before .before .before .before .before .before .before .if1 .left) in
-    told-filled (oldNeeds types ns node (s .args .condact) cs noNeeds) (r .0 ∙ omega (arith, c .before .before .before .before .before .before .before .before .before .before .before .before .before .before .before .node-needs-arg .given)) (r .1 .0 ∙ omega (arith, c .before .before .before .before .before .before .before .before .before .before .before .before .before .before .node-needs-arg2 .given)) (r .1 .1 node q clocks cs types ns laid agrees f shallow stands) all node
-    (apart-old types ns node (s .args .condact) cs noNeeds apart-none) small (lettersAt (now (s .args .starts)) (now (s .args .letters))) e (c .before .before .before .before .before .before .before .order-rows .ensures) (c .before .before .before .before .order-rows2 .ensures)
-    (c .number-names .ensures all node q e laid few small) (c .before .before .before .before .before .before .before .before .before .before .wide .ensures)
+returns-2 c = λ all node q condact cs types ns e laid few a b h.
+    let s = c .before .before .before .before .before .before .before .before .before .before .before .before .before .before .before .before .before in
+    let small = c .before .before .before .before .before .before .before .before .before .before .is-crowded .ensures .1 (c .before .before .before .before .before .before .before .before .before .if1 .left) in
+    told-filled (oldNeeds types ns node condact cs noNeeds) a b h all node (apart-old types ns node condact cs noNeeds apart-none) small
+    (lettersAt (now (s .args .starts)) (now (s .args .letters))) e (c .before .before .before .before .before .before .order-rows .ensures) (c .before .before .before .before .order-rows2 .ensures) (c .number-names .ensures all node q e laid few small) (c .before .before .before .before .before .before .before .before .wide .ensures)
 
 pub fill-tables-spec : {M : Type 1} → statement M
 fill-tables-spec =
     tie.close
     (tie.spec
-    node-needs-requires
     is-crowded-requires
     full-tables-requires
     returns

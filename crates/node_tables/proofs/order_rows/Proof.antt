@@ -13,7 +13,7 @@ sort-rows-requires c κs = search needs
 returns : tie.Need-returns
 returns c =
     let r = c .sort-rows .ensures in
-    sorted-rows _ _ _ _ _ (c .before .before .before .narrow .ensures) (r .1 .0) (r .1 .1 .0) (r .1 .1 .1)
+    sorted-rows _ _ _ _ _ (c .before .before .narrow .ensures) (r .1 .0) (r .1 .1 .0) (r .1 .1 .1)
 
 pub order-rows-spec : {M : Type 1} → statement M
 order-rows-spec = tie.close (tie.spec narrow-requires sort-rows-requires returns)

@@ -5,7 +5,7 @@ use Rattle.output_names.proofs.mark_full.Statement.{statement}
 use Rattle.output_names.proofs.mark_full.Tie as tie
 
 returns : tie.Need-returns
-returns c = (marked-sound (c .pre) refl refl, λ all h. marked-full (c .pre) refl refl refl all h)
+returns c = (refl, (marked-sound (c .pre) refl refl, λ all h. marked-full (c .pre) refl refl refl all h))
 
 pub mark-full-spec : {M : Type 1} → statement M
 mark-full-spec = tie.close (tie.spec returns)

@@ -38,17 +38,23 @@ same-length c = search needs
 same-length-2 : tie.Need-same-length-2
 same-length-2 c = search needs
 
-returns : tie.Need-returns
-returns c = λ n q d r. clocked-deep _ _ _ _ _ n _ (c .before .before .before .before .before .before .before .before .clock-laid .ensures n q d (r .clocks) (part-enough _ _ _ (c .before .before .before .before .before .before .before .before .before .before .before .before .before .least .ensures) refl _ (c .before .before .before .before .before .before .before .before .before .before .before .before .before .before .wide .ensures) (r .few)) (part-enough _ _ _ (c .before .before .before .before .before .before .before .before .before .before .before .before .before .least .ensures) refl _ (c .before .before .before .before .before .before .before .before .before .before .before .before .before .before .wide .ensures) (r .few)) (r .found)) (c .enum-told .given .1)
-
 same-length-3 : tie.Need-same-length-3
 same-length-3 c = search needs
+
+returns : tie.Need-returns
+returns c = λ n q d r. clocked-deep _ _ _ _ _ _ _ n _ (c .before .before .before .before .before .before .before .before .before .before .clock-laid .ensures .0 n q d (r .clocks) (part-enough _ _ _ (c .before .before .before .before .before .before .before .before .before .before .before .before .before .before .before .before .least .ensures) refl _ (c .before .before .before .before .before .before .before .before .before .before .before .before .before .before .before .before .before .wide .ensures) (r .few)) (part-enough _ _ _ (c .before .before .before .before .before .before .before .before .before .before .before .before .before .before .before .before .least .ensures) refl _ (c .before .before .before .before .before .before .before .before .before .before .before .before .before .before .before .before .before .wide .ensures) (r .few)) (r .found)) (c .enum-told .given .1)
 
 same-length-4 : tie.Need-same-length-4
 same-length-4 c = search needs
 
+same-length-5 : tie.Need-same-length-5
+same-length-5 c = search needs
+
+same-length-6 : tie.Need-same-length-6
+same-length-6 c = search needs
+
 returns-2 : tie.Need-returns-2
-returns-2 c = λ n q d r. clocked-node _ _ _ _ _ n _ (c .before .before .before .before .before .before .before .before .before .clock-laid .ensures n q d (r .clocks) (part-enough _ _ _ (c .before .before .before .before .before .before .before .before .before .before .before .before .before .before .least .ensures) refl _ (c .before .before .before .before .before .before .before .before .before .before .before .before .before .before .before .wide .ensures) (r .few)) (part-enough _ _ _ (c .before .before .before .before .before .before .before .before .before .before .before .before .before .before .least .ensures) refl _ (c .before .before .before .before .before .before .before .before .before .before .before .before .before .before .before .wide .ensures) (r .few)) (r .found)) q _ _ _ (c .before .clocked .given .1) d
+returns-2 c = λ n q d r. clocked-node _ _ _ _ _ _ _ n _ (c .before .before .before .before .before .before .before .before .before .before .before .clock-laid .ensures .0 n q d (r .clocks) (part-enough _ _ _ (c .before .before .before .before .before .before .before .before .before .before .before .before .before .before .before .before .before .least .ensures) refl _ (c .before .before .before .before .before .before .before .before .before .before .before .before .before .before .before .before .before .before .wide .ensures) (r .few)) (part-enough _ _ _ (c .before .before .before .before .before .before .before .before .before .before .before .before .before .before .before .before .before .least .ensures) refl _ (c .before .before .before .before .before .before .before .before .before .before .before .before .before .before .before .before .before .before .wide .ensures) (r .few)) (r .found)) q _ _ _ (c .before .clocked .given .1) d (λ k f. c .before .before .before .before .before .before .before .before .before .before .before .clock-laid .ensures .1 n q k d f (r .clocks) (part-enough _ _ _ (c .before .before .before .before .before .before .before .before .before .before .before .before .before .before .before .before .before .least .ensures) refl _ (c .before .before .before .before .before .before .before .before .before .before .before .before .before .before .before .before .before .before .wide .ensures) (r .few)) (part-enough _ _ _ (c .before .before .before .before .before .before .before .before .before .before .before .before .before .before .before .before .before .least .ensures) refl _ (c .before .before .before .before .before .before .before .before .before .before .before .before .before .before .before .before .before .before .wide .ensures) (r .few)) (r .found) (r .sited))
 
 pub clock-laid-spec : {M : Type 1} → statement M
 clock-laid-spec =
@@ -65,7 +71,9 @@ clock-laid-spec =
     enum-known-clocked
     same-length
     same-length-2
-    returns
     same-length-3
+    returns
     same-length-4
+    same-length-5
+    same-length-6
     returns-2)

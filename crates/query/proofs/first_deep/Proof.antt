@@ -21,8 +21,11 @@ same-length c = search needs
 same-length-2 : tie.Need-same-length-2
 same-length-2 c = search needs
 
+same-length-3 : tie.Need-same-length-3
+same-length-3 c = search needs
+
 returns : tie.Need-returns
-returns c = λ s q g r. let l = c .before .before .before .before .before .before .before .before .before .before .before .before .sheet-at .ensures s q g in c .before .before .before .before .before .before .first-deep .ensures (s .nodes) _ (l .nodes .items) (r .clocks) (r .few) (r .few) (r .found)
+returns c = λ s q g r. let l = c .before .before .before .before .before .before .before .before .before .before .before .before .before .before .before .sheet-at .ensures s q g in c .before .before .before .before .before .before .before .before .first-deep .ensures (s .nodes) _ (l .nodes .items) (r .clocks) (r .few) (r .few) (r .found)
 
 pub first-deep-spec : {M : Type 1} → statement M
 first-deep-spec =
@@ -34,4 +37,5 @@ first-deep-spec =
     first-deep-requires
     same-length
     same-length-2
+    same-length-3
     returns)

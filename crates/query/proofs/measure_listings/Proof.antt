@@ -17,14 +17,14 @@ use Rattle.query.proofs.measure_listings.Statement.{statement}
 use Rattle.query.proofs.measure_listings.Tie as tie
 
 abbrev Inv-loop : tie.InvT-loop
-Inv-loop starts letters tags values names n from env₀ table₀ rows₀ chain₀ place₀ at₀ i₀ env table rows chain place at i =
-    (length env ≡ length env₀) × (length table ≡ length table₀) × (length rows ≡ length rows₀) × (length chain ≡ length chain₀) × (at ≤ 4294967296 * i) × (i ≤ n) × ((ns : List Node) (q : ℕ) → times n (node names) (tokens tags values) from ≡ got ns q → Roomy names (length tags) env₀ table₀ → Ample table₀ rows₀ chain₀ → length letters ≤ 16384 → length tags ≤ 4096 → Sizing names (tokens tags values) (lettersAt starts letters) (n - i) i place q at (clockings 0 ns))
+Inv-loop starts letters tags values names n from env₀ table₀ rows₀ chain₀ sites₀ place₀ at₀ i₀ env table rows chain sites place at i =
+    (length env ≡ length env₀) × (length table ≡ length table₀) × (length rows ≡ length rows₀) × (length chain ≡ length chain₀) × (length sites ≡ length sites₀) × (at ≤ 4294967296 * i) × (i ≤ n) × ((ns : List Node) (q : ℕ) → times n (node names) (tokens tags values) from ≡ got ns q → Roomy names (length tags) env₀ table₀ sites₀ → Ample table₀ rows₀ chain₀ → length letters ≤ 16384 → length tags ≤ 4096 → Sizing names (tokens tags values) (lettersAt starts letters) (n - i) i place q at (clockings 0 ns))
 
 abbrev μ-loop : tie.MeasureT-loop
-μ-loop starts letters tags values names n from env₀ table₀ rows₀ chain₀ place₀ at₀ i₀ env table rows chain place at i = n - i
+μ-loop starts letters tags values names n from env₀ table₀ rows₀ chain₀ sites₀ place₀ at₀ i₀ env table rows chain sites place at i = n - i
 
 loop-holds : tie.Need-loop-holds Inv-loop μ-loop
-loop-holds c = (refl, refl, refl, refl, omega arith, omega arith, λ ns q g r a x y. sizing-none _ _ _ _ _ q ns g)
+loop-holds c = (refl, refl, refl, refl, refl, omega arith, omega arith, λ ns q g r a x y. sizing-none _ _ _ _ _ _ q ns g)
 
 node-at-requires : tie.Need-node-at-requires Inv-loop μ-loop
 node-at-requires c κs = search needs
@@ -42,49 +42,55 @@ enum-told : tie.Need-enum-told Inv-loop μ-loop
 enum-told c = search needs
 
 same-length : tie.Need-same-length Inv-loop μ-loop
-same-length c = c .before .before .before .before .before .before .clock-laid .kept .1 .1 .1 .1 .1 .0 ∙ c .before .before .before .before .before .before .before .before .before .before .before .before .loop .inv .0
+same-length c = c .before .before .before .before .before .before .before .before .clock-laid .kept .1 .1 .1 .1 .1 .0 ∙ c .before .before .before .before .before .before .before .before .before .before .before .before .before .before .before .loop .inv .0
 
 same-length-2 : tie.Need-same-length-2 Inv-loop μ-loop
-same-length-2 c = c .before .before .before .before .before .before .clock-laid .kept .1 .1 .1 .1 .1 .1 .0 ∙ c .before .before .before .before .before .before .before .before .before .before .before .before .loop .inv .1
+same-length-2 c = c .before .before .before .before .before .before .before .before .clock-laid .kept .1 .1 .1 .1 .1 .1 .0 ∙ c .before .before .before .before .before .before .before .before .before .before .before .before .before .before .before .loop .inv .1
 
 same-length-3 : tie.Need-same-length-3 Inv-loop μ-loop
-same-length-3 c = c .before .before .before .before .before .before .before .before .before .before .before .before .loop .inv .2
+same-length-3 c = c .before .before .before .before .before .before .before .before .before .before .before .before .before .before .before .loop .inv .2
 
 same-length-4 : tie.Need-same-length-4 Inv-loop μ-loop
-same-length-4 c = c .before .before .before .before .before .before .before .before .before .before .before .before .loop .inv .3
-
-returns : tie.Need-returns Inv-loop μ-loop
-returns c = (omega arith, λ ns q g r a x y. measures-deep _ ns q _ (sizing-deep _ _ _ _ _ _ q _ _ _ (c .before .before .before .before .before .before .before .before .before .before .before .loop-test .taken) (c .before .before .before .before .before .before .before .before .before .before .node-at .ensures) (c .before .before .before .before .before .before .before .before .before .before .before .before .loop .inv .6 ns q g r a x y) _ (c .before .before .before .before .before .before .before .before .before .wide .ensures) _ _ _ (λ n s d. c .before .before .before .before .before .before .clock-laid .ensures n s d (roomy-kept _ _ _ _ _ _ r (c .before .before .before .before .before .before .before .before .before .before .before .before .loop .inv .0) (c .before .before .before .before .before .before .before .before .before .before .before .before .loop .inv .1))) _ (c .enum-told .given .1)))
-
-measure-told-requires : tie.Need-measure-told-requires Inv-loop μ-loop
-measure-told-requires c κs = c .before .before .before .before .before .before .before .before .before .before .before .before .before .before .before .before .before .before .before .before .before .before .before .before .before .before .pre
-
-add-at : tie.Need-add-at Inv-loop μ-loop
-add-at c = omega (arith, c .before .before .before .before .before .before .before .before .before .before .before .before .before .before .before .before .before .before .before .before .before .before .before .loop .inv .4, c .before .before .before .before .before .measure-told .ensures .0, c .before .before .before .before .before .before .before .before .before .before .before .before .before .before .before .before .before .before .before .before .before .before .loop-test .taken, c .before .before .before .before .before .before .before .before .before .before .before .before .before .before .before .before .before .before .before .before .before .before .before .before .before .before .before .before .before .before .before .before .fits .n)
-
-add-i : tie.Need-add-i Inv-loop μ-loop
-add-i c = omega (arith, c .before .before .before .before .before .before .before .before .before .before .before .before .before .before .before .before .before .before .before .before .before .before .loop-test .taken, c .before .before .before .before .before .before .before .before .before .before .before .before .before .before .before .before .before .before .before .before .before .before .before .before .before .before .before .before .before .before .before .before .fits .n)
-
-loop-less : tie.Need-loop-less Inv-loop μ-loop
-loop-less c = omega (arith, c .before .before .before .before .before .before .before .before .before .before .before .before .before .before .before .before .before .before .before .before .before .before .loop-test .taken)
-
-loop-again : tie.Need-loop-again Inv-loop μ-loop
-loop-again c = (c .before .before .before .before .before .before .before .before .before .before .before .before .before .before .before .before .before .clock-laid .kept .1 .1 .1 .1 .1 .0 ∙ c .before .before .before .before .before .before .before .before .before .before .before .before .before .before .before .before .before .before .before .before .before .before .before .loop .inv .0, c .before .before .before .before .before .before .before .before .before .before .before .before .before .before .before .before .before .clock-laid .kept .1 .1 .1 .1 .1 .1 .0 ∙ c .before .before .before .before .before .before .before .before .before .before .before .before .before .before .before .before .before .before .before .before .before .before .before .loop .inv .1, c .before .before .before .before .before .measure-told .kept .1 .1 .1 .1 .1 .1 .1 .0 ∙ c .before .before .before .before .before .before .before .before .before .before .before .before .before .before .before .before .before .before .before .before .before .before .before .loop .inv .2, c .before .before .before .before .before .measure-told .kept .1 .1 .1 .1 .1 .1 .1 .1 .0 ∙ c .before .before .before .before .before .before .before .before .before .before .before .before .before .before .before .before .before .before .before .before .before .before .before .loop .inv .3, omega (arith, c .before .before .before .before .before .before .before .before .before .before .before .before .before .before .before .before .before .before .before .before .before .before .before .loop .inv .4, c .before .before .before .before .before .measure-told .ensures .0), omega (arith, c .before .before .before .before .before .before .before .before .before .before .before .before .before .before .before .before .before .before .before .before .before .before .loop-test .taken), λ ns q g r a x y. sizing-more _ _ _ _ _ _ q _ _ _ (c .before .before .before .before .before .before .before .before .before .before .before .before .before .before .before .before .before .before .before .before .before .before .loop-test .taken) (c .before .before .before .before .before .before .before .before .before .before .before .before .before .before .before .before .before .before .before .before .before .node-at .ensures) (c .before .before .before .before .before .before .before .before .before .before .before .before .before .before .before .before .before .before .before .before .before .before .before .loop .inv .6 ns q g r a x y) _ (c .before .before .before .before .before .before .before .before .before .before .before .before .before .before .before .before .before .before .before .before .wide .ensures) _ _ _ (λ n s d. c .before .before .before .before .before .before .before .before .before .before .before .before .before .before .before .before .before .clock-laid .ensures n s d (roomy-kept _ _ _ _ _ _ r (c .before .before .before .before .before .before .before .before .before .before .before .before .before .before .before .before .before .before .before .before .before .before .before .loop .inv .0) (c .before .before .before .before .before .before .before .before .before .before .before .before .before .before .before .before .before .before .before .before .before .before .before .loop .inv .1))) _ _ _ (c .before .before .before .before .before .before .before .before .before .before .before .answer .given .1) (λ n z. c .before .before .before .before .before .measure-told .ensures .1 n z (ample-kept _ _ _ a _ _ _ (c .before .before .before .before .before .before .before .before .before .before .before .before .before .before .before .before .before .clock-laid .kept .1 .1 .1 .1 .1 .1 .0 ∙ c .before .before .before .before .before .before .before .before .before .before .before .before .before .before .before .before .before .before .before .before .before .before .before .loop .inv .1) (c .before .before .before .before .before .before .before .before .before .before .before .before .before .before .before .before .before .before .before .before .before .before .before .loop .inv .2) (c .before .before .before .before .before .before .before .before .before .before .before .before .before .before .before .before .before .before .before .before .before .before .before .loop .inv .3)) x y .long) refl)
+same-length-4 c = c .before .before .before .before .before .before .before .before .before .before .before .before .before .before .before .loop .inv .3
 
 same-length-5 : tie.Need-same-length-5 Inv-loop μ-loop
-same-length-5 c = c .before .loop .inv .0
+same-length-5 c = c .before .before .before .before .before .before .before .before .clock-laid .kept .1 .1 .1 .1 .1 .1 .1 .0 ∙ c .before .before .before .before .before .before .before .before .before .before .before .before .before .before .before .loop .inv .4
+
+returns : tie.Need-returns Inv-loop μ-loop
+returns c = (omega arith, λ ns q g r a x y. measures-deep _ ns q _ (sizing-deep _ _ _ _ _ _ _ q _ _ _ (c .before .before .before .before .before .before .before .before .before .before .before .before .before .before .loop-test .taken) (c .before .before .before .before .before .before .before .before .before .before .before .before .before .node-at .ensures) (c .before .before .before .before .before .before .before .before .before .before .before .before .before .before .before .loop .inv .7 ns q g r a x y) _ (c .before .before .before .before .before .before .before .before .before .before .before .before .wide .ensures) _ _ _ (λ n s d. c .before .before .before .before .before .before .before .before .clock-laid .ensures n s d (roomy-kept _ _ _ _ _ _ _ _ r (c .before .before .before .before .before .before .before .before .before .before .before .before .before .before .before .loop .inv .0) (c .before .before .before .before .before .before .before .before .before .before .before .before .before .before .before .loop .inv .1) (c .before .before .before .before .before .before .before .before .before .before .before .before .before .before .before .loop .inv .4))) _ (c .enum-told .given .1)))
+
+measure-told-requires : tie.Need-measure-told-requires Inv-loop μ-loop
+measure-told-requires c κs = c .before .before .before .before .before .before .before .before .before .before .before .before .before .before .before .before .before .before .before .before .before .before .before .before .before .before .before .before .before .before .pre
+
+add-at : tie.Need-add-at Inv-loop μ-loop
+add-at c = omega (arith, c .before .before .before .before .before .before .before .before .before .before .before .before .before .before .before .before .before .before .before .before .before .before .before .before .before .before .loop .inv .5, c .before .before .before .before .before .measure-told .ensures .0, c .before .before .before .before .before .before .before .before .before .before .before .before .before .before .before .before .before .before .before .before .before .before .before .before .before .loop-test .taken, c .before .before .before .before .before .before .before .before .before .before .before .before .before .before .before .before .before .before .before .before .before .before .before .before .before .before .before .before .before .before .before .before .before .before .before .before .fits .n)
+
+add-i : tie.Need-add-i Inv-loop μ-loop
+add-i c = omega (arith, c .before .before .before .before .before .before .before .before .before .before .before .before .before .before .before .before .before .before .before .before .before .before .before .before .before .loop-test .taken, c .before .before .before .before .before .before .before .before .before .before .before .before .before .before .before .before .before .before .before .before .before .before .before .before .before .before .before .before .before .before .before .before .before .before .before .before .fits .n)
+
+loop-less : tie.Need-loop-less Inv-loop μ-loop
+loop-less c = omega (arith, c .before .before .before .before .before .before .before .before .before .before .before .before .before .before .before .before .before .before .before .before .before .before .before .before .before .loop-test .taken)
+
+loop-again : tie.Need-loop-again Inv-loop μ-loop
+loop-again c = (c .before .before .before .before .before .before .before .before .before .before .before .before .before .before .before .before .before .before .before .clock-laid .kept .1 .1 .1 .1 .1 .0 ∙ c .before .before .before .before .before .before .before .before .before .before .before .before .before .before .before .before .before .before .before .before .before .before .before .before .before .before .loop .inv .0, c .before .before .before .before .before .before .before .before .before .before .before .before .before .before .before .before .before .before .before .clock-laid .kept .1 .1 .1 .1 .1 .1 .0 ∙ c .before .before .before .before .before .before .before .before .before .before .before .before .before .before .before .before .before .before .before .before .before .before .before .before .before .before .loop .inv .1, c .before .before .before .before .before .measure-told .kept .1 .1 .1 .1 .1 .1 .1 .0 ∙ c .before .before .before .before .before .before .before .before .before .before .before .before .before .before .before .before .before .before .before .before .before .before .before .before .before .before .loop .inv .2, c .before .before .before .before .before .measure-told .kept .1 .1 .1 .1 .1 .1 .1 .1 .0 ∙ c .before .before .before .before .before .before .before .before .before .before .before .before .before .before .before .before .before .before .before .before .before .before .before .before .before .before .loop .inv .3, c .before .before .before .before .before .before .before .before .before .before .before .before .before .before .before .before .before .before .before .clock-laid .kept .1 .1 .1 .1 .1 .1 .1 .0 ∙ c .before .before .before .before .before .before .before .before .before .before .before .before .before .before .before .before .before .before .before .before .before .before .before .before .before .before .loop .inv .4, omega (arith, c .before .before .before .before .before .before .before .before .before .before .before .before .before .before .before .before .before .before .before .before .before .before .before .before .before .before .loop .inv .5, c .before .before .before .before .before .measure-told .ensures .0), omega (arith, c .before .before .before .before .before .before .before .before .before .before .before .before .before .before .before .before .before .before .before .before .before .before .before .before .before .loop-test .taken), λ ns q g r a x y. sizing-more _ _ _ _ _ _ _ q _ _ _ (c .before .before .before .before .before .before .before .before .before .before .before .before .before .before .before .before .before .before .before .before .before .before .before .before .before .loop-test .taken) (c .before .before .before .before .before .before .before .before .before .before .before .before .before .before .before .before .before .before .before .before .before .before .before .before .node-at .ensures) (c .before .before .before .before .before .before .before .before .before .before .before .before .before .before .before .before .before .before .before .before .before .before .before .before .before .before .loop .inv .7 ns q g r a x y) _ (c .before .before .before .before .before .before .before .before .before .before .before .before .before .before .before .before .before .before .before .before .before .before .before .wide .ensures) _ _ _ (λ n s d. c .before .before .before .before .before .before .before .before .before .before .before .before .before .before .before .before .before .before .before .clock-laid .ensures n s d (roomy-kept _ _ _ _ _ _ _ _ r (c .before .before .before .before .before .before .before .before .before .before .before .before .before .before .before .before .before .before .before .before .before .before .before .before .before .before .loop .inv .0) (c .before .before .before .before .before .before .before .before .before .before .before .before .before .before .before .before .before .before .before .before .before .before .before .before .before .before .loop .inv .1) (c .before .before .before .before .before .before .before .before .before .before .before .before .before .before .before .before .before .before .before .before .before .before .before .before .before .before .loop .inv .4))) _ _ _ (c .before .before .before .before .before .before .before .before .before .before .before .answer .given .1) (λ n z. c .before .before .before .before .before .measure-told .ensures .1 n z (ample-kept _ _ _ a _ _ _ (c .before .before .before .before .before .before .before .before .before .before .before .before .before .before .before .before .before .before .before .clock-laid .kept .1 .1 .1 .1 .1 .1 .0 ∙ c .before .before .before .before .before .before .before .before .before .before .before .before .before .before .before .before .before .before .before .before .before .before .before .before .before .before .loop .inv .1) (c .before .before .before .before .before .before .before .before .before .before .before .before .before .before .before .before .before .before .before .before .before .before .before .before .before .before .loop .inv .2) (c .before .before .before .before .before .before .before .before .before .before .before .before .before .before .before .before .before .before .before .before .before .before .before .before .before .before .loop .inv .3)) x y .long) refl)
 
 same-length-6 : tie.Need-same-length-6 Inv-loop μ-loop
-same-length-6 c = c .before .loop .inv .1
+same-length-6 c = c .before .loop .inv .0
 
 same-length-7 : tie.Need-same-length-7 Inv-loop μ-loop
-same-length-7 c = c .before .loop .inv .2
+same-length-7 c = c .before .loop .inv .1
 
 same-length-8 : tie.Need-same-length-8 Inv-loop μ-loop
-same-length-8 c = c .before .loop .inv .3
+same-length-8 c = c .before .loop .inv .2
+
+same-length-9 : tie.Need-same-length-9 Inv-loop μ-loop
+same-length-9 c = c .before .loop .inv .3
+
+same-length-10 : tie.Need-same-length-10 Inv-loop μ-loop
+same-length-10 c = c .before .loop .inv .4
 
 returns-2 : tie.Need-returns-2 Inv-loop μ-loop
-returns-2 c = (omega (arith, c .before .loop .inv .4, c .before .loop .inv .5), λ ns q g r a x y. sizing-all _ _ _ ns _ _ _ q _ (omega (arith, c .loop-test .left)) (c .before .loop .inv .6 ns q g r a x y))
+returns-2 c = (omega (arith, c .before .loop .inv .5, c .before .loop .inv .6), λ ns q g r a x y. sizing-all _ _ _ _ ns _ _ _ q _ (omega (arith, c .loop-test .left)) (c .before .loop .inv .7 ns q g r a x y))
 
 pub measure-listings-spec : {M : Type 1} → statement M
 measure-listings-spec =
@@ -102,14 +108,16 @@ measure-listings-spec =
     same-length-2
     same-length-3
     same-length-4
+    same-length-5
     returns
     measure-told-requires
     add-at
     add-i
     loop-less
     loop-again
-    same-length-5
     same-length-6
     same-length-7
     same-length-8
+    same-length-9
+    same-length-10
     returns-2)

@@ -38,7 +38,7 @@ same-length-5 : tie.Need-same-length-5
 same-length-5 c = search needs
 
 returns : tie.Need-returns
-returns c = λ n z a small. let w = ample-room _ _ _ a _ _ refl (z .tells .room) in node-written _ _ _ _ _ n z _ _ _ _ _ _ _ _ _ _ small (c .before .before .before .before .before .before .before .before .before .before .before .before .before .before .before .before .before .before .before .narrow .ensures) (c .wide .ensures) (c .before .before .before .before .before .before .before .before .before .before .before .before .before .before .before .before .before .write-equations .ensures) (c .before .before .before .before .before .before .before .before .before .before .before .write-chains .ensures .0 (w .0) (w .1) (few _ (w .2))) (c .before .before .before .before .before .before .before .before .before .before .before .write-chains .ensures .1 (w .0) (w .1) (few _ (w .2))) (c .before .before .before .write-faults .ensures .0) (c .before .before .before .write-faults .ensures .1)
+returns c = λ n z a small. let w = ample-room _ _ _ a _ _ refl (z .tells .room) in node-written _ _ _ _ _ _ n z _ _ _ _ _ _ _ _ _ _ small (c .before .before .before .before .before .before .before .before .before .before .before .before .before .before .before .before .before .before .before .narrow .ensures) (c .wide .ensures) (c .before .before .before .before .before .before .before .before .before .before .before .before .before .before .before .before .before .write-equations .ensures) (c .before .before .before .before .before .before .before .before .before .before .before .write-chains .ensures .0 (w .0) (w .1) (few _ (w .2))) (c .before .before .before .before .before .before .before .before .before .before .before .write-chains .ensures .1 (w .0) (w .1) (few _ (w .2))) (c .before .before .before .write-faults .ensures .0) (c .before .before .before .write-faults .ensures .1)
 
 pub write-clocks-spec : {M : Type 1} → statement M
 write-clocks-spec =

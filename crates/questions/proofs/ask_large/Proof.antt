@@ -18,6 +18,9 @@ slice-aggregate-ask-in-3 c = search needs
 slice-aggregate-ask-in-4 : tie.Need-slice-aggregate-ask-in-4
 slice-aggregate-ask-in-4 c = search needs
 
+slice-aggregate-ask-in-5 : tie.Need-slice-aggregate-ask-in-5
+slice-aggregate-ask-in-5 c = search needs
+
 ask-in-requires : tie.Need-ask-in-requires
 ask-in-requires c κs = search needs
 
@@ -34,7 +37,7 @@ same-length-4 : tie.Need-same-length-4
 same-length-4 c = search needs
 
 returns : tie.Need-returns
-returns c = λ bytes i h. c .before .before .before .before .before .before .before .before .before .before .before .before .ask-in .ensures bytes i h (record { found = roomy-of 1024 4096 _ _ _ _ (omega arith) (h .standing .few-names) (h .standing .few-tokens) refl refl; chained = ample-of 4096 _ _ _ (omega arith) refl refl refl })
+returns c = λ bytes i h. c .before .before .before .before .before .before .before .before .before .before .before .before .before .ask-in .ensures bytes i h (record { found = roomy-of 1024 4096 _ _ _ _ _ (omega arith) (h .standing .few-names) (h .standing .few-tokens) refl refl refl; chained = ample-of 4096 _ _ _ (omega arith) refl refl refl; typed = omega (arith, h .standing .few-names); planned = omega (arith, h .standing .few-tokens) })
 
 pub ask-large-spec : {M : Type 1} → statement M
 ask-large-spec =
@@ -44,6 +47,7 @@ ask-large-spec =
     slice-aggregate-ask-in-2
     slice-aggregate-ask-in-3
     slice-aggregate-ask-in-4
+    slice-aggregate-ask-in-5
     ask-in-requires
     same-length
     same-length-2

@@ -7,7 +7,7 @@ use denote.Ref.{now}
 use Rattle.operands.proofs.Roles.{arm}
 use Rattle.operands.proofs.Apart.{at-or-past}
 use Rattle.operands.proofs.Laws.{left-there}
-use Rattle.operand_type.proofs.Laws.{not-past, first-of, ops-when}
+use Rattle.typing.proofs.Laws.{not-past, first-of, ops-when}
 use Rattle.rewritten_shape.proofs.Laws.{name-after, when-after, call-after as call-shape, other-after}
 use borrow.Author.Needs.{needs}
 use Prim.Native.Nat.{ℕ, _<_}

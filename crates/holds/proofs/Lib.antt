@@ -1,0 +1,2 @@
+-- What the proofs of several functions use, and those of other crates.
+pub mod Laws

@@ -1,0 +1,185 @@
+-- `rewriting::walk_clocked` meets its contract: what has a clock too deep or a fault is not written. Assumes nothing.
+use mathlib.Core.Path.{refl, _∙_}
+use Rattle.rewriting.proofs.Nodes.{planned-node, never-put, full-put, not-deep, not-faulty}
+use borrow.Author.Needs.{needs}
+use Rattle.rewriting.proofs.walk_clocked.Statement.{statement}
+use Rattle.rewriting.proofs.walk_clocked.Tie as tie
+
+laid-found-requires : tie.Need-laid-found-requires
+laid-found-requires c κs = search needs
+
+same-length : tie.Need-same-length
+same-length c = search needs
+
+same-length-2 : tie.Need-same-length-2
+same-length-2 c = search needs
+
+same-length-3 : tie.Need-same-length-3
+same-length-3 c = search needs
+
+same-length-4 : tie.Need-same-length-4
+same-length-4 c = search needs
+
+same-length-5 : tie.Need-same-length-5
+same-length-5 c = search needs
+
+same-length-6 : tie.Need-same-length-6
+same-length-6 c = search needs
+
+same-length-7 : tie.Need-same-length-7
+same-length-7 c = search needs
+
+same-length-8 : tie.Need-same-length-8
+same-length-8 c = search needs
+
+returns : tie.Need-returns
+returns c =
+    let f = c .before .before .before .before .before .before .before .before .before .before .before .before .before .before .before .before .before .before .laid-found .ensures in
+    (c .before .before .before .before .before .before .before .before .before .before .before .before .before .before .before .before .before .before .before .before .before .before .before .before .before .before .before .before .before .before .before .before .before .before .before .before .before .before .before .pre .1 .1, (λ node q d r. f .0 node q d (r .plans), (λ i node q k h d u e r. f .1 i node q k h d u e (r .plans) .fault, λ r. never-put (λ i n h u. not-deep n _ (u .clean .forms) (f .0 (n .node) _ (u .laid) (r .plans)) (c .if1 .taken)))))
+
+same-length-9 : tie.Need-same-length-9
+same-length-9 c = search needs
+
+same-length-10 : tie.Need-same-length-10
+same-length-10 c = search needs
+
+same-length-11 : tie.Need-same-length-11
+same-length-11 c = search needs
+
+same-length-12 : tie.Need-same-length-12
+same-length-12 c = search needs
+
+same-length-13 : tie.Need-same-length-13
+same-length-13 c = search needs
+
+same-length-14 : tie.Need-same-length-14
+same-length-14 c = search needs
+
+same-length-15 : tie.Need-same-length-15
+same-length-15 c = search needs
+
+same-length-16 : tie.Need-same-length-16
+same-length-16 c = search needs
+
+returns-2 : tie.Need-returns-2
+returns-2 c =
+    let f = c .before .before .before .before .before .before .before .before .before .before .before .before .before .before .before .before .before .before .before .laid-found .ensures in
+    (c .before .before .before .before .before .before .before .before .before .before .before .before .before .before .before .before .before .before .before .before .before .before .before .before .before .before .before .before .before .before .before .before .before .before .before .before .before .before .before .before .pre .1 .1, (λ node q d r. f .0 node q d (r .plans), (λ i node q k h d u e r. f .1 i node q k h d u e (r .plans) .fault, λ r. never-put (λ i n h u. not-faulty i n _ _ _ (u .clean .clean) (f .1 i (n .node) _ (n .clocking) h (u .laid) (u .uses) (u .clean .forms) (r .plans) .fault) (c .if2 .taken)))))
+
+same-length-17 : tie.Need-same-length-17
+same-length-17 c = search needs
+
+same-length-18 : tie.Need-same-length-18
+same-length-18 c = search needs
+
+same-length-19 : tie.Need-same-length-19
+same-length-19 c = search needs
+
+same-length-20 : tie.Need-same-length-20
+same-length-20 c = search needs
+
+same-length-21 : tie.Need-same-length-21
+same-length-21 c = search needs
+
+same-length-22 : tie.Need-same-length-22
+same-length-22 c = search needs
+
+same-length-23 : tie.Need-same-length-23
+same-length-23 c = search needs
+
+same-length-24 : tie.Need-same-length-24
+same-length-24 c = search needs
+
+returns-3 : tie.Need-returns-3
+returns-3 c =
+    let f = c .before .before .before .before .before .before .before .before .before .before .before .before .before .before .before .before .before .before .before .before .before .laid-found .ensures in
+    (c .before .before .before .before .before .before .before .before .before .before .before .before .before .before .before .before .before .before .before .before .before .before .before .before .before .before .before .before .before .before .before .before .before .before .before .before .before .before .before .before .before .before .pre .1 .1, (λ node q d r. f .0 node q d (r .plans), (λ i node q k h d u e r. f .1 i node q k h d u e (r .plans) .fault, λ r. full-put (c .if3 .taken))))
+
+write-planned-requires : tie.Need-write-planned-requires
+write-planned-requires c κs = (c .before .before .before .before .before .before .before .before .before .before .before .before .before .before .before .before .before .before .before .before .before .before .before .before .before .before .before .before .before .before .before .before .before .before .before .before .before .before .before .before .before .before .before .before .before .before .before .before .before .before .before .before .before .before .before .pre .0, (c .before .before .before .before .before .before .before .before .before .before .before .before .before .before .before .before .before .before .before .before .before .before .before .before .before .before .before .before .before .before .before .before .before .before .before .before .before .before .before .before .before .before .before .before .before .before .before .before .before .before .before .before .before .before .before .pre .1 .0, c .before .before .before .before .before .before .before .before .before .before .before .before .before .before .before .before .before .before .before .before .before .before .before .before .before .before .before .before .before .before .before .before .before .before .before .before .before .before .before .before .before .before .before .before .before .before .before .before .before .before .before .before .before .before .before .pre .1 .1))
+
+same-length-25 : tie.Need-same-length-25
+same-length-25 c = c .before .before .before .before .before .before .before .before .before .before .before .before .before .before .before .before .before .before .before .before .before .before .before .before .before .before .before .before .before .before .before .before .before .before .before .laid-found .kept .1 .1 .1 .1 .1 .0
+
+same-length-26 : tie.Need-same-length-26
+same-length-26 c = c .before .before .before .before .before .before .before .before .before .before .before .before .before .before .before .before .before .before .before .before .before .before .before .before .before .before .before .before .before .before .before .before .before .before .before .laid-found .kept .1 .1 .1 .1 .1 .1 .0
+
+same-length-27 : tie.Need-same-length-27
+same-length-27 c = c .before .before .before .before .before .before .before .before .before .before .before .before .before .before .before .before .before .before .before .before .before .before .before .before .before .before .before .before .before .before .before .before .before .before .before .laid-found .kept .1 .1 .1 .1 .1 .1 .1 .0
+
+same-length-28 : tie.Need-same-length-28
+same-length-28 c = c .before .before .before .before .before .before .before .before .before .before .before .before .before .before .before .before .before .before .before .before .before .before .before .before .before .before .before .before .before .before .before .before .before .before .before .laid-found .kept .1 .1 .1 .1 .1 .1 .1 .1 .0
+
+same-length-29 : tie.Need-same-length-29
+same-length-29 c = c .before .before .before .before .before .before .before .before .before .before .before .before .before .before .before .before .before .before .before .before .before .before .before .before .before .before .before .before .before .before .before .before .before .before .before .laid-found .kept .1 .1 .1 .1 .1 .1 .1 .1 .1 .0
+
+same-length-30 : tie.Need-same-length-30
+same-length-30 c = c .before .before .before .before .before .before .before .before .before .before .before .before .before .before .before .before .before .before .before .before .before .before .before .before .before .before .before .before .before .before .before .before .before .before .before .laid-found .kept .1 .1 .1 .1 .1 .1 .1 .1 .1 .1 .0
+
+same-length-31 : tie.Need-same-length-31
+same-length-31 c = c .before .before .before .before .before .before .before .before .before .before .before .before .before .before .before .before .before .before .before .before .before .before .before .before .before .before .before .before .before .before .before .before .before .before .before .laid-found .kept .1 .1 .1 .1 .1 .1 .1 .1 .1 .1 .1 .0
+
+same-length-32 : tie.Need-same-length-32
+same-length-32 c = c .before .before .before .before .before .before .before .before .before .before .before .before .before .before .before .before .before .before .before .before .before .before .before .before .before .before .before .before .before .before .before .before .before .before .before .laid-found .kept .1 .1 .1 .1 .1 .1 .1 .1 .1 .1 .1 .1 .0
+
+returns-4 : tie.Need-returns-4
+returns-4 c =
+    let f = c .before .before .before .before .before .before .before .before .before .before .before .before .before .before .before .before .before .before .before .before .before .before .before .before .before .before .before .before .before .before .before .before .before .before .before .laid-found .ensures in
+    let w = c .write-planned .ensures in
+    let kept = c .before .before .before .before .before .before .before .before .before .before .before .before .before .before .before .before .before .before .before .before .before .before .before .before .before .before .before .before .before .before .before .before .before .before .before .laid-found .kept in (
+      w .0,
+      (
+        λ node q d r. f .0 node q d (r .plans),
+        (
+          λ i node q k h d u e r. f .1 i node q k h d u e (r .plans) .fault,
+          λ r. record {
+            free = λ e. c .before .before .before .before .before .before .before .before .before .before .before .before .before .before .if3 .left;
+            names = λ i n before h u held. w .1 .0 (i .names) before (i .sheet) n (planned-node h u (kept .1 .1 .1 .1 .1 .1 .1 .1 .1 .1 .0 ∙ r .flag-room) (kept .1 .1 .1 .1 .1 .1 .1 .1 .1 .1 .1 .0 ∙ r .first-room) (kept .1 .1 .1 .1 .1 .1 .1 .1 .1 .1 .1 .1 .0 ∙ r .hold-room) (f .1 i (n .node) _ (n .clocking) h (u .laid) (u .uses) (u .clean .forms) (r .plans) .planned refl (u .clean .clean))) held;
+            tokens = λ i n before all h u held ahead free. w .1 .1 (i .names) before all (i .sheet) n (planned-node h u (kept .1 .1 .1 .1 .1 .1 .1 .1 .1 .1 .0 ∙ r .flag-room) (kept .1 .1 .1 .1 .1 .1 .1 .1 .1 .1 .1 .0 ∙ r .first-room) (kept .1 .1 .1 .1 .1 .1 .1 .1 .1 .1 .1 .1 .0 ∙ r .hold-room) (f .1 i (n .node) _ (n .clocking) h (u .laid) (u .uses) (u .clean .forms) (r .plans) .planned refl (u .clean .clean))) held ahead free;
+          },
+        ),
+      ),
+    )
+
+pub walk-clocked-spec : {M : Type 1} → statement M
+walk-clocked-spec =
+    tie.close
+    (tie.spec
+    laid-found-requires
+    same-length
+    same-length-2
+    same-length-3
+    same-length-4
+    same-length-5
+    same-length-6
+    same-length-7
+    same-length-8
+    returns
+    same-length-9
+    same-length-10
+    same-length-11
+    same-length-12
+    same-length-13
+    same-length-14
+    same-length-15
+    same-length-16
+    returns-2
+    same-length-17
+    same-length-18
+    same-length-19
+    same-length-20
+    same-length-21
+    same-length-22
+    same-length-23
+    same-length-24
+    returns-3
+    write-planned-requires
+    same-length-25
+    same-length-26
+    same-length-27
+    same-length-28
+    same-length-29
+    same-length-30
+    same-length-31
+    same-length-32
+    returns-4)

@@ -125,7 +125,7 @@ def weights(root, crates):
 
 def prove(root, programs, progress, screen):
     """Runs `rt check` and shows how far it is; its lines are kept, and a refusal is told with where the prover's words are."""
-    screen.say('proving and building the programs, once: some fifteen minutes on two cores, less if some of it is there')
+    screen.say('proving and building the programs, once: fifteen to twenty minutes on two cores, less if some of it is there')
     log = os.path.join(root, 'target', 'declock.log')
     with open(log, 'wb') as kept:
         rt = subprocess.Popen(['rt', 'check'] + list(programs), cwd=root, stdin=subprocess.DEVNULL, stdout=subprocess.PIPE,

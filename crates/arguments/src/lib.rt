@@ -69,7 +69,7 @@ fn number(word: &[u8]) -> Word
 pub fn meaning(word: &[u8]) -> Word
     ensures { λ r. ⌜ r ≡ meaningOf (now (word .entry)) ⌝ }
 {
-    if names::same(word, b"--help") {
+    if parts::same(word, b"--help") {
         return Word::Help;
     }
     number(word)

@@ -18,13 +18,13 @@ use Rattle.definitions.specs.Reading.{got}
 use Rattle.definitions.specs.Grammar.{append}
 use Rattle.definitions.specs.Clock.{Clock, isOn, isNot}
 use Rattle.definitions.specs.InferClocks.{Clocks, usedElsewhere, Finding, site, mustBeOn, check, checks}
-use Rattle.extents.specs.Owed.{follows}
-use Rattle.extents.specs.Marks.{isSample}
+use Rattle.layout.specs.Owed.{follows}
+use Rattle.layout.specs.Marks.{isSample}
 use Rattle.operands.specs.declared.Role.{Role}
 use Rattle.operands.specs.Role.{roleOf, roleOfExpr, one, two}
 use Rattle.operands.specs.Spread.{tree}
 use Rattle.operands.proofs.Laws.{reads, token-there}
-use Rattle.needs.specs.Need.{isBare}
+use Rattle.stateless.specs.Need.{isBare}
 use Rattle.skeleton.specs.Lies.{Frame, hole, isPlain, partsAt, Computes, Lies}
 use Rattle.skeleton.specs.Sites.{isSite, WasRead, Sited}
 use Rattle.skeleton.proofs.Laws.{plain-not, Seen, sign-first, expr-first, seen-cons}

@@ -16,13 +16,13 @@ use Rattle.definitions.specs.Tree.{Expr}
 use Rattle.definitions.specs.Clock.{Clock, base, _↓_, depth, deepest, parent, sameClock, endsIn}
 use Rattle.definitions.specs.InferClocks as rules
 use Rattle.definitions.specs.InferClocks.{Clocks, clockOf, deep, formed, conditionOver, natural, Fault, usedElsewhere, whenElsewhere, clockNameElsewhere, Finding, found, site, tooDeep, oneDown, onNatural, mustBeOn, check}
-use Rattle.clock.specs.declared.Presence.{Presence}
-use Rattle.clock.specs.declared.Natural.{Natural}
-use Rattle.clock.specs.Value.{valueOf, naturalAt, naturalOf}
-use Rattle.flat.specs.Flat.{clockIn}
-use Rattle.flat.proofs.Laws.{Within, clock-same}
-use Rattle.environment.specs.Environment.{envAt}
-use Rattle.environment.proofs.Laws.{env-none, env-some}
+use Rattle.clock_tables.specs.declared.Presence.{Presence}
+use Rattle.clock_tables.specs.declared.Natural.{Natural}
+use Rattle.clock_tables.specs.Value.{valueOf, naturalAt, naturalOf}
+use Rattle.clock_tables.specs.Flat.{clockIn}
+use Rattle.clock_tables.proofs.FlatLaws.{Within, clock-same}
+use Rattle.clock_tables.specs.Environment.{envAt}
+use Rattle.clock_tables.proofs.EnvironmentLaws.{env-none, env-some}
 use Rattle.findings.specs.Findings.{FindingsHeld}
 use Rattle.checking.specs.Walk.{isElsewhere, isSiteTag, meets, SiteStored}
 

@@ -19,13 +19,13 @@ use Rattle.definitions.specs.Grammar.{append, counted, name, equation, mostLeft
 use Rattle.definitions.specs.Clock.{Clock, base, _↓_, depth, deepest, parent, isOn, isNot, endsIn}
 use Rattle.definitions.specs.InferClocks as rules
 use Rattle.definitions.specs.InferClocks.{Clocks, clockOf, deep, formed, conditionOver, natural, Finding, found, whenElsewhere, clockNameElsewhere, tooDeep, oneDown, onNatural, mustBeOn, check, checks}
-use Rattle.clock.specs.declared.Presence.{Presence}
-use Rattle.clock.specs.declared.Natural.{Natural}
-use Rattle.clock.specs.Value.{valueOf, naturalAt, naturalOf}
-use Rattle.extents.specs.Marks.{isSample}
-use Rattle.extents.proofs.Owed.{owed-on, owed-few}
-use Rattle.flat.specs.Flat.{clockIn}
-use Rattle.environment.specs.Environment.{envAt, Agrees}
+use Rattle.clock_tables.specs.declared.Presence.{Presence}
+use Rattle.clock_tables.specs.declared.Natural.{Natural}
+use Rattle.clock_tables.specs.Value.{valueOf, naturalAt, naturalOf}
+use Rattle.layout.specs.Marks.{isSample}
+use Rattle.layout.proofs.Owed.{owed-on, owed-few}
+use Rattle.clock_tables.specs.Flat.{clockIn}
+use Rattle.clock_tables.specs.Environment.{envAt, Agrees}
 use Rattle.findings.specs.Findings.{FindingsHeld}
 use Rattle.operands.specs.declared.Role.{Role}
 use Rattle.operands.specs.Role.{roleOfExpr, one}

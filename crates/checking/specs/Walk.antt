@@ -11,8 +11,8 @@ use Rattle.definitions.specs.Lists.{choose, all}
 use Rattle.definitions.specs.Tree.{Equation, Node}
 use Rattle.definitions.specs.Clock.{Clock, sameClock}
 use Rattle.definitions.specs.InferClocks.{Clocks, isPort, usedElsewhere, Finding, found, site, tooDeep, mustBeOn, check}
-use Rattle.flat.specs.Flat.{clockIn}
-use Rattle.environment.specs.Environment.{Agrees}
+use Rattle.clock_tables.specs.Flat.{clockIn}
+use Rattle.clock_tables.specs.Environment.{Agrees}
 use Rattle.findings.specs.Findings.{FindingsHeld}
 use Rattle.skeleton.specs.Sites.{EquationSited}
 use Rattle.checking.specs.declared.CheckedTo.{CheckedTo}

@@ -1,9 +1,9 @@
 // Checking of clocks in an accepted sheet, from an equation's clock down: what it meets goes into a table of findings, the clock
 // of each `pre`, `->`, call and equation into its token's row of `sites`, seventeen words each.
 // `tags` and `values` are as long as each other; `names` is the number of names; `env` has the names' clocks.
-use clock::Clock;
-use clock::Natural;
-use clock::Presence;
+use clock_tables::Clock;
+use clock_tables::Natural;
+use clock_tables::Presence;
 use definitions::Condition;
 use definitions::MOST_LEFT;
 use definitions::Test;
@@ -23,9 +23,9 @@ ghost use Rattle.definitions.specs.Grammar as grammar;
 ghost use Rattle.definitions.specs.Clock as clocked;
 ghost use Rattle.definitions.specs.Clock.{_↓_, parent, isOn, isNot};
 ghost use Rattle.definitions.specs.InferClocks.{Clocks, clockOf, formed, leftElsewhere, usedElsewhere, clockNameElsewhere, Finding, oneDown, onNatural, mustBeOn, check, checks, checkLeft, checkEquation};
-ghost use Rattle.extents.specs.Owed as owed;
-ghost use Rattle.clock.specs.Value.{valueOf, naturalOf};
-ghost use Rattle.environment.specs.Environment.{envAt, Agrees};
+ghost use Rattle.layout.specs.Owed as owed;
+ghost use Rattle.clock_tables.specs.Value.{valueOf, naturalOf};
+ghost use Rattle.clock_tables.specs.Environment.{envAt, Agrees};
 ghost use Rattle.findings.specs.Findings.{FindingsHeld};
 ghost use Rattle.operands.specs.Spread.{tree};
 ghost use Rattle.skeleton.specs.Lies.{Frame, Lies, LiesAt};
@@ -42,13 +42,13 @@ pub struct CheckedTo {
 fn elsewhere(env: &[u32], x: u32, on: Clock) -> bool
     ensures { λ r. ⌜ r ≡ isElsewhere (valueOf on) (envAt (now (env .entry)) x) ⌝ }
 {
-    let b = flat::WORDS * (x as usize);
-    let w = flat::word_at(env, b);
+    let b = clock_tables::WORDS * (x as usize);
+    let w = clock_tables::word_at(env, b);
     if w == 0 {
         return false;
     }
-    let own = flat::load(env, b);
-    if clock::same_clock(own, on) {
+    let own = clock_tables::load(env, b);
+    if clock_tables::same_clock(own, on) {
         false
     } else {
         true
@@ -61,8 +61,8 @@ fn used_on(env: &[u32], table: &mut [u32], n: usize, equation: u32, x: u32, on: 
     ensures { λ r. ⌜ ((clocks : Clocks) (fs : List Finding) → envAt (now (env .entry)) x ≡ clockOf clocks x → FindingsHeld (now (table .entry)) n fs → FindingsHeld (now (table .exit)) r (fs ++ mustBeOn clocks equation (valueOf on) x (λ d. usedElsewhere x d (valueOf on)))) ⌝ }
 {
     if elsewhere(env, x, on) {
-        let b = flat::WORDS * (x as usize);
-        let d = flat::load(env, b);
+        let b = clock_tables::WORDS * (x as usize);
+        let d = clock_tables::load(env, b);
         return findings::push_used(table, n, equation, x, d, on);
     }
     n
@@ -74,8 +74,8 @@ fn samples_on(env: &[u32], table: &mut [u32], n: usize, equation: u32, x: u32, o
     ensures { λ r. ⌜ ((clocks : Clocks) (fs : List Finding) → envAt (now (env .entry)) x ≡ clockOf clocks x → FindingsHeld (now (table .entry)) n fs → FindingsHeld (now (table .exit)) r (fs ++ mustBeOn clocks equation (valueOf on) x (λ d. clockNameElsewhere x d (valueOf on)))) ⌝ }
 {
     if elsewhere(env, x, on) {
-        let b = flat::WORDS * (x as usize);
-        let d = flat::load(env, b);
+        let b = clock_tables::WORDS * (x as usize);
+        let d = clock_tables::load(env, b);
         return findings::push_clock_name(table, n, equation, x, d, on);
     }
     n
@@ -85,8 +85,8 @@ fn samples_on(env: &[u32], table: &mut [u32], n: usize, equation: u32, x: u32, o
 fn put_site(sites: &mut [u32], at: usize, on: Clock)
     ensures { λ r. ⌜ SiteStored (now (sites .entry)) (now (sites .exit)) true (valueOf on) at ⌝ }
 {
-    if at < sites.len() / flat::WORDS {
-        flat::store(sites, flat::WORDS * at, on);
+    if at < sites.len() / clock_tables::WORDS {
+        clock_tables::store(sites, clock_tables::WORDS * at, on);
     }
 }
 
@@ -191,7 +191,7 @@ fn check_expr(
             n,
         );
     }
-    if extents::is_sample(tag) {
+    if layout::is_sample(tag) {
         let k = sampled_by(tag, value);
         return check_sample(
             tags,
@@ -209,7 +209,7 @@ fn check_expr(
         );
     }
     let m = enter(env, table, sites, equation, on, tag, value, at, n);
-    let many = extents::follow(parts, tag, value);
+    let many = layout::follow(parts, tag, value);
     check_exprs(
         tags,
         values,
@@ -264,7 +264,7 @@ fn check_exprs(
             };
         }
         let tag = tags[from];
-        if extents::is_sample(tag) {
+        if layout::is_sample(tag) {
             let w = check_expr(
                 tags,
                 values,
@@ -292,7 +292,7 @@ fn check_exprs(
             let value = values[from];
             let behind = from + 1;
             m = enter(env, table, sites, equation, on, tag, value, from, m);
-            let more = extents::follow(parts, tag, value);
+            let more = layout::follow(parts, tag, value);
             left = left - 1 + (more as usize);
             from = behind;
         }
@@ -326,7 +326,7 @@ fn check_over(
     let p = over.presence;
     match p {
         Presence::Free => {
-            let b = clock::base();
+            let b = clock_tables::base();
             check_expr(
                 tags,
                 values,
@@ -358,7 +358,7 @@ fn check_over(
             )
         }
         Presence::Deep => {
-            let end = extents::expr_end(tags, values, at);
+            let end = layout::expr_end(tags, values, at);
             let m = findings::push_deep(table, n);
             CheckedTo { end: end, count: m }
         }
@@ -386,9 +386,9 @@ fn check_sample(
     ensures { λ r. ⌜ length (now (sites .exit)) ≡ length (now (sites .entry)) ⌝ }
     ensures { λ r. ⌜ ((e : Expr) (q : ℕ) → k .name < names → tree names (tokens (now (tags .entry)) (now (values .entry))) at ≡ got e q → Traversed names (now (tags .entry)) (now (values .entry)) (now (env .entry)) (now (table .entry)) (now (table .exit)) (now (sites .entry)) (now (sites .exit)) n (λ clocks. check clocks equation (valueOf on) (Expr.when k e)) (λ later. LiesAt (now (tags .entry)) (now (values .entry)) (Sited names (now (tags .entry)) (now (values .entry)) later) (parent (valueOf on)) e at q) at q r) ⌝ }
 {
-    let matching = clock::ends_in(k, on);
+    let matching = clock_tables::ends_in(k, on);
     if matching {
-        let above = clock::parent(on);
+        let above = clock_tables::parent(on);
         let x = k.name;
         let m = samples_on(env, table, n, equation, x, above);
         return check_expr(
@@ -406,7 +406,7 @@ fn check_sample(
         );
     }
     let m = findings::push_when(table, n, equation, k, on);
-    let own = natural::natural_clock(tags, values, names, env, at);
+    let own = inference::natural_clock(tags, values, names, env, at);
     check_over(
         tags,
         values,
@@ -443,7 +443,7 @@ fn check_branch(
     ensures { λ r. ⌜ length (now (sites .exit)) ≡ length (now (sites .entry)) ⌝ }
     ensures { λ r. ⌜ ((e : Expr) (q : ℕ) → tree names (tokens (now (tags .entry)) (now (values .entry))) at ≡ got e q → Traversed names (now (tags .entry)) (now (values .entry)) (now (env .entry)) (now (table .entry)) (now (table .exit)) (now (sites .entry)) (now (sites .exit)) n (λ clocks. oneDown (valueOf on) k (λ d. check clocks equation d e)) (λ later. LiesAt (now (tags .entry)) (now (values .entry)) (Sited names (now (tags .entry)) (now (values .entry)) later) (valueOf on ↓ k) e at q) at q r) ⌝ }
 {
-    let down = clock::push(on, k);
+    let down = clock_tables::push(on, k);
     check_over(
         tags,
         values,
@@ -532,8 +532,8 @@ fn left_on(
     ensures { λ r. ⌜ ((clocks : Clocks) (fs : List Finding) → envAt (now (env .entry)) x ≡ clockOf clocks x → FindingsHeld (now (table .entry)) n fs → FindingsHeld (now (table .exit)) r (fs ++ mustBeOn clocks equation (valueOf on) x (λ d. leftElsewhere x d (valueOf on) port))) ⌝ }
 {
     if elsewhere(env, x, on) {
-        let b = flat::WORDS * (x as usize);
-        let d = flat::load(env, b);
+        let b = clock_tables::WORDS * (x as usize);
+        let d = clock_tables::load(env, b);
         return findings::push_left(table, n, equation, x, d, on, port);
     }
     n
@@ -543,7 +543,7 @@ fn is_port(ports: &[u32], x: u32) -> bool
     ensures { λ r. ⌜ r ≡ eqb (getD (now (ports .entry)) x 0) 1 ⌝ }
 {
     let i = x as usize;
-    let w = flat::word_at(ports, i);
+    let w = clock_tables::word_at(ports, i);
     w == 1
 }
 
@@ -628,7 +628,7 @@ pub fn check_equation(
             );
             let next = w.end;
             let m = w.count;
-            let parts = extents::parts_table();
+            let parts = layout::parts_table();
             check_expr(
                 tags,
                 values,

@@ -33,7 +33,7 @@ use Rattle.checking.proofs.Size.{equations-fit}
 use Rattle.stateless.specs.Sheets.{Formings}
 use Rattle.stateless.proofs.Nodes.{clockings-form}
 use Rattle.stateless.proofs.Answers.{input-refused}
-use Rattle.fault_list.proofs.Laws.{Real}
+use Rattle.clock_pass.proofs.Laws.{Real}
 
 -- ---- a sheet that was read: its nodes are few, and each was read among few tokens
 abbrev ReadIn : ℕ → List TagValue → Node → Type 0

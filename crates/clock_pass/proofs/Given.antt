@@ -10,12 +10,12 @@ use Rattle.definitions.specs.InferClocks.{NodeFault}
 use Rattle.definitions.specs.Refusals.{Answer, accepted, refused, faulty, faultsAfter}
 use Rattle.definitions.specs.Answer.{NodeClocks, faultRecord, clockFaultsAfter, rewriteAnswer, clocksAnswer}
 use Rattle.query.specs.Words.{recordWords, faultWords, entriesOver}
-use Rattle.rewriting.specs.declared.RewriteAnswer.{RewriteAnswer}
-use Rattle.rewriting.specs.Given as words
+use Rattle.declock_project.specs.declared.RewriteAnswer.{RewriteAnswer}
+use Rattle.declock_project.specs.Given as words
 use Rattle.listings.specs.declared.ClocksAnswer.{ClocksAnswer}
 use Rattle.listings.specs.Answers as clock-words
-use Rattle.fault_list.specs.Said.{said}
-use Rattle.fault_list.proofs.Laws.{Real, said-again, none-again, node-said-again, no-node-again}
+use Rattle.clock_pass.specs.Said.{said}
+use Rattle.clock_pass.proofs.Laws.{Real, said-again, none-again, node-said-again, no-node-again}
 use Rattle.clock_pass.specs.Given.{faultsOf, clockFaultsOf, RewriteSaid, RewriteGiven, ClocksSaid, ClocksGiven}
 use Rattle.clock_pass.proofs.Bounds.{good-faults, few-clock-faults, clock-faults-real}
 

@@ -5,11 +5,11 @@ use mathlib.Core.List.{List, [], map}
 use Rattle.definitions.specs.declared.FaultRecord.{FaultRecord}
 use Rattle.definitions.specs.Refusals.{Answer, accepted, refused, faulty, bytesAfter, faultsAfter}
 use Rattle.definitions.specs.Answer.{NodeClocks, faultRecord, clockFaultsAfter}
-use Rattle.rewriting.specs.declared.RewriteAnswer.{RewriteAnswer}
-use Rattle.rewriting.specs.Given.{rewriteAnswered}
+use Rattle.declock_project.specs.declared.RewriteAnswer.{RewriteAnswer}
+use Rattle.declock_project.specs.Given.{rewriteAnswered}
 use Rattle.listings.specs.declared.ClocksAnswer.{ClocksAnswer}
 use Rattle.listings.specs.Answers.{clocksAnswered, equationsAfter, chainsAfter}
-use Rattle.fault_list.specs.Said.{said}
+use Rattle.clock_pass.specs.Said.{said}
 
 -- a sheet's rewriting was asked for: the answer, and the lent bytes and the lent fault list afterwards
 pub record RewriteGiven (v : Answer (List ℕ)) (lent : List ℕ) (list : List FaultRecord) (lent′ : List ℕ) (list′ : List FaultRecord) (r : RewriteAnswer) : Type 0 where

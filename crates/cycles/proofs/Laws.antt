@@ -3,15 +3,15 @@
 use mathlib.Core.Path.{_≡_, refl, sym, _∙_, ap}
 use mathlib.Core.List.{List, [], _∷_, _++_, map, append-assoc, append-nil}
 use mathlib.Core.Bool.{Bool, true, false, _||_, _&&_, not}
-use mathlib.Core.Option.{Option, none, some}
-use Prim.Native.Nat.{ℕ, zero, suc, _+_, _-_, _*_, _/_, _%_, _≤_, _<_}
+use mathlib.Core.Option.{none, some}
+use Prim.Native.Nat.{ℕ, zero, suc, _+_, _-_, _*_, _≤_, _<_}
 use native.Mathlib.Omega.{arith}
-use native.Mathlib.Numerals.{add-one, sub-one}
+use native.Mathlib.Numerals.{add-one}
 use lib.ListN.{length, getD, set, drop, replicate, getD-replicate}
 use lib.Seq.{drop-cons, drop-length, getD-set-same, getD-set-other}
 use lib.Dec.{eqb, ltb}
 use borrow.Author.Tests.{eq-eqb, ne-eqb, eqb-true, eqb-false, lt-ltb, le-ltb, ltb-true, ltb-false}
-use Rattle.definitions.specs.Lists.{choose, all, any, among, keep, find, join, placeBy}
+use Rattle.definitions.specs.Lists.{choose, all, any, among, keep, find, join}
 use Rattle.definitions.specs.Tokens.{TagValue}
 use Rattle.definitions.specs.Tree.{Ty, Declared, Body, TypeDef}
 use Rattle.definitions.specs.Reading.{got, times}
@@ -19,9 +19,9 @@ use Rattle.definitions.specs.Grammar.{name, ty, declaration, typeDef}
 use Rattle.definitions.specs.Types.{target, targets, definitionOf, goesOn, oneStep, reached, reachesItself, firstCycle}
 use Rattle.grammar.proofs.Laws.{times-length}
 use Rattle.grammar.proofs.Got.{times-nil}
-use Rattle.typedefs.specs.declared.Defined.{Defined}
-use Rattle.typedefs.specs.Table.{nowhere, defAt, nameAt, isNamed, firstOf, Table, Named, Described}
-use Rattle.typedefs.proofs.Laws.{FirstField, find-none, find-some, place-true, place-before}
+use Rattle.layout.specs.declared.Defined.{Defined}
+use Rattle.layout.specs.Table.{nowhere, defAt, nameAt, isNamed, firstOf, Table, Named, Described}
+use Rattle.layout.proofs.TypedefsLaws.{FirstField, find-none, find-some, place-true, place-before}
 use Rattle.cycles.specs.declared.Marks.{Marks}
 use Rattle.cycles.specs.Edges.{bit, NamesInSet, isDefined, Marked, ownBody, ownName, MarkedBody, MarkedName, Edges, joined, inside, Acyclic}
 
@@ -135,11 +135,35 @@ module _ (vs places : List ℕ) (n : ℕ) (types : List TypeDef) (t : Named vs p
       pick false true = refl
       pick false false = refl
 
-  pub marked-unknown : n ≤ k → Marked types n (record { set = more; known = false }) (xs ++ (x ∷ []))
-  marked-unknown h = record { holds = holds-more; known = sym (all-append (isDefined types) xs (x ∷ []) ∙ rw (le-ltb (firstOf types x) (length types) (omega (arith, t .count))) (and-false (all (isDefined types) xs))) }
-
   pub marked-known : k < n → Marked types n (record { set = more; known = marks .known }) (xs ++ (x ∷ []))
   marked-known h = record { holds = holds-more; known = m .known ∙ sym (all-append (isDefined types) xs (x ∷ []) ∙ rw (lt-ltb (firstOf types x) (length types) (omega (arith, t .count))) (and-true (all (isDefined types) xs))) }
+
+-- one more name that changes no byte, since no definition has it, or since it is marked already
+module _ (vs places : List ℕ) (n : ℕ) (types : List TypeDef) (t : Named vs places n types) (marks : Marks) (xs : List ℕ) (m : Marked types n marks xs) (x : ℕ) (k : ℕ) (first : k ≡ firstOf types x) where
+  holds-still : ((j : ℕ) → j < n → eqb (nameAt types j) x ≡ true → among (nameAt types j) xs ≡ true) → NamesInSet types n (marks .set) (xs ++ (x ∷ []))
+  holds-still f = record { says = λ j l. m .holds .says j l ∙ ap bit (sym (any-append (eqb (nameAt types j)) xs (x ∷ []) ∙ pick (eqb (nameAt types j) x) (among (nameAt types j) xs) (f j l))) }
+    where
+      pick : (b a : Bool) → (b ≡ true → a ≡ true) → (a || (b || false)) ≡ a
+      pick true true g = refl
+      pick true false g = sym (g refl)
+      pick false true g = refl
+      pick false false g = refl
+
+  pub marked-unknown : n ≤ k → Marked types n (record { set = marks .set; known = false }) (xs ++ (x ∷ []))
+  marked-unknown h =
+      record {
+        holds = holds-still (λ j l e. absurd (omega (arith, t .count, place-before (isNamed x) types nowhere j (omega (arith, t .count)) e)));
+        known = sym (all-append (isDefined types) xs (x ∷ []) ∙ rw (le-ltb (firstOf types x) (length types) (omega (arith, t .count))) (and-false (all (isDefined types) xs)));
+      }
+
+  pub marked-again : k < n → getD (marks .set) k 0 ≡ 1 → Marked types n (record { set = marks .set; known = marks .known }) (xs ++ (x ∷ []))
+  marked-again h e =
+      let f : nameAt types k ≡ x = rw first (eqb-true _ x (place-true (isNamed x) types nowhere (omega (arith, t .count)))) in
+      let u : among (nameAt types k) xs ≡ true = bit-true (among (nameAt types k) xs) (sym (m .holds .says k h) ∙ e) in
+      record {
+        holds = holds-still (λ j l d. rw (eqb-true (nameAt types j) x d) (rw f at u));
+        known = m .known ∙ sym (all-append (isDefined types) xs (x ∷ []) ∙ rw (lt-ltb (firstOf types x) (length types) (omega (arith, t .count))) (and-true (all (isDefined types) xs)));
+      }
 
 -- what holds of some names, and of those that types go on to besides
 module _ (P : List ℕ → Type 0) (xs : List ℕ) where

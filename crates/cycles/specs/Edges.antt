@@ -9,7 +9,7 @@ use lib.ListN.{length, getD}
 use Rattle.definitions.specs.Lists.{all, among}
 use Rattle.definitions.specs.Tree.{Body, TypeDef}
 use Rattle.definitions.specs.Types.{targets, definitionOf, goesOn, reached}
-use Rattle.typedefs.specs.Table.{nameAt, firstOf}
+use Rattle.layout.specs.Table.{nameAt, firstOf}
 use Rattle.cycles.specs.declared.Marks.{Marks}
 
 -- a truth value as a byte

@@ -6,7 +6,7 @@ use definitions::MOST_TYPES;
 use definitions::TypeToken;
 use grammar::Read;
 use grammar::TypeHead;
-use typedefs::Defined;
+use layout::Defined;
 ghost use mathlib.Core.Path.{_≡_};
 ghost use mathlib.Core.List.{List, [], _∷_, _++_, map};
 ghost use mathlib.Core.Bool.{true, _||_};
@@ -19,7 +19,7 @@ ghost use Rattle.definitions.specs.Tree.{Ty, Declared, TypeDef};
 ghost use Rattle.definitions.specs.Reading.{got, times};
 ghost use Rattle.definitions.specs.Grammar.{ty, declaration, typeDef};
 ghost use Rattle.definitions.specs.Types.{target, goesOn, reached, firstCycle};
-ghost use Rattle.typedefs.specs.Table.{Table, Named, nameAt};
+ghost use Rattle.layout.specs.Table.{Table, Named, nameAt};
 ghost use Rattle.cycles.specs.Edges.{bit, Marked, MarkedBody, MarkedName, Edges, Own, joined, inside, Acyclic};
 
 // The bytes of a table with one for each two definitions.
@@ -58,28 +58,34 @@ fn mark_name(
     let mut more = [0u8; MOST_TYPES];
     let mut j: usize = 0;
     while j < n {
-        let called = typedefs::value_at(values, places[j]);
+        let called = layout::value_at(values, places[j]);
         more[j] = marked(called, set[j], x);
         j += 1;
     }
     more
 }
 
-// Marks and one more name.
+// Marks and one more name. Of a name that no definition has, or that is marked already, the set stays.
 fn add_name(values: &[u32], places: &[usize; MOST_TYPES], n: usize, marks: Marks, x: u32) -> Marks
     requires { ⌜ n ≤ 32 ⌝ }
     ensures { λ r. ⌜ ((types : List TypeDef) (xs : List ℕ) → Named (now (values .entry)) (now (places .entry)) n types → Marked types n marks xs → Marked types n r (xs ++ (x ∷ []))) ⌝ }
 {
     let set = marks.set;
     let known = marks.known;
-    let more = mark_name(values, places, n, &set, x);
-    let k = typedefs::find_definition(values, places, n, x);
+    let k = layout::find_definition(values, places, n, x);
     if n <= k {
         return Marks {
-            set: more,
+            set: set,
             known: false,
         };
     }
+    if set[k] == 1 {
+        return Marks {
+            set: set,
+            known: known,
+        };
+    }
+    let more = mark_name(values, places, n, &set, x);
     Marks {
         set: more,
         known: known,
@@ -175,7 +181,7 @@ fn mark_definition(
         set: none,
         known: true,
     };
-    let found = typedefs::describe(tags, values, names, at);
+    let found = layout::describe(tags, values, names, at);
     match found {
         Defined::Enum(_, count, _) => {
             let some = 0 < count;
@@ -215,8 +221,8 @@ fn goes_on(
     ensures { λ r. ⌜ ((types : List TypeDef) → Table names (tokens (now (tags .entry)) (now (values .entry))) (now (places .entry)) n types → MarkedName types n r (nameAt types i)) ⌝ }
 {
     let none = [0u8; MOST_TYPES];
-    let x = typedefs::value_at(values, places[i]);
-    let k = typedefs::find_definition(values, places, n, x);
+    let x = layout::value_at(values, places[i]);
+    let k = layout::find_definition(values, places, n, x);
     if n <= k {
         return Marks {
             set: none,
@@ -433,8 +439,8 @@ fn search_cycle(
 {
     let mut i: usize = 0;
     while i < n {
-        let x = typedefs::value_at(values, places[i]);
-        let k = typedefs::find_definition(values, places, n, x);
+        let x = layout::value_at(values, places[i]);
+        let k = layout::find_definition(values, places, n, x);
         if k == i {
             if reaches_itself(go, n, i) {
                 return i;

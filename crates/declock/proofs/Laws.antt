@@ -13,9 +13,9 @@ use Rattle.definitions.specs.Clock.{Clock, chainOrder, insert, inChainOrder}
 use Rattle.definitions.specs.InferClocks.{Clocked}
 use Rattle.definitions.specs.Declock.{Stem, ck, first, hold, Hold, nothingNeeded}
 use Rattle.definitions.specs.Output.{declaredTokens, countedTokens, equationTokens, probeTokens, nodeTokens}
-use Rattle.order.specs.Order.{picked}
+use Rattle.chain_order.specs.Order.{picked}
 use Rattle.emit.specs.Out.{Out, emits}
-use Rattle.needs.specs.Need.{Needs}
+use Rattle.stateless.specs.Need.{Needs}
 use Rattle.stateless.specs.Yield.{Ids, oldYield}
 use Rattle.stateless.specs.Faults.{oldFault}
 use Rattle.stateless.specs.Whole.{noNeeds, oldNeeds}
@@ -23,7 +23,7 @@ use Rattle.stateless.specs.Locals.{idsIn, Agree, Local, flagLocals, firstLocals
 use Rattle.stateless.proofs.Stops.{old-outcome, meets-none}
 use Rattle.stateless.proofs.Growth.{leads-self}
 use Rattle.stateless.proofs.Yields.{old-yields, old-needs}
-use Rattle.node_parts.proofs.Laws.{after}
+use Rattle.emit.proofs.NodePartsLaws.{after}
 use Rattle.declock.specs.Parts.{frontTokens, bodyTokens}
 
 -- ---- the tokens, part by part

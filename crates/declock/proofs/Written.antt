@@ -12,18 +12,18 @@ use Rattle.definitions.specs.Tree.{Equation, Node}
 use Rattle.definitions.specs.Clock.{Clock, inChainOrder}
 use Rattle.definitions.specs.Output.{lettersOf, declaredTokens, countedTokens, equationTokens, probeTokens, nodeTokens}
 use Rattle.layout.specs.declared.NodeLayout.{NodeLayout}
-use Rattle.order.specs.Order.{rowOf, picked}
+use Rattle.chain_order.specs.Order.{rowOf, picked}
 use Rattle.emit.specs.Out.{Out, emits}
-use Rattle.needs.specs.Need.{Needs}
+use Rattle.stateless.specs.Need.{Needs}
 use Rattle.stateless.specs.Yield.{Ids, Yield}
 use Rattle.stateless.specs.Faults.{oldFault}
 use Rattle.stateless.specs.Locals.{idsIn, Local, flagLocals, firstLocals, holdLocals, localDeclared, localEquation}
 use Rattle.stateless.specs.Rewritten.{localsBy, nodeBy}
 use Rattle.planned.specs.declared.Sizes.{Sizes}
 use Rattle.planned.specs.Held.{HeldFrom}
-use Rattle.frames.specs.Planned.{EquationsPlanned}
-use Rattle.holds.specs.Shown.{holdDeclarations, holdEquations}
-use Rattle.flags.specs.Tabled.{FlagIds}
+use Rattle.planned.specs.Planned.{EquationsPlanned}
+use Rattle.planned.specs.Shown.{holdDeclarations, holdEquations}
+use Rattle.declock.specs.Tabled.{FlagIds}
 use Rattle.new_names.specs.declared.Locals.{Locals}
 use Rattle.declock.specs.Parts.{frontTokens, bodyTokens}
 use Rattle.declock.specs.declared.Rows.{Rows}

@@ -1,2 +1,4 @@
+pub mod Tabled
 pub mod Parts
 pub mod Ready
+pub mod Planned

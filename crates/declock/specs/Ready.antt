@@ -10,8 +10,8 @@ use Rattle.definitions.specs.InferClocks.{Clocked}
 use Rattle.definitions.specs.Declock.{declared}
 use Rattle.definitions.specs.Output.{lettersOf}
 use Rattle.layout.specs.declared.NodeLayout.{NodeLayout}
-use Rattle.rows.specs.Rows.{clocksIn}
-use Rattle.needs.specs.Need.{Needs}
+use Rattle.clock_tables.specs.Rows.{clocksIn}
+use Rattle.stateless.specs.Need.{Needs}
 use Rattle.stateless.specs.Yield.{Ids, Yield, oldYield}
 use Rattle.stateless.specs.Faults.{oldFault}
 use Rattle.stateless.specs.Whole.{noNeeds, oldNeeds}
@@ -21,8 +21,8 @@ use Rattle.new_names.specs.Names.{ChainOrdered}
 use Rattle.planned.specs.declared.Sizes.{Sizes}
 use Rattle.planned.specs.Writes.{Writer}
 use Rattle.planned.specs.Held.{HeldFrom}
-use Rattle.frames.specs.Planned.{EquationsPlanned}
-use Rattle.equations.specs.Grounds.{Grounds}
+use Rattle.planned.specs.Planned.{EquationsPlanned}
+use Rattle.planned.specs.Grounds.{Grounds}
 use Rattle.declock.specs.declared.Rows.{Rows}
 
 -- the ids that the tables say

@@ -14,8 +14,8 @@ use Rattle.query.specs.declared.NodeCounts.{NodeCounts}
 use Rattle.listings.specs.declared.ClocksAnswer.{ClocksAnswer}
 use Rattle.listings.specs.declared.ListingAnswer.{ListingAnswer}
 use Rattle.listings.specs.Answers.{ListingGiven, listingAnswered, clocksAnswered}
-use Rattle.rewriting.specs.declared.RewriteAnswer.{RewriteAnswer}
-use Rattle.rewriting.specs.Given.{rewriteAnswered}
+use Rattle.declock_project.specs.declared.RewriteAnswer.{RewriteAnswer}
+use Rattle.declock_project.specs.Given.{rewriteAnswered}
 use Rattle.clock_pass.specs.Given.{RewriteGiven, ClocksGiven}
 use Rattle.declock_library.specs.Numbers.{numberOf, placeOf, countOf, queryPlaceOf, countsAfter, BytesTold, RewritingTold, ClocksTold, listingNumber, listingPlace, rewriteNumber, rewritePlace, rewriteCount, clocksNumber, clocksPlace, clocksCounts}
 

@@ -10,7 +10,7 @@ use Rattle.definitions.specs.Answer.{NodeClocks, clockFaultsAfter}
 use Rattle.listings.specs.declared.ClocksAnswer.{ClocksAnswer}
 use Rattle.listings.specs.declared.ListingAnswer.{ListingAnswer}
 use Rattle.listings.specs.Answers.{equationsAfter, chainsAfter}
-use Rattle.rewriting.specs.declared.RewriteAnswer.{RewriteAnswer}
+use Rattle.declock_project.specs.declared.RewriteAnswer.{RewriteAnswer}
 
 -- "A refusal is its number and place": the number, 10 of faults; 0 where accepted
 abbrev pub numberOf : {A : Type 0} → Answer A → ℕ

@@ -1,10 +1,10 @@
 // The entry points for programs in C and Rust, under their plain names; include/declock.h says what each number means.
 // Each answers 0 where the sheet is accepted, else the refusal's number, and stores the number of bytes written, or the refusal's place.
+use declock_project::RewriteAnswer;
 use definitions::FaultRecord;
 use definitions::Refusal;
 use listings::ClocksAnswer;
 use listings::ListingAnswer;
-use rewriting::RewriteAnswer;
 ghost use mathlib.Core.Path.{_≡_};
 ghost use lib.ListN.{length, take};
 ghost use Rattle.definitions.specs.Refusals.{faultCount};

@@ -12,8 +12,8 @@ use Rattle.definitions.specs.declared.Primitive.{Primitive}
 use Rattle.definitions.specs.Tree.{Ty, TypeDef, Head, Expr}
 use Rattle.definitions.specs.Grammar.{name}
 use Rattle.definitions.specs.Types.{copies, definitionOf, defaultBy, defaultOf, defaultNamed, default}
-use Rattle.typedefs.specs.Table.{nowhere, defAt, nameAt, isNamed, firstOf}
-use Rattle.typedefs.proofs.Laws.{find-none, find-some}
+use Rattle.layout.specs.Table.{nowhere, defAt, nameAt, isNamed, firstOf}
+use Rattle.layout.proofs.TypedefsLaws.{find-none, find-some}
 use Rattle.cycles.proofs.Laws.{first-name, bit-test}
 use Rattle.defaults.specs.Has.{isSome, DefaultsKnown}
 

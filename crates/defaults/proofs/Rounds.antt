@@ -13,8 +13,8 @@ use borrow.Author.Tests.{eq-eqb, ne-eqb, eqb-true, eqb-false, ltb-true, ltb-fals
 use Rattle.definitions.specs.Lists.{all, among, join}
 use Rattle.definitions.specs.Tree.{Ty, Declared, Body, TypeDef, Head, Expr, Exprs}
 use Rattle.definitions.specs.Types.{target, targets, goesOn, defaultBy, defaultsBy, defaultOf, defaultNamed}
-use Rattle.typedefs.specs.Table.{nowhere, defAt, nameAt, isNamed, firstOf}
-use Rattle.typedefs.proofs.Laws.{place-before}
+use Rattle.layout.specs.Table.{nowhere, defAt, nameAt, isNamed, firstOf}
+use Rattle.layout.proofs.TypedefsLaws.{place-before}
 use Rattle.cycles.specs.Edges.{bit, isDefined, ownBody, Edges, Own, inside}
 use Rattle.cycles.proofs.Laws.{iff, bit-one, bit-true, bit-test, and-false, all-append, goes-some, own-some, first-name, inside-each, inside-at}
 use Rattle.defaults.specs.Has.{isSome, DefaultsKnown, alike}

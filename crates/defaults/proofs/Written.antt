@@ -21,9 +21,9 @@ use Rattle.definitions.specs.Types.{copies, primitiveDefault, defaultBy, defaul
 use Rattle.definitions.specs.Output.{literalTokens, fieldTokens, formTokens, exprTokens, operandTokens}
 use Rattle.grammar.proofs.Laws.{times-length}
 use Rattle.grammar.proofs.Got.{times-nil, times-cons}
-use Rattle.typedefs.specs.declared.Defined.{Defined}
-use Rattle.typedefs.specs.Table.{defAt, firstOf, Table, Described}
-use Rattle.typedefs.proofs.Laws.{name-value}
+use Rattle.layout.specs.declared.Defined.{Defined}
+use Rattle.layout.specs.Table.{defAt, firstOf, Table, Described}
+use Rattle.layout.proofs.TypedefsLaws.{name-value}
 use Rattle.emit.specs.Out.{Out, out, emits}
 use Rattle.emit.proofs.Laws.{emits-append, emits-none}
 use Rattle.defaults.specs.declared.Plain.{Plain}

@@ -8,7 +8,7 @@ use lib.Dec.{eqb}
 use lib.ListN.{getD}
 use Rattle.definitions.specs.Tree.{TypeDef}
 use Rattle.definitions.specs.Types.{defaultNamed}
-use Rattle.typedefs.specs.Table.{nameAt}
+use Rattle.layout.specs.Table.{nameAt}
 use Rattle.cycles.specs.Edges.{bit}
 
 -- is there one?

@@ -12,7 +12,7 @@ use definitions::TypeToken;
 use definitions::WORKING_TOKENS;
 use grammar::Read;
 use grammar::TypeHead;
-use typedefs::Defined;
+use layout::Defined;
 ghost use mathlib.Core.Path.{_≡_};
 ghost use mathlib.Core.List.{List, [], _∷_, map};
 ghost use mathlib.Core.Bool.{_&&_};
@@ -27,7 +27,7 @@ ghost use Rattle.definitions.specs.Reading.{got, times};
 ghost use Rattle.definitions.specs.Grammar.{ty, declaration, typeDef};
 ghost use Rattle.definitions.specs.Types.{copies, primitiveDefault, defaultBy, defaultsBy, defaultOf, defaultNamed, default};
 ghost use Rattle.definitions.specs.Output.{literalTokens, fieldTokens, exprTokens, operandTokens};
-ghost use Rattle.typedefs.specs.Table.{Table, Named};
+ghost use Rattle.layout.specs.Table.{Table, Named};
 ghost use Rattle.cycles.specs.Edges.{bit, inside};
 ghost use Rattle.emit.specs.Out.{out, emits};
 ghost use Rattle.defaults.specs.Has.{isSome, DefaultsKnown, alike};
@@ -54,7 +54,7 @@ fn named_has(
     requires { ⌜ n ≤ 32 ⌝ }
     ensures { λ r. ⌜ ((types : List TypeDef) → Named (now (values .entry)) (now (places .entry)) n types → DefaultsKnown types n n (now (has .entry)) → r ≡ isSome (defaultNamed types n x)) ⌝ }
 {
-    let k = typedefs::find_definition(values, places, n, x);
+    let k = layout::find_definition(values, places, n, x);
     if n <= k {
         return false;
     }
@@ -430,7 +430,7 @@ fn emit_named(
     requires { ⌜ n ≤ 32 ⌝ }
     ensures { λ r. ⌜ ((types : List TypeDef) (fuel : ℕ) (e : Expr) → Table names (tokens (now (tags .entry)) (now (values .entry))) (now (places .entry)) n types → Enough depth fuel 0 → defaultNamed types fuel x ≡ some e → out (now (otags .exit)) (now (ovalues .exit)) r ≡ emits (out (now (otags .entry)) (now (ovalues .entry)) w) (exprTokens e)) ⌝ }
 {
-    let k = typedefs::find_definition(values, places, n, x);
+    let k = layout::find_definition(values, places, n, x);
     if n <= k {
         return w;
     }
@@ -455,10 +455,10 @@ fn emit_definition(
     requires { ⌜ n ≤ 32 ⌝ }
     ensures { λ r. ⌜ ((types : List TypeDef) (fuel : ℕ) (d : TypeDef) (q : ℕ) (e : Expr) → Table names (tokens (now (tags .entry)) (now (values .entry))) (now (places .entry)) n types → Enough depth fuel 9 → typeDef names (tokens (now (tags .entry)) (now (values .entry))) at ≡ got d q → defaultOf (defaultNamed types fuel) d (d .body) ≡ some e → out (now (otags .exit)) (now (ovalues .exit)) r ≡ emits (out (now (otags .entry)) (now (ovalues .entry)) w) (exprTokens e)) ⌝ }
 {
-    let found = typedefs::describe(tags, values, names, at);
+    let found = layout::describe(tags, values, names, at);
     match found {
         Defined::Enum(_, _, first) => {
-            let v = typedefs::value_at(values, first);
+            let v = layout::value_at(values, first);
             emit::emit(otags, ovalues, w, Token::Expression(ExprToken::Var(v)))
         }
         Defined::Record(x, count, first) => {
@@ -522,7 +522,7 @@ fn emit_fields(
             match rest {
                 Read::Refused(_) => w,
                 Read::Next(next) => {
-                    let x = typedefs::value_at(values, at);
+                    let x = layout::value_at(values, at);
                     let a = emit::emit(otags, ovalues, w, Token::Name(x));
                     let b = emit_type(
                         tags,

@@ -164,3 +164,23 @@ textAnswer bytes k j lent =
     let text = faultText (lettersOf (r .names)) (f .fault) in
     lending (length text) lent >>= λ _.
     accepted text
+
+-- the line of the first of some faults of node i
+abbrev pub firstLine : (ℕ → Letters) → ℕ → List NodeFault → Letters
+firstLine letters i [] = []
+firstLine letters i (f ∷ fs) = faultLine letters i f
+
+-- each faulty node's first fault, a line each, as the rewriting of a sheet says them behind refusal 10
+unfoldable pub firstLines : Input → List ClockedNode → Letters
+unfolding nodeFaults faultLine
+firstLines r ns = join (numbered (λ i n. firstLine (lettersOf (r .names)) i (nodeFaults (r .names) (r .sheet) n)) 0 ns)
+
+-- these lines, the caller lending so many bytes
+unfoldable pub faultLinesAnswer : List ℕ → ℕ → Answer Letters
+unfolding input clockings firstLines
+faultLinesAnswer bytes lent =
+    input bytes >>= λ r.
+    clockings 0 (r .sheet .nodes) >>= λ ns.
+    let text = firstLines r ns in
+    lending (length text) lent >>= λ _.
+    accepted text

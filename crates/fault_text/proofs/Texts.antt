@@ -1,34 +1,36 @@
 -- The text of a fault, refusal by refusal. Assumes nothing.
-use Prim.Native.Nat.{ℕ, zero, suc, _<_}
-use mathlib.Core.Path.{_≡_, refl, sym, ap, _∙_, subst}
+use Prim.Native.Nat.{ℕ, zero, suc, _+_, _-_, _<_}
+use mathlib.Core.Path.{_≡_, refl, sym, ap, _∙_}
 use mathlib.Core.List.{List, [], _∷_}
-use mathlib.Core.Bool.{true, false}
-use mathlib.Core.Option.{Option, some}
+use mathlib.Core.Bool.{Bool, true, false}
+use mathlib.Core.Option.{Option}
 use native.Mathlib.Omega.{arith}
 use lib.ListN.{length, getElem?}
 use Rattle.definitions.specs.declared.Refusal.{Refusal}
 use Rattle.definitions.specs.Lists.{Letters}
 use Rattle.definitions.specs.Tokens.{TagValue}
-use Rattle.definitions.specs.InferClocks.{NodeFault}
+use Rattle.definitions.specs.Tree.{Node}
+use Rattle.definitions.specs.Reading.{got, times}
+use Rattle.definitions.specs.Grammar.{node}
+use Rattle.definitions.specs.InferClocks.{Formed, deep, formed, Clocking, clocking, NodeFault}
 use Rattle.definitions.specs.Refusals.{Answer, accepted, refused, down, told, _>>=_}
 use Rattle.definitions.specs.Output.{lettersOf, ClockedNode, nodeFaults}
 use Rattle.definitions.specs.Texts.{faultText}
 use Rattle.definitions.specs.Answer.{Input, input, clockings, itemAt, nodeAt, textAnswer}
-use Rattle.fault.specs.Value.{faultOf}
+use Rattle.findings.specs.Value.{faultOf}
 use Rattle.infer_clocks.specs.declared.Deepest.{Deepest}
-use Rattle.infer_clocks.specs.Clocked.{Deeply}
-use Rattle.stateless.proofs.Nodes.{clockings-form, node-here}
-use Rattle.stateless.proofs.Answers.{node-there, text-refused}
-use Rattle.texts.specs.Lending.{lentText, Gives}
-use Rattle.texts.specs.declared.Lending.{Lending}
-use Rattle.query.specs.declared.NodePlace.{NodePlace}
-use Rattle.query.specs.Standing.{Roomy, Located}
+use Rattle.infer_clocks.specs.Clocked.{isDeep, Deeply}
+use Rattle.stateless.proofs.Answers.{text-refused}
+use Rattle.lines.specs.Lending.{lentText, Gives}
+use Rattle.lines.specs.declared.Lending.{Lending}
+use Rattle.query.specs.Standing.{Roomy, firstFrom}
+use Rattle.query.proofs.Nodes.{asked-there, first-deep, first-behind, first-there}
 use Rattle.first_faults.specs.declared.FaultFound.{FaultFound}
-use Rattle.first_faults.specs.Faults.{foundOf, faultIn, RoomToPlan}
+use Rattle.first_faults.specs.Faults.{foundOf, RoomToPlan}
 use Rattle.listings.specs.declared.ListingAnswer.{ListingAnswer}
 use Rattle.listings.specs.Answers.{ListingGiven}
 use Rattle.listings.proofs.Given.{given-written, given-lent}
-use Rattle.fault_text.specs.Texts.{textIn, textOf}
+use Rattle.fault_text.specs.Texts.{textIn, textFrom, textOf}
 
 given-refused : (v : Answer Letters) (lent : List ℕ) (x : Refusal) → v ≡ refused x → ListingGiven v lent lent (ListingAnswer.Refused x)
 given-refused v lent x e = rw e (record { answer = refl; bytes = refl })
@@ -42,54 +44,68 @@ pub text-read : (b : List ℕ) (i : Input) → input b ≡ accepted i → (k j l
 unfolding textAnswer
 text-read b i h k j lent = rw h
 
--- ---- an item of a list
-item-below : {A : Type 0} (l : List A) (k : ℕ) (a : A) → itemAt l k ≡ accepted a → k < length l
-item-below [] k a e = let z : _≡_ {A = ℕ} 0 1 = cc in absurd (omega arith)
-item-below (b ∷ l) zero a e = omega arith
-item-below (b ∷ l) (suc k) a e = let h = item-below l k a e in omega arith
-
 -- the text of item j of some faults
 text-item : (names : List Letters) (l : List NodeFault) (j lent : ℕ) → (itemAt l j >>= λ f. lentText (faultText (lettersOf names) (f .fault)) lent) ≡ textIn names (getElem? l j) lent
 text-item names [] j lent = refl
 text-item names (f ∷ l) zero lent = refl
 text-item names (f ∷ l) (suc j) lent = text-item names l j lent
 
-module _ (M : ℕ) (ts : List TagValue) (r : Input) (k j : ℕ) (lent : List ℕ) (found : NodePlace) (h : Located M ts (r .sheet .nodes) k found) where
-  -- 8, no such node
-  pub text-missing : found ≡ NodePlace.Missing → ListingGiven (textOf r k j (length lent)) lent lent (ListingAnswer.Refused Refusal.Missing)
-  unfolding Located nodeAt
-  text-missing e =
-      let g : Located M ts (r .sheet .nodes) k NodePlace.Missing = rw e at h in
-      given-refused (textOf r k j (length lent)) lent Refusal.Missing (rw g)
+-- ---- the text of fault j of a node that was asked for
+module _ (r : Input) (v : Answer ClockedNode) (j : ℕ) (lent : List ℕ) where
+  -- 8 or 9
+  pub text-turned : (x : Refusal) → v ≡ refused x → ListingGiven (textFrom r v j (length lent)) lent lent (ListingAnswer.Refused x)
+  text-turned x e = given-refused (textFrom r v j (length lent)) lent x (rw e)
 
-  module _ (p : ℕ) (e : found ≡ NodePlace.At p) (d : Deepest) (deep : Deeply d (clockings 0 (r .sheet .nodes))) where
-    -- 9
-    pub text-deep : (i w : ℕ) → d ≡ Deepest.At i → w ≡ i → ListingGiven (textOf r k j (length lent)) lent lent (ListingAnswer.Refused (Refusal.Deep w))
-    unfolding Located nodeAt Deeply
-    text-deep i w f u =
-        let g : Located M ts (r .sheet .nodes) k (NodePlace.At p) = rw e at h in
-        let x : Deeply (Deepest.At i) (clockings 0 (r .sheet .nodes)) = rw f at deep in
-        rw u (given-refused (textOf r k j (length lent)) lent (Refusal.Deep i) (rw (g .2, x)))
+  text-known : (n : ClockedNode) (o : FaultFound) → v ≡ accepted n → foundOf o ≡ getElem? (nodeFaults (r .names) (r .sheet) n) j
+      → (after : List ℕ) (y : ListingAnswer) → ListingGiven (textIn (r .names) (foundOf o) (length lent)) lent after y → ListingGiven (textFrom r v j (length lent)) lent after y
+  text-known n o e f after y g =
+      let s : textFrom r v j (length lent) ≡ textIn (r .names) (foundOf o) (length lent) = rw e (text-item (r .names) (nodeFaults (r .names) (r .sheet) n) j (length lent) ∙ ap (λ (u : Option NodeFault). textIn (r .names) u (length lent)) (sym f)) in
+      rw s g
 
-    -- node k and its clocks are there
-    pub text-there : d ≡ Deepest.Nowhere → (ns : List ClockedNode) × (clockings 0 (r .sheet .nodes) ≡ accepted ns)
-        × ((a : FaultFound) → foundOf a ≡ faultIn r (getElem? ns k) j → (after : List ℕ) (x : ListingAnswer) → ListingGiven (textIn (r .names) (foundOf a) (length lent)) lent after x → ListingGiven (textOf r k j (length lent)) lent after x)
-    unfolding Located Deeply
-    text-there f =
-        let g : Located M ts (r .sheet .nodes) k (NodePlace.At p) = rw e at h in
-        let x : Deeply Deepest.Nowhere (clockings 0 (r .sheet .nodes)) = rw f at deep in
-        let u = node-here (clockings-form 0 (r .sheet .nodes) (x .0) (x .1)) k (item-below (r .sheet .nodes) k (g .0) (g .2)) in
-        let there = node-there r k (x .0) (x .1) u in (
-          x .0,
-          x .1,
-          λ a s after y z.
-              let t : foundOf a ≡ getElem? (nodeFaults (r .names) (r .sheet) (u .clocked)) j = s ∙ ap (λ (o : Option ClockedNode). faultIn r o j) (u .here) in
-              let v : textOf r k j (length lent) ≡ textIn (r .names) (foundOf a) (length lent) = rw there (text-item (r .names) (nodeFaults (r .names) (r .sheet) (u .clocked)) j (length lent) ∙ ap (λ (o : Option NodeFault). textIn (r .names) o (length lent)) (sym t)) in
-              same-given (textOf r k j (length lent)) (textIn (r .names) (foundOf a) (length lent)) lent after y v z,
-        )
+-- of node k among the nodes of a sheet, which stands there as clocks before it are formed
+pub text-among : (M : ℕ) (ts : List TagValue) (r : Input) (k count before at q : ℕ) → k < count → before ≡ k → times count (node M) ts at ≡ got (r .sheet .nodes) q
+    → (d : Deepest) → ((ns : List Node) (p : ℕ) → times before (node M) ts at ≡ got ns p → Deeply p d (clockings 0 ns)) → (p : ℕ) → d ≡ Deepest.Nowhere p
+    → (j : ℕ) (lent after : List ℕ) (y : ListingAnswer)
+    → ((n : Node) (m : ℕ) (ns : List Node) → node M ts p ≡ got n m → times (count - before - 1) (node M) ts m ≡ got ns q → ListingGiven (textFrom r (firstFrom k (n ∷ ns)) j (length lent)) lent after y)
+    → ListingGiven (textOf r k j (length lent)) lent after y
+text-among M ts r k count before at q few e g d D p f j lent after y h =
+    let x = asked-there M ts r k count before at q few e g d D p f in
+    same (nodeAt r k) (firstFrom k (x .0 ∷ x .2)) (x .5) (h (x .0) (x .1) (x .2) (x .3) (x .4))
+  where
+    same : (v w : Answer ClockedNode) → v ≡ w → ListingGiven (textFrom r w j (length lent)) lent after y → ListingGiven (textFrom r v j (length lent)) lent after y
+    same v w e g = rw e g
+
+-- of node k, which is n, before other nodes
+module _ (r : Input) (k j : ℕ) (lent : List ℕ) (n : Node) (ns : List Node) (b : Bool) (e : b ≡ isDeep (clocking n)) where
+  -- 9 at it
+  pub text-deep : b ≡ true → ListingGiven (textFrom r (firstFrom k (n ∷ ns)) j (length lent)) lent lent (ListingAnswer.Refused (Refusal.Deep k))
+  text-deep f = text-turned r (firstFrom k (n ∷ ns)) j lent (Refusal.Deep k) (go (clocking n) refl (sym e ∙ f))
+    where
+      go : (v : Formed Clocking) → clocking n ≡ v → isDeep v ≡ true → firstFrom k (n ∷ ns) ≡ refused (Refusal.Deep k)
+      go deep h t = first-deep k n ns h
+      go (formed c) h t = let z : _≡_ {A = ℕ} 0 1 = cc in absurd (omega arith)
+
+  module _ (f : b ≡ false) (q : ℕ) (d : Deepest) (D : Deeply q d (clockings 0 ns)) where
+    this : (c : Clocking) × (clocking n ≡ formed c)
+    this = go (clocking n) refl (sym e ∙ f)
       where
-        same-given : (v w : Answer Letters) (lent after : List ℕ) (y : ListingAnswer) → v ≡ w → ListingGiven w lent after y → ListingGiven v lent after y
-        same-given v w lent after y e g = rw e g
+        go : (v : Formed Clocking) → clocking n ≡ v → isDeep v ≡ false → (c : Clocking) × (clocking n ≡ formed c)
+        go deep h t = let z : _≡_ {A = ℕ} 0 1 = cc in absurd (omega arith)
+        go (formed c) h t = (c, h)
+
+    -- 9 behind it
+    pub text-behind : (i w : ℕ) → d ≡ Deepest.At i → w ≡ i → ListingGiven (textFrom r (firstFrom k (n ∷ ns)) j (length lent)) lent lent (ListingAnswer.Refused (Refusal.Deep (k + 1 + w)))
+    unfolding Deeply
+    text-behind i w g u =
+        let x : Deeply q (Deepest.At i) (clockings 0 ns) = rw g at D in
+        text-turned r (firstFrom k (n ∷ ns)) j lent (Refusal.Deep (k + 1 + w)) (first-behind k n ns (this .0) (this .1) i x ∙ ap (λ (z : ℕ). refused (Refusal.Deep (k + 1 + z))) (sym u))
+
+    pub text-there : (p : ℕ) → d ≡ Deepest.Nowhere p → (o : FaultFound) → ((c : Clocking) → clocking n ≡ formed c → foundOf o ≡ getElem? (nodeFaults (r .names) (r .sheet) (record { node = n; clocking = c })) j)
+        → (after : List ℕ) (y : ListingAnswer) → ListingGiven (textIn (r .names) (foundOf o) (length lent)) lent after y → ListingGiven (textFrom r (firstFrom k (n ∷ ns)) j (length lent)) lent after y
+    unfolding Deeply
+    text-there p g o F after y h =
+        let x : Deeply q (Deepest.Nowhere p) (clockings 0 ns) = rw g at D in
+        text-known r (firstFrom k (n ∷ ns)) j lent (record { node = n; clocking = this .0 }) o (first-there k n ns (this .0) (this .1) (x .1) (x .2)) (F (this .0) (this .1)) after y h
 
 -- ---- the text of a fault that was found
 module _ (names : List Letters) (letters : ℕ → Letters) (e : letters ≡ lettersOf names) (a : FaultFound) (lent after : List ℕ) where
@@ -107,16 +123,9 @@ module _ (names : List Letters) (letters : ℕ → Letters) (e : letters ≡ let
     pub text-lent : (n : ℕ) → r ≡ Lending.Lent n → ListingGiven (textIn names (foundOf a) (length lent)) lent after (ListingAnswer.Refused (Refusal.Lent n))
     text-lent n h = rw said (given-lent (faultText letters (faultOf (a .fault))) lent after n r h g)
 
--- ---- room to plan
--- by the number of names that the index has
-pub plan-named : {M m many : ℕ} {env table sites types plan : List ℕ} → m ≡ M → RoomToPlan M many env table sites types plan → RoomToPlan m many env table sites types plan
-plan-named {many} {env} {table} {sites} {types} {plan} e r = subst (λ (i : ℕ). RoomToPlan i many env table sites types plan) (sym e) r
-
--- is room to clock
+-- ---- room to plan is room to clock
 pub plan-clocks : {M many : ℕ} {env table sites types plan : List ℕ} → RoomToPlan M many env table sites types plan → Roomy M many env table sites
 plan-clocks r = record { few = r .few; clocks = r .clocks; found = r .found; sited = r .sited }
 
--- and stays
-pub plan-kept : {M many : ℕ} {env table sites types plan : List ℕ} (env′ table′ sites′ : List ℕ) → RoomToPlan M many env table sites types plan → length env′ ≡ length env → length table′ ≡ length table → length sites′ ≡ length sites → RoomToPlan M many env′ table′ sites′ types plan
-plan-kept env′ table′ sites′ r a b c =
-    record { few = r .few; few-tokens = r .few-tokens; clocks = omega (arith, r .clocks, a); found = omega (arith, r .found, b); sited = omega (arith, r .sited, c); typed = r .typed; planned = r .planned }
+pub clocks-kept : {M many : ℕ} {e₀ f₀ s₀ e f s types plan : List ℕ} → length e ≡ length e₀ → length f ≡ length f₀ → length s ≡ length s₀ → RoomToPlan M many e₀ f₀ s₀ types plan → Roomy M many e f s
+clocks-kept a b c r = record { few = r .few; clocks = omega (arith, r .clocks, a); found = omega (arith, r .found, b); sited = omega (arith, r .sited, c) }

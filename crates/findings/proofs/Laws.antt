@@ -16,10 +16,10 @@ use Rattle.definitions.specs.declared.Condition.{Condition}
 use Rattle.definitions.specs.Lists.{choose, any}
 use Rattle.definitions.specs.Clock.{Clock, isBase}
 use Rattle.definitions.specs.InferClocks.{Fault, leftElsewhere, usedElsewhere, whenElsewhere, clockNameElsewhere, notSingleCall, NodeFault, Finding, found, site, tooDeep, isTooDeep, clockFaults, sites}
-use Rattle.flat.specs.Flat.{wordOf, testOf, clockIn}
-use Rattle.flat.proofs.Laws.{Within, clock-same, test-word}
-use Rattle.rows.specs.Rows.{clocksFrom, clocksIn, RowsHold}
-use Rattle.rows.proofs.Laws as rows
+use Rattle.clock_tables.specs.Flat.{wordOf, testOf, clockIn}
+use Rattle.clock_tables.proofs.FlatLaws.{Within, clock-same, test-word}
+use Rattle.clock_tables.specs.Rows.{clocksFrom, clocksIn, RowsHold}
+use Rattle.clock_tables.proofs.RowsLaws as rows
 use Rattle.findings.specs.Findings.{flagWord, faultAs, findingAs, faultIn, findingIn, findingsFrom, findingsIn, FindingsHeld, noFault}
 
 -- ---- the findings of rows

@@ -9,7 +9,7 @@ use lib.Dec.{eqb, ltb}
 use Rattle.definitions.specs.Lists.{choose}
 use Rattle.definitions.specs.Clock.{Clock}
 use Rattle.definitions.specs.InferClocks.{Fault, leftElsewhere, usedElsewhere, whenElsewhere, clockNameElsewhere, notSingleCall, NodeFault, Finding, found, site, tooDeep}
-use Rattle.flat.specs.Flat.{testOf, clockIn}
+use Rattle.clock_tables.specs.Flat.{testOf, clockIn}
 
 -- a flag as a word
 abbrev pub flagWord : Bool → ℕ

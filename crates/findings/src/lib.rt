@@ -1,28 +1,177 @@
-// What checking meets, in order, in a table: thirty-eight words a finding, and a count.
-// A count one past the room says that there were more findings than rows.
-use clock::Clock;
+// Faults by value, and what checking meets in a table.
+use clock_tables::Clock;
 use definitions::Condition;
-use fault::Fault;
+use definitions::Test;
 ghost use mathlib.Core.Path.{_≡_};
+ghost use mathlib.Core.Bool.{false};
+ghost use Rattle.definitions.specs.InferClocks.{leftElsewhere, usedElsewhere, whenElsewhere, clockNameElsewhere, undeclared, noDefault, noOutputDefault, notSingleCall, preUntyped, faultNumber, Finding, found, site, tooDeep, isTooDeep, clockFaults, sites};
+ghost use Rattle.clock_tables.specs.Value.{valueOf};
+ghost use Rattle.findings.specs.Value.{faultAs, faultOf};
 ghost use mathlib.Core.Logic.{_⊎_};
 ghost use mathlib.Core.List.{List, [], _∷_, _++_};
 ghost use Prim.Native.Nat.{ℕ, _+_, _*_, _≤_, _<_};
 ghost use lib.ListN.{length, getD};
 ghost use Rattle.definitions.specs.Lists.{any, choose};
-ghost use Rattle.definitions.specs.Clock as clocks;
-ghost use Rattle.definitions.specs.InferClocks.{leftElsewhere, usedElsewhere, whenElsewhere, clockNameElsewhere, Finding, found, site, tooDeep, isTooDeep, clockFaults, sites};
-ghost use Rattle.clock.specs.Value.{valueOf};
-ghost use Rattle.flat.specs.Flat.{clockIn};
-ghost use Rattle.fault.specs.Value.{faultOf};
-ghost use Rattle.rows.specs.Rows.{RowsHold};
+ghost use Rattle.clock_tables.specs.Flat.{clockIn};
+ghost use Rattle.clock_tables.specs.Rows.{RowsHold};
 ghost use Rattle.findings.specs.Findings.{flagWord, findingAs, faultIn, findingIn, findingsIn, FindingsHeld, noFault};
+ghost use Rattle.definitions.specs.Clock as clocks;
+
+// ---- A fault by value: which of the nine it is, and what its text says.
+
+// The nine faults, in the order of their numbers.
+pub enum FaultKind {
+    LeftElsewhere,
+    UsedElsewhere,
+    WhenElsewhere,
+    ClockNameElsewhere,
+    Undeclared,
+    NoDefault,
+    NoOutputDefault,
+    NotSingleCall,
+    PreUntyped,
+}
+
+// What a fault says; of the fields, those that its kind has are read.
+pub struct Fault {
+    pub kind: FaultKind,
+    pub name: u32,
+    pub other: u32,
+    pub test: Test,
+    pub port: bool,
+    pub on: Clock,
+    pub expected: Clock,
+}
+
+// A fault of this kind, of these names and clocks.
+fn made(kind: FaultKind, x: u32, other: u32, c: Clock, d: Clock, port: bool) -> Fault
+    ensures { λ r. ⌜ faultOf r ≡ faultAs kind (record { kind = kind; name = x; other = other; test = Test.On; port = port; on = c; expected = d }) ⌝ }
+{
+    Fault {
+        kind,
+        name: x,
+        other,
+        test: Test::On,
+        port,
+        on: c,
+        expected: d,
+    }
+}
+
+// 1: a left name on another clock than its equation; whether it is an input or output.
+fn left_elsewhere(x: u32, c: Clock, d: Clock, port: bool) -> Fault
+    ensures { λ r. ⌜ faultOf r ≡ leftElsewhere x (valueOf c) (valueOf d) port ⌝ }
+{
+    made(FaultKind::LeftElsewhere, x, 0, c, d, port)
+}
+
+// 2: a name used on another clock than is expected.
+fn used_elsewhere(x: u32, c: Clock, d: Clock) -> Fault
+    ensures { λ r. ⌜ faultOf r ≡ usedElsewhere x (valueOf c) (valueOf d) ⌝ }
+{
+    made(FaultKind::UsedElsewhere, x, 0, c, d, false)
+}
+
+// 3: a when where another clock is expected.
+fn when_elsewhere(k: Condition, c: Clock) -> Fault
+    ensures { λ r. ⌜ faultOf r ≡ whenElsewhere k (valueOf c) ⌝ }
+{
+    let test = k.test;
+    Fault {
+        kind: FaultKind::WhenElsewhere,
+        name: k.name,
+        other: 0,
+        test,
+        port: false,
+        on: c,
+        expected: c,
+    }
+}
+
+// 4: a clock name on another clock than it samples.
+fn clock_name_elsewhere(x: u32, c: Clock, d: Clock) -> Fault
+    ensures { λ r. ⌜ faultOf r ≡ clockNameElsewhere x (valueOf c) (valueOf d) ⌝ }
+{
+    made(FaultKind::ClockNameElsewhere, x, 0, c, d, false)
+}
+
+// A fault of this kind, of these names.
+fn of_names(kind: FaultKind, x: u32, other: u32) -> Fault
+    ensures { λ r. ⌜ faultOf r ≡ faultAs kind (record { kind = kind; name = x; other = other; test = Test.On; port = false; on = r .on; expected = r .expected }) ⌝ }
+{
+    let b = clock_tables::base();
+    Fault {
+        kind,
+        name: x,
+        other,
+        test: Test::On,
+        port: false,
+        on: b,
+        expected: b,
+    }
+}
+
+// 5: a left name that is not declared.
+pub fn undeclared(x: u32) -> Fault
+    ensures { λ r. ⌜ faultOf r ≡ undeclared x ⌝ }
+{
+    of_names(FaultKind::Undeclared, x, 0)
+}
+
+// 6: no default for it.
+pub fn no_default(x: u32) -> Fault
+    ensures { λ r. ⌜ faultOf r ≡ noDefault x ⌝ }
+{
+    of_names(FaultKind::NoDefault, x, 0)
+}
+
+// 7: no default for output x of a call of node f.
+pub fn no_output_default(x: u32, f: u32) -> Fault
+    ensures { λ r. ⌜ faultOf r ≡ noOutputDefault x f ⌝ }
+{
+    of_names(FaultKind::NoOutputDefault, x, f)
+}
+
+// 8: not a single call.
+pub fn not_single_call() -> Fault
+    ensures { λ r. ⌜ faultOf r ≡ notSingleCall ⌝ }
+{
+    of_names(FaultKind::NotSingleCall, 0, 0)
+}
+
+// 9: the type of a `pre` is unknown.
+pub fn pre_untyped() -> Fault
+    ensures { λ r. ⌜ faultOf r ≡ preUntyped ⌝ }
+{
+    of_names(FaultKind::PreUntyped, 0, 0)
+}
+
+pub fn fault_number(f: Fault) -> u32
+    ensures { λ r. ⌜ r ≡ faultNumber (faultOf f) ⌝ }
+{
+    let kind = f.kind;
+    match kind {
+        FaultKind::LeftElsewhere => 1,
+        FaultKind::UsedElsewhere => 2,
+        FaultKind::WhenElsewhere => 3,
+        FaultKind::ClockNameElsewhere => 4,
+        FaultKind::Undeclared => 5,
+        FaultKind::NoDefault => 6,
+        FaultKind::NoOutputDefault => 7,
+        FaultKind::NotSingleCall => 8,
+        FaultKind::PreUntyped => 9,
+    }
+}
+
+// ---- What checking meets, in order, in a table: thirty-eight words a finding, and a count.
+// A count one past the room says that there were more findings than rows.
 
 // Where a row has its two clocks, and the words that it takes.
 const ON: usize = 4;
 
-const EXPECTED: usize = ON + flat::WORDS;
+const EXPECTED: usize = ON + clock_tables::WORDS;
 
-const ROW: usize = EXPECTED + flat::WORDS;
+const ROW: usize = EXPECTED + clock_tables::WORDS;
 
 // A row's first words: 1 to 4 a fault, 5 a site, 6 too deep a clock; a name; a flag; the equation.
 pub struct Words {
@@ -49,8 +198,8 @@ fn store_row(t: &mut [u32], b: usize, w: Words, on: Clock, expected: Clock)
     t[b + 1] = w.name;
     t[b + 2] = w.flag;
     t[b + 3] = w.equation;
-    flat::store(t, b + ON, on);
-    flat::store(t, b + EXPECTED, expected);
+    clock_tables::store(t, b + ON, on);
+    clock_tables::store(t, b + EXPECTED, expected);
 }
 
 // One finding more, if there is room: how many there are then.
@@ -128,7 +277,7 @@ pub fn push_when(table: &mut [u32], n: usize, equation: u32, k: Condition, d: Cl
     ensures { λ r. ⌜ ((fs : List Finding) → FindingsHeld (now (table .entry)) n fs → FindingsHeld (now (table .exit)) r (fs ++ (found (record { equation = equation; fault = whenElsewhere k (valueOf d) }) ∷ []))) ⌝ }
 {
     let test = k.test;
-    let flag = flat::word_of(test);
+    let flag = clock_tables::word_of(test);
     push(
         table,
         n,
@@ -193,7 +342,7 @@ pub fn push_deep(table: &mut [u32], n: usize) -> usize
     ensures { λ r. ⌜ length (now (table .exit)) ≡ length (now (table .entry)) ⌝ }
     ensures { λ r. ⌜ ((fs : List Finding) → FindingsHeld (now (table .entry)) n fs → FindingsHeld (now (table .exit)) r (fs ++ (tooDeep ∷ []))) ⌝ }
 {
-    let b = clock::base();
+    let b = clock_tables::base();
     push(
         table,
         n,
@@ -215,7 +364,7 @@ fn kind_at(t: &[u32], i: usize) -> u32
     if t.len() / ROW < i {
         return 0;
     }
-    flat::word_at(t, ROW * i)
+    clock_tables::word_at(t, ROW * i)
 }
 
 // Word j of row i.
@@ -227,7 +376,7 @@ fn word_at(t: &[u32], i: usize, j: usize) -> u32
         return 0;
     }
     let b = ROW * i;
-    flat::word_at(t, b + j)
+    clock_tables::word_at(t, b + j)
 }
 
 // The clock from word j of row i on.
@@ -236,10 +385,10 @@ fn clock_at(t: &[u32], i: usize, j: usize) -> Clock
     ensures { λ r. ⌜ valueOf r ≡ clockIn (now (t .entry)) (38 * i + j) ⌝ }
 {
     if t.len() / ROW < i {
-        return clock::base();
+        return clock_tables::base();
     }
     let b = ROW * i;
-    flat::load(t, b + j)
+    clock_tables::load(t, b + j)
 }
 
 // Is a clock too deep among them?
@@ -285,17 +434,17 @@ fn fault_in(table: &[u32], i: usize) -> Fault
     let d = clock_at(table, i, EXPECTED);
     if k == 1 {
         let port = w == 1;
-        return fault::left_elsewhere(x, c, d, port);
+        return left_elsewhere(x, c, d, port);
     }
     if k == 2 {
-        return fault::used_elsewhere(x, c, d);
+        return used_elsewhere(x, c, d);
     }
     if k == 3 {
-        let test = flat::test_of(w);
+        let test = clock_tables::test_of(w);
         let k = Condition { name: x, test };
-        return fault::when_elsewhere(k, d);
+        return when_elsewhere(k, d);
     }
-    fault::clock_name_elsewhere(x, c, d)
+    clock_name_elsewhere(x, c, d)
 }
 
 // Is the finding in row i a fault?
@@ -333,7 +482,7 @@ pub fn nth_fault(table: &[u32], n: usize, j: usize) -> Found
         left -= 1;
         i += 1;
     }
-    let fault = fault::not_single_call();
+    let fault = not_single_call();
     Found { fault, equation: 0 }
 }
 
@@ -342,14 +491,14 @@ fn append(rows: &mut [u32], m: usize, c: Clock) -> usize
     ensures { λ r. ⌜ length (now (rows .exit)) ≡ length (now (rows .entry)) ⌝ }
     ensures { λ r. ⌜ ((cs : List clocks.Clock) → RowsHold (now (rows .entry)) m cs → RowsHold (now (rows .exit)) r (cs ++ (valueOf c ∷ []))) ⌝ }
 {
-    let room = rows.len() / flat::WORDS;
+    let room = rows.len() / clock_tables::WORDS;
     if room < m {
         return m;
     }
     if room <= m {
         return m + 1;
     }
-    flat::store(rows, flat::WORDS * m, c);
+    clock_tables::store(rows, clock_tables::WORDS * m, c);
     m + 1
 }
 
@@ -367,7 +516,7 @@ pub fn list_sites(table: &[u32], n: usize, rows: &mut [u32], m: usize) -> usize
             continue;
         }
         let c = clock_at(table, i, EXPECTED);
-        let on_base = clock::is_base(c);
+        let on_base = clock_tables::is_base(c);
         if on_base {
             i += 1;
             continue;

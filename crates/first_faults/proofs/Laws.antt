@@ -1,43 +1,42 @@
 -- A node's faults one by one: its clock faults, else the first that rewriting meets.
 -- Assumes nothing.
-use Prim.Native.Nat.{ℕ, zero, suc, _+_, _≤_, _<_}
-use mathlib.Core.Path.{_≡_, refl, sym, ap, ap₂, _∙_, subst}
+use Prim.Native.Nat.{ℕ, zero, suc, _≤_, _<_}
+use mathlib.Core.Path.{_≡_, refl, sym, ap, _∙_, subst}
 use mathlib.Core.List.{List, [], _∷_}
 use mathlib.Core.Bool.{Bool, true, false}
-use mathlib.Core.Option.{Option, none, some, Option·some-injective, Option·none-ne-some}
+use mathlib.Core.Option.{Option, none, some, Option·none-ne-some}
 use native.Mathlib.Omega.{arith}
 use lib.ListN.{length, getD, getElem?, length-map}
-use Rattle.definitions.specs.Lists.{choose, orElse}
+use Rattle.definitions.specs.Lists.{choose}
 use Rattle.definitions.specs.Tokens.{TagValue}
 use Rattle.definitions.specs.Bytes.{tokens}
 use Rattle.definitions.specs.Tree.{TypeDef, Node}
-use Rattle.definitions.specs.Reading.{Reader, got, times}
-use Rattle.definitions.specs.Grammar.{typeDef, node}
+use Rattle.definitions.specs.Reading.{got}
+use Rattle.definitions.specs.Grammar.{node}
 use Rattle.definitions.specs.Refusals.{accepted}
-use Rattle.definitions.specs.InferClocks.{Formed, formed, Clocks, Fault, NodeFault, Clocked, Clocking, Finding, clockedBy, clocking, clockFaults, usesClocks}
+use Rattle.definitions.specs.InferClocks.{Formed, formed, Clocks, Fault, NodeFault, Clocked, Clocking, Finding, clocking, clockFaults, usesClocks}
 use Rattle.definitions.specs.Output.{condactId, ClockedNode, nodeFaults}
 use Rattle.definitions.specs.Answer.{Input, clockings}
 use Rattle.shapes.proofs.Clockless.{no-node-faults}
 use Rattle.layout.specs.declared.NodeLayout.{NodeLayout}
 use Rattle.layout.specs.Laid.{LaidNode}
-use Rattle.listing.proofs.Laws.{clocked-many}
-use Rattle.fault.specs.Value.{faultOf}
+use Rattle.lines.proofs.Laws.{clocked-many}
+use Rattle.findings.specs.Value.{faultOf}
 use Rattle.findings.specs.Findings.{findingsIn, noFault}
 use Rattle.infer_clocks.specs.declared.NodeClocked.{NodeClocked}
-use Rattle.infer_clocks.specs.Clocked.{ClocksStand, ClockedOrDeep, SitesTold}
+use Rattle.infer_clocks.specs.Clocked.{isDeep, ClocksStand, ClockedOrDeep, SitesTold}
 use Rattle.checking.proofs.Only.{sites-alone}
 use Rattle.skeleton.specs.Sites.{EquationsSited}
-use Rattle.stateless.specs.Faults.{oldFault}
 use Rattle.stateless.specs.Sheets.{oneOf, faultsBy}
 use Rattle.stateless.proofs.Nodes.{clockings-form, node-here, node-checks, same-clocking, not-too-deep, clocked, node-faults, rewriting-faulty, faultless}
 use Rattle.stateless.proofs.Stops as stops
 use Rattle.index.specs.declared.Index.{Index}
 use Rattle.index.specs.Indexed.{Indexed}
 use Rattle.node_plan.specs.declared.Outcome.{Outcome}
-use Rattle.node_plan.specs.Outcomes.{inEquation, metBy, NodePlanned, PlansNode}
+use Rattle.node_plan.specs.Outcomes.{inEquation, metBy, PlansNode}
 use Rattle.first_faults.specs.declared.FaultFound.{FaultFound}
 use Rattle.first_faults.specs.declared.NodeFound.{NodeFound}
-use Rattle.first_faults.specs.Faults.{foundOf, faultIn, FoundIn}
+use Rattle.first_faults.specs.Faults.{foundOf, faultIn, FoundIn, NodeMet}
 
 -- ---- an item of a list
 pub item-none : {A : Type 0} (l : List A) (j : ℕ) → length l ≤ j → getElem? l j ≡ none
@@ -151,36 +150,38 @@ pub all-sited : (M : ℕ) (gs vs sites : List ℕ) (n : Node) (k : Clocking) (p 
 all-sited M gs vs sites n k p q f z s = s .sited (sites-alone (k .findings) z (node-checks n k f .shallow))
 
 -- ---- what is found in a clocked node
-module _ (M : ℕ) (gs vs plan flags firsts holds types : List ℕ) (r : Input) (n : Node) (k : Clocking) (l : NodeLayout) (t : List ℕ) (m count j : ℕ) (all : findingsIn t m ≡ k .findings)
+module _ (M : ℕ) (gs vs sites plan flags firsts holds types : List ℕ) (r : Input) (n : Node) (k : Clocking) (l : NodeLayout) (t : List ℕ) (m count j : ℕ) (all : findingsIn t m ≡ k .findings)
     (counted : count ≡ length (clockFaults (findingsIn t m))) (uses : usesClocks n ≡ true) where
   abbrev this : ClockedNode
   this = record { node = n; clocking = k }
 
   -- a clock fault: the node has faults
-  pub found-clock : (a : NodeFound) (o : FaultFound) → a .fault ≡ o → 0 < count → foundOf o ≡ getElem? (clockFaults (findingsIn t m)) j → FoundIn M gs vs plan flags firsts holds types r this l j a
+  pub found-clock : (a : NodeFound) (o : FaultFound) → a .fault ≡ o → 0 < count → foundOf o ≡ getElem? (clockFaults (findingsIn t m)) j → FoundIn M gs vs sites plan flags firsts holds types r this l j a
   found-clock a o same h e = record {
     fault = ap foundOf same ∙ from-clocks r n k t m count j (foundOf o) all counted h e;
-    planned = λ z none. absurd (omega (arith, h, counted, ap (λ (x : List Finding). length (clockFaults x)) all, ap length (faultless (r .names) (r .sheet) this none .0)));
+    sited = λ z none. absurd (faulty none);
+    planned = λ z none. absurd (faulty none);
   }
+    where
+      faulty : nodeFaults (r .names) (r .sheet) this ≡ [] → ⊥
+      faulty clean = omega (arith, h, counted, ap (λ (x : List Finding). length (clockFaults x)) all, ap length (faultless (r .names) (r .sheet) this clean .0))
 
   -- none but the first
-  pub found-later : (a : NodeFound) → count ≤ 0 → 0 < j → foundOf (a .fault) ≡ none → FoundIn M gs vs plan flags firsts holds types r this l j a
-  found-later a h later e = record { fault = none-later r n k t m count j (foundOf (a .fault)) all counted h later e; planned = λ z none. absurd (omega arith) }
+  pub found-later : (a : NodeFound) → count ≤ 0 → 0 < j → foundOf (a .fault) ≡ none → FoundIn M gs vs sites plan flags firsts holds types r this l j a
+  found-later a h later e = record { fault = none-later r n k t m count j (foundOf (a .fault)) all counted h later e; sited = λ z none. absurd (omega arith); planned = λ z none. absurd (omega arith) }
 
   -- what planning met
   pub found-planned : (a : NodeFound) (o : Outcome) → foundOf (a .fault) ≡ metBy o → a .counts ≡ o .counts → count ≤ 0 → j ≤ 0
       → PlansNode M gs vs plan flags firsts holds types (r .sheet .types) (r .sheet .nodes) n (condactId (r .names)) (k .equations) (l .equations .at) (l .equations .end) o
-      → FoundIn M gs vs plan flags firsts holds types r this l j a
-  found-planned a o same counts h first p = record {
+      → EquationsSited M gs vs sites (k .equations) (l .equations .at) (l .equations .end) → FoundIn M gs vs sites plan flags firsts holds types r this l j a
+  found-planned a o same counts h first p s = record {
     fault = from-rewriting r n k t m count j (foundOf (a .fault)) all counted h first uses (same ∙ p .met);
+    sited = λ z none. s;
     planned = λ z none. rw counts (p .planned (faultless (r .names) (r .sheet) this none .1 uses));
   }
 
 -- ---- node k
 module _ (gs vs : List ℕ) (t : Index) (r : Input) (ns : List ClockedNode) (h : Indexed gs vs t r) (f : clockings 0 (r .sheet .nodes) ≡ accepted ns) (k j : ℕ) where
-  pub past-nodes : (o : Option NodeFault) → t .nodes ≤ k → o ≡ none → o ≡ faultIn r (getElem? ns k) j
-  past-nodes o l e = e ∙ sym (ap (λ (x : Option ClockedNode). faultIn r x j) (item-none ns k (omega (arith, l, clockings-form 0 (r .sheet .nodes) ns f .same-length, h .nodes .count))))
-
   pub at-node : (o : Option NodeFault) (l : NodeLayout) → k < t .nodes
       → ((n : Node) (q : ℕ) → node (t .names) (tokens gs vs) (getD (t .places) k 0) ≡ got n q → LaidNode (t .names) (tokens gs vs) n q l)
       → ((n : Node) (q : ℕ) (c : Clocking) → LaidNode (t .names) (tokens gs vs) n q l → clocking n ≡ formed c → o ≡ getElem? (nodeFaults (r .names) (r .sheet) (record { node = n; clocking = c })) j)
@@ -196,3 +197,21 @@ pub laid-at : {P : Type 0} (gs vs : List ℕ) (t : Index) (r : Input) → Indexe
     → ((n : Node) (q : ℕ) → node (t .names) (tokens gs vs) (getD (t .places) k 0) ≡ got n q → LaidNode (t .names) (tokens gs vs) n q l)
     → ((q : ℕ) → LaidNode (t .names) (tokens gs vs) n q l → P) → P
 laid-at gs vs t r h k n e l L F = let p = h .nodes .each .stands k n e in F (p .0) (L n (p .0) (p .1))
+
+-- ---- node k, which has this layout
+module _ (gs vs : List ℕ) (t : Index) (k : ℕ) (l : NodeLayout) (L : (n : Node) (q : ℕ) → node (t .names) (tokens gs vs) (getD (t .places) k 0) ≡ got n q → LaidNode (t .names) (tokens gs vs) n q l) (few : k < t .nodes)
+    (a : NodeFound) (deep : (n : Node) (q : ℕ) → LaidNode (t .names) (tokens gs vs) n q l → a .deep ≡ isDeep (clocking n)) where
+  -- it uses clocks
+  pub met-clocked : ((r : Input) (n : Node) (q : ℕ) (c : Clocking) → Indexed gs vs t r → LaidNode (t .names) (tokens gs vs) n q l → clocking n ≡ formed c → foundOf (a .fault) ≡ getElem? (nodeFaults (r .names) (r .sheet) (record { node = n; clocking = c })) 0)
+      → NodeMet gs vs t k a
+  met-clocked fault = record {
+    deep = λ r n h here. laid-at gs vs t r h k n here l L (deep n);
+    fault = λ r ns h f. at-node gs vs t r ns h f k 0 (foundOf (a .fault)) l few L (λ n q c d e. fault r n q c h d e);
+  }
+
+  -- it uses none
+  pub met-unclocked : ((n : Node) (q : ℕ) → LaidNode (t .names) (tokens gs vs) n q l → usesClocks n ≡ false) → foundOf (a .fault) ≡ none → NodeMet gs vs t k a
+  met-unclocked unused nothing = record {
+    deep = λ r n h here. laid-at gs vs t r h k n here l L (deep n);
+    fault = λ r ns h f. at-node gs vs t r ns h f k 0 (foundOf (a .fault)) l few L (λ n q c d e. none-unclocked r n c 0 (foundOf (a .fault)) (unused n q d) e nothing);
+  }

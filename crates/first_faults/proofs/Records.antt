@@ -6,18 +6,23 @@ use mathlib.Core.List.{List, [], _∷_, _++_, map, append-nil}
 use mathlib.Core.Bool.{Bool, true, false}
 use mathlib.Core.Option.{Option, none, some}
 use native.Mathlib.Omega.{arith}
+use native.Mathlib.Numerals.{add-one}
 use lib.Dec.{leb}
 use borrow.Author.Tests.{leb-true, leb-false}
-use lib.ListN.{length, take, getElem?, length-append, length-map}
+use lib.ListN.{length, take, drop, getElem?, length-append, length-map, drop-of-length-le}
 use lib.Seq.{take-all}
+use Rattle.definitions.specs.declared.Refusal.{Refusal}
 use Rattle.definitions.specs.declared.FaultRecord.{FaultRecord}
 use Rattle.definitions.specs.Lists.{choose, join, over}
-use Rattle.definitions.specs.Refusals.{accepted}
-use Rattle.definitions.specs.InferClocks.{Fault, NodeFault, faultNumber}
+use Rattle.definitions.specs.Tree.{Node}
+use Rattle.definitions.specs.Refusals.{accepted, refused}
+use Rattle.definitions.specs.InferClocks.{Fault, NodeFault, faultNumber, clocking}
 use Rattle.definitions.specs.Output.{ClockedNode, nodeFaults}
 use Rattle.definitions.specs.Answer.{Input, clockings, firstOf}
 use Rattle.spelling.specs.Writing.{overAt}
 use Rattle.spelling.proofs.Writing.{over-front, over-then, length-over}
+use Rattle.infer_clocks.specs.Clocked.{isDeep}
+use Rattle.infer_clocks.proofs.Laws.{Ahead, ahead-end, ahead-step, ahead-deep}
 use Rattle.stateless.specs.Sheets.{firstFaultsFrom}
 use Rattle.stateless.proofs.Nodes.{clockings-form, node-here, all-before, faults-end, faults-front}
 use Rattle.query.specs.Words.{recordWords, entriesOver}
@@ -167,3 +172,23 @@ module _ (r : Input) (ns : List ClockedNode) (clocks : clockings 0 (r .sheet .no
 
   pub first-end : (k m : ℕ) (now : List ℕ) → length (r .sheet .nodes) ≤ k → Recorded lent (firstFaultsFrom r 0 (take k ns)) m now → Recorded lent (firstFaultsFrom r 0 ns) m now
   first-end k m now past h = let e = all-before (clockings-form 0 (r .sheet .nodes) ns clocks) k past in rw e at h
+
+-- ---- node after node, up to the first in which too deep a clock is formed
+item-here : {A : Type 0} (l : List A) (k : ℕ) → k < length l → (a : A) × (getElem? l k ≡ some a) × (drop k l ≡ a ∷ drop (suc k) l)
+item-here [] k h = absurd (omega arith)
+item-here (a ∷ l) zero h = (a, refl, refl)
+item-here (a ∷ l) (suc k) h = item-here l k (omega arith)
+
+module _ (r : Input) (k : ℕ) (ahead : Ahead k (drop k (r .sheet .nodes)) (clockings 0 (r .sheet .nodes))) where
+  module _ (b : Bool) (few : k < length (r .sheet .nodes)) (told : (n : Node) → getElem? (r .sheet .nodes) k ≡ some n → b ≡ isDeep (clocking n)) where
+    here : (n : Node) × (drop k (r .sheet .nodes) ≡ n ∷ drop (k + 1) (r .sheet .nodes)) × (b ≡ isDeep (clocking n))
+    here = let x = item-here (r .sheet .nodes) k few in (x .0, x .2 ∙ ap (λ (i : ℕ). x .0 ∷ drop i (r .sheet .nodes)) (sym (add-one k)), told (x .0) (x .1))
+
+    pub nodes-step : b ≡ false → Ahead (k + 1) (drop (k + 1) (r .sheet .nodes)) (clockings 0 (r .sheet .nodes))
+    nodes-step e = ahead-step k (drop k (r .sheet .nodes)) (clockings 0 (r .sheet .nodes)) ahead (here .0) (drop (k + 1) (r .sheet .nodes)) (here .1) b (here .2) e
+
+    pub nodes-deep : b ≡ true → clockings 0 (r .sheet .nodes) ≡ refused (Refusal.Deep k)
+    nodes-deep e = ahead-deep k (drop k (r .sheet .nodes)) (clockings 0 (r .sheet .nodes)) ahead (here .0) (drop (k + 1) (r .sheet .nodes)) (here .1) b (here .2) e
+
+  pub nodes-end : length (r .sheet .nodes) ≤ k → (ns : List ClockedNode) × (clockings 0 (r .sheet .nodes) ≡ accepted ns)
+  nodes-end past = ahead-end k (drop k (r .sheet .nodes)) (clockings 0 (r .sheet .nodes)) ahead (drop-of-length-le (r .sheet .nodes) {i = k} past)

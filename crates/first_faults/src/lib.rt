@@ -1,35 +1,35 @@
 // The faults of an accepted sheet's nodes: a node clocked and planned, and its faults; and a list of faulty nodes' first ones.
 // `tags` and `values` are as long as each other. `env`, `table` and `sites` are the tables that clocks, findings and sites stand in;
-// `types`, `plan`, `flags`, `firsts` and `holds` are those that a node is planned in.
+// `types`, `plan` and `holds` are those that a node is planned in. Planning needs sites alone, so that the clocks with a flag go into
+// `table` then, and those with a first-tick flag into `env`.
 use definitions::MOST_NAMES;
-use fault::Fault;
+use findings::Fault;
 use index::Index;
 use infer_clocks::NodeClocked;
 use layout::NodeLayout;
-use needs::Counts;
 use node_plan::Outcome;
 use plan::Extent;
+use stateless::Counts;
 ghost use mathlib.Core.Path.{_≡_};
 ghost use mathlib.Core.List.{List, [], _∷_, _++_};
 ghost use mathlib.Core.Bool.{true, false};
-ghost use mathlib.Core.Option.{none, some};
+ghost use mathlib.Core.Option.{none};
 ghost use Prim.Native.Nat.{ℕ, _+_, _≤_, _<_};
 ghost use lib.ListN.{length, take, getElem?};
 ghost use Rattle.definitions.specs.declared.FaultRecord.{FaultRecord};
 ghost use Rattle.definitions.specs.Bytes.{tokens};
 ghost use Rattle.definitions.specs.Tree.{Node};
 ghost use Rattle.definitions.specs.InferClocks.{NodeFault, Clocked, Clocking, formed, clocking, clockFaults, usesClocks};
-ghost use Rattle.definitions.specs.Refusals.{accepted};
-ghost use Rattle.definitions.specs.Output.{condactId, ClockedNode, nodeFaults};
-ghost use Rattle.definitions.specs.Answer.{Input, clockings, firstOf};
+ghost use Rattle.definitions.specs.Output.{condactId, nodeFaults};
+ghost use Rattle.definitions.specs.Answer.{Input, firstOf};
 ghost use Rattle.spelling.specs.Writing.{overAt};
 ghost use Rattle.findings.specs.Findings.{findingsIn};
 ghost use Rattle.layout.specs.Laid.{LaidNode};
 ghost use Rattle.infer_clocks.specs.Clocked.{isDeep, ClocksStand, SitesTold};
 ghost use Rattle.skeleton.specs.Sites.{EquationsSited};
 ghost use Rattle.index.specs.Indexed.{Indexed};
-ghost use Rattle.node_plan.specs.Outcomes.{metBy, NodePlanned, PlansNode};
-ghost use Rattle.first_faults.specs.Faults.{foundOf, faultIn, FoundIn, Recorded, RoomToPlan};
+ghost use Rattle.node_plan.specs.Outcomes.{metBy, PlansNode};
+ghost use Rattle.first_faults.specs.Faults.{foundOf, FoundIn, Recorded, RoomToPlan};
 
 // Whether there is such a fault, in which equation, and which it is.
 pub struct FaultFound {
@@ -49,7 +49,7 @@ pub struct NodeFound {
 fn no_fault() -> FaultFound
     ensures { λ r. ⌜ foundOf r ≡ none ⌝ }
 {
-    let any = fault::not_single_call();
+    let any = findings::not_single_call();
     FaultFound {
         found: false,
         equation: 0,
@@ -112,7 +112,7 @@ fn met_fault(o: Outcome) -> FaultFound
 }
 
 // A node with this layout, whose sites have their clocks, planned among the nodes and types of its sheet.
-fn plan_of(
+pub fn plan_of(
     tags: &[u8],
     values: &[u32],
     t: Index,
@@ -128,7 +128,7 @@ fn plan_of(
     requires { ⌜ (t .nodes ≤ 16) × (t .types ≤ 32) ⌝ }
     ensures { λ r. ⌜ ((i : Input) (node : Node) (q : ℕ) (cs : List Clocked) → Indexed (now (tags .entry)) (now (values .entry)) t i → LaidNode (t .names) (tokens (now (tags .entry)) (now (values .entry))) node q l → EquationsSited (t .names) (now (tags .entry)) (now (values .entry)) (now (sites .entry)) cs (l .equations .at) (l .equations .end) → length cs ≡ l .equations .count → t .names ≤ length (now (types .entry)) → length (now (tags .entry)) ≤ length (now (plan .entry)) → length (now (tags .entry)) ≤ 4096 → PlansNode (t .names) (now (tags .entry)) (now (values .entry)) (now (plan .exit)) (now (flags .exit)) (now (firsts .exit)) (now (holds .exit)) (now (types .exit)) (i .sheet .types) (i .sheet .nodes) node (condactId (i .names)) cs (l .equations .at) (l .equations .end) r) ⌝ }
 {
-    let table = extents::parts_table();
+    let table = layout::parts_table();
     let places = t.places;
     let defs = t.defs;
     let has = t.has;
@@ -165,18 +165,17 @@ fn clocked_found(
     l: NodeLayout,
     n: usize,
     j: usize,
-    table: &[u32],
+    env: &mut [u32],
+    table: &mut [u32],
     sites: &[u32],
     types: &mut [u32],
     plan: &mut [u32],
-    flags: &mut [u32],
-    firsts: &mut [u32],
     holds: &mut [u32],
 ) -> NodeFound
     requires { ⌜ length (now values) ≡ length (now tags) ⌝ }
     requires { ⌜ (t .nodes ≤ 16) × (t .types ≤ 32) ⌝ }
     ensures { λ r. ⌜ r .deep ≡ false ⌝ }
-    ensures { λ r. ⌜ ((i : Input) (node : Node) (q : ℕ) (k : Clocking) (env : List ℕ) (passes : ℕ) → Indexed (now (tags .entry)) (now (values .entry)) t i → LaidNode (t .names) (tokens (now (tags .entry)) (now (values .entry))) node q l → usesClocks node ≡ true → clocking node ≡ formed k → ClocksStand env (now (table .entry)) (t .names) passes n k → SitesTold (t .names) (now (tags .entry)) (now (values .entry)) (now (sites .entry)) (k .findings) (k .equations) (l .equations .at) (l .equations .end) → t .names ≤ length (now (types .entry)) → length (now (tags .entry)) ≤ length (now (plan .entry)) → length (now (tags .entry)) ≤ 4096 → FoundIn (t .names) (now (tags .entry)) (now (values .entry)) (now (plan .exit)) (now (flags .exit)) (now (firsts .exit)) (now (holds .exit)) (now (types .exit)) i (record { node = node; clocking = k }) l j r) ⌝ }
+    ensures { λ r. ⌜ ((i : Input) (node : Node) (q : ℕ) (k : Clocking) (clocks : List ℕ) (passes : ℕ) → Indexed (now (tags .entry)) (now (values .entry)) t i → LaidNode (t .names) (tokens (now (tags .entry)) (now (values .entry))) node q l → usesClocks node ≡ true → clocking node ≡ formed k → ClocksStand clocks (now (table .entry)) (t .names) passes n k → SitesTold (t .names) (now (tags .entry)) (now (values .entry)) (now (sites .entry)) (k .findings) (k .equations) (l .equations .at) (l .equations .end) → t .names ≤ length (now (types .entry)) → length (now (tags .entry)) ≤ length (now (plan .entry)) → length (now (tags .entry)) ≤ 4096 → FoundIn (t .names) (now (tags .entry)) (now (values .entry)) (now (sites .entry)) (now (plan .exit)) (now (table .exit)) (now (env .exit)) (now (holds .exit)) (now (types .exit)) i (record { node = node; clocking = k }) l j r) ⌝ }
 {
     let m = findings::fault_count(table, n);
     if 0 < m {
@@ -186,7 +185,7 @@ fn clocked_found(
     if 0 < j {
         return nothing_found(false);
     }
-    let o = plan_of(tags, values, t, l, sites, types, plan, flags, firsts, holds);
+    let o = plan_of(tags, values, t, l, sites, types, plan, table, env, holds);
     let fault = met_fault(o);
     let counts = o.counts;
     NodeFound {
@@ -208,14 +207,12 @@ pub fn laid_found(
     sites: &mut [u32],
     types: &mut [u32],
     plan: &mut [u32],
-    flags: &mut [u32],
-    firsts: &mut [u32],
     holds: &mut [u32],
 ) -> NodeFound
     requires { ⌜ length (now values) ≡ length (now tags) ⌝ }
     requires { ⌜ (t .nodes ≤ 16) × (t .types ≤ 32) ⌝ }
     ensures { λ r. ⌜ ((node : Node) (q : ℕ) → LaidNode (t .names) (tokens (now (tags .entry)) (now (values .entry))) node q l → RoomToPlan (t .names) (length (now (tags .entry))) (now (env .entry)) (now (table .entry)) (now (sites .entry)) (now (types .entry)) (now (plan .entry)) → r .deep ≡ isDeep (clocking node)) ⌝ }
-    ensures { λ r. ⌜ ((i : Input) (node : Node) (q : ℕ) (k : Clocking) → Indexed (now (tags .entry)) (now (values .entry)) t i → LaidNode (t .names) (tokens (now (tags .entry)) (now (values .entry))) node q l → usesClocks node ≡ true → clocking node ≡ formed k → RoomToPlan (t .names) (length (now (tags .entry))) (now (env .entry)) (now (table .entry)) (now (sites .entry)) (now (types .entry)) (now (plan .entry)) → FoundIn (t .names) (now (tags .entry)) (now (values .entry)) (now (plan .exit)) (now (flags .exit)) (now (firsts .exit)) (now (holds .exit)) (now (types .exit)) i (record { node = node; clocking = k }) l j r) ⌝ }
+    ensures { λ r. ⌜ ((i : Input) (node : Node) (q : ℕ) (k : Clocking) → Indexed (now (tags .entry)) (now (values .entry)) t i → LaidNode (t .names) (tokens (now (tags .entry)) (now (values .entry))) node q l → usesClocks node ≡ true → clocking node ≡ formed k → RoomToPlan (t .names) (length (now (tags .entry))) (now (env .entry)) (now (table .entry)) (now (sites .entry)) (now (types .entry)) (now (plan .entry)) → FoundIn (t .names) (now (tags .entry)) (now (values .entry)) (now (sites .exit)) (now (plan .exit)) (now (table .exit)) (now (env .exit)) (now (holds .exit)) (now (types .exit)) i (record { node = node; clocking = k }) l j r) ⌝ }
 {
     let mut marks = [0u8; MOST_NAMES];
     let mut ports = [0u32; MOST_NAMES];
@@ -239,63 +236,40 @@ pub fn laid_found(
             l,
             n,
             j,
+            env,
             table,
             sites,
             types,
             plan,
-            flags,
-            firsts,
             holds,
         ),
     }
 }
 
-// Fault j of node k. A node that uses no clocks has none, so its clocks are not inferred.
-pub fn fault_at(
+// A node with this layout: whether too deep a clock is formed, else its fault j. One that uses no clocks has none, so they are not inferred.
+pub fn fault_in(
     tags: &[u8],
     values: &[u32],
     t: Index,
-    k: usize,
+    l: NodeLayout,
     j: usize,
     env: &mut [u32],
     table: &mut [u32],
     sites: &mut [u32],
     types: &mut [u32],
     plan: &mut [u32],
-    flags: &mut [u32],
-    firsts: &mut [u32],
     holds: &mut [u32],
-) -> FaultFound
+) -> NodeFound
     requires { ⌜ length (now values) ≡ length (now tags) ⌝ }
     requires { ⌜ (t .nodes ≤ 16) × (t .types ≤ 32) ⌝ }
-    ensures { λ r. ⌜ ((i : Input) (ns : List ClockedNode) → Indexed (now (tags .entry)) (now (values .entry)) t i → clockings 0 (i .sheet .nodes) ≡ accepted ns → RoomToPlan (t .names) (length (now (tags .entry))) (now (env .entry)) (now (table .entry)) (now (sites .entry)) (now (types .entry)) (now (plan .entry)) → foundOf r ≡ faultIn i (getElem? ns k) j) ⌝ }
+    ensures { λ r. ⌜ ((node : Node) (q : ℕ) → LaidNode (t .names) (tokens (now (tags .entry)) (now (values .entry))) node q l → RoomToPlan (t .names) (length (now (tags .entry))) (now (env .entry)) (now (table .entry)) (now (sites .entry)) (now (types .entry)) (now (plan .entry)) → r .deep ≡ isDeep (clocking node)) ⌝ }
+    ensures { λ r. ⌜ ((i : Input) (node : Node) (q : ℕ) (k : Clocking) → Indexed (now (tags .entry)) (now (values .entry)) t i → LaidNode (t .names) (tokens (now (tags .entry)) (now (values .entry))) node q l → clocking node ≡ formed k → RoomToPlan (t .names) (length (now (tags .entry))) (now (env .entry)) (now (table .entry)) (now (sites .entry)) (now (types .entry)) (now (plan .entry)) → foundOf (r .fault) ≡ getElem? (nodeFaults (i .names) (i .sheet) (record { node = node; clocking = k })) j) ⌝ }
 {
-    if t.nodes <= k {
-        return no_fault();
-    }
-    let places = t.places;
-    let at = places[k];
-    let l = layout::node_at(tags, values, t.names, at);
     let e = l.equations;
-    if extents::equations_use_clocks(tags, values, e.count, e.at) {
-        let f = laid_found(
-            tags,
-            values,
-            t,
-            l,
-            j,
-            env,
-            table,
-            sites,
-            types,
-            plan,
-            flags,
-            firsts,
-            holds,
-        );
-        return f.fault;
+    if layout::equations_use_clocks(tags, values, e.count, e.at) {
+        return laid_found(tags, values, t, l, j, env, table, sites, types, plan, holds);
     }
-    no_fault()
+    nothing_found(false)
 }
 
 // A fault record in the three words from b on.
@@ -320,7 +294,7 @@ pub fn add_fault(list: &mut [u32], m: usize, node: u32, f: FaultFound) -> usize
             return m + 1;
         }
         let fault = f.fault;
-        let number = fault::fault_number(fault);
+        let number = findings::fault_number(fault);
         put_record(list, 3 * m, node, number, f.equation);
         return m + 1;
     }

@@ -18,9 +18,9 @@ use Rattle.definitions.specs.Tree.{Expr}
 use Rattle.definitions.specs.Reading.{Got, got, rejected, Reader, after, allowed, atToken, token, limited, times}
 use Rattle.definitions.specs.Grammar.{valueAt, tagged, kindAt, counted, high, name, ty, exprs, fields, form, expr}
 use Rattle.definitions.specs.Bytes.{tokens}
-use Rattle.reader.specs.declared.Step.{Step}
-use Rattle.reader.specs.Step.{stepOf, stepAt}
-use Rattle.reader.proofs.Laws.{tokens-at}
+use Rattle.grammar.specs.declared.Step.{Step}
+use Rattle.grammar.specs.Step.{stepOf, stepAt}
+use Rattle.grammar.proofs.ReaderLaws.{tokens-at}
 use Rattle.grammar.specs.declared.Read.{Read}
 use Rattle.grammar.specs.declared.Counted.{Counted}
 use Rattle.grammar.specs.declared.ExprHead.{ExprHead}

@@ -1,3 +1,6 @@
+pub mod Found
+pub mod Range
+pub mod Step
 pub mod Outcome
 pub mod Shape
 pub mod Parts

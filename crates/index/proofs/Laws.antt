@@ -14,7 +14,7 @@ use Rattle.definitions.specs.Output.{condactId}
 use Rattle.definitions.specs.Answer.{Input}
 use Rattle.layout.specs.declared.SheetLayout.{SheetLayout}
 use Rattle.layout.specs.Laid.{LaidSheet, Places}
-use Rattle.typedefs.specs.Table.{Table}
+use Rattle.layout.specs.Table.{Table}
 use Rattle.defaults.specs.Has.{DefaultsKnown}
 use Rattle.index.specs.Indexed.{Indexed}
 

@@ -5,10 +5,10 @@ use mathlib.Core.List.{List}
 use Rattle.definitions.specs.Bytes.{tokens}
 use Rattle.definitions.specs.Output.{condactId}
 use Rattle.definitions.specs.Answer.{Input}
-use Rattle.typedefs.specs.Table.{Table}
+use Rattle.layout.specs.Table.{Table}
 use Rattle.layout.specs.Laid.{LaidSheet}
 use Rattle.defaults.specs.Has.{DefaultsKnown}
-use Rattle.callees.specs.Callees.{NodesStand}
+use Rattle.index.specs.Callees.{NodesStand}
 use Rattle.index.specs.declared.Index.{Index}
 
 -- the sheet r in its index: its nodes and its types' definitions stand where this says, which of the definitions have a default, and

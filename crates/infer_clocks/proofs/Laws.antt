@@ -20,8 +20,8 @@ use Rattle.definitions.specs.Tree.{Equation, Node}
 use Rattle.definitions.specs.Reading.{got, times}
 use Rattle.definitions.specs.Grammar.{equation, node}
 use Rattle.definitions.specs.Clock.{Clock, base, isBase, inChainOrder}
-use Rattle.clock.specs.declared.Presence.{Presence}
-use Rattle.clock.specs.Value.{naturalAt}
+use Rattle.clock_tables.specs.declared.Presence.{Presence}
+use Rattle.clock_tables.specs.Value.{naturalAt}
 use Rattle.definitions.specs.Refusals.{Answer, accepted, refused}
 use Rattle.definitions.specs.InferClocks.{Formed, deep, formed, _>>=_, Natural, Clocks, Finding, found, site, tooDeep, Inferred, Clocking, Clocked, isTooDeep, ports, natural, orBase, clockedBy, checkEquation, inferred, clocking, sites, chains, samples, usesClocks}
 use Rattle.definitions.specs.Output.{ClockedNode}
@@ -30,16 +30,16 @@ use Rattle.shapes.proofs.Clockless.{clockless}
 use Rattle.grammar.proofs.Laws.{tokens-length}
 use Rattle.grammar.proofs.Got.{times-nil, times-cons}
 use Rattle.grammar.proofs.Longer.{times-keeps, keeps, equation-grows}
-use Rattle.environment.specs.Environment.{Agrees}
+use Rattle.clock_tables.specs.Environment.{Agrees}
 use Rattle.operands.specs.Spread.{tree}
 use Rattle.layout.specs.declared.EquationLayout.{EquationLayout}
 use Rattle.layout.specs.declared.NodeLayout.{NodeLayout}
 use Rattle.layout.specs.Laid.{LaidNode, LaidEquation}
 use Rattle.findings.specs.Findings.{findingsIn, FindingsHeld}
 use Rattle.findings.proofs.Laws.{holds-none, holds-fits, length-from}
-use Rattle.rows.specs.Rows.{clocksFrom, clocksIn, RowsHold}
-use Rattle.passes.specs.declared.Inference.{Inference}
-use Rattle.passes.specs.Passes.{Marked, Infers}
+use Rattle.clock_tables.specs.Rows.{clocksFrom, clocksIn, RowsHold}
+use Rattle.inference.specs.declared.Inference.{Inference}
+use Rattle.inference.specs.Passes.{Marked, Infers}
 use Rattle.checking.specs.Walk.{PortMarks}
 use Rattle.checking.proofs.Size.{equations-fit}
 use Rattle.infer_clocks.specs.declared.Tally.{Tally}
@@ -353,8 +353,8 @@ pub ahead-start : (ns : List Node) → Ahead 0 ns (clockings 0 ns)
 ahead-start ns = record { sunk = λ j e. e; fine = λ l e. (l, e) }
 
 module _ (i : ℕ) (rest : List Node) (v : Answer (List ClockedNode)) (h : Ahead i rest v) where
-  pub ahead-end : rest ≡ [] → Deeply Deepest.Nowhere v
-  unfolding Deeply clockings
+  pub ahead-end : rest ≡ [] → (l : List ClockedNode) × (v ≡ accepted l)
+  unfolding clockings
   ahead-end e = h .fine [] (rw e)
 
   module _ (n : Node) (ns : List Node) (r : rest ≡ n ∷ ns) (b : Bool) (d : b ≡ isDeep (clocking n)) where
@@ -366,8 +366,7 @@ module _ (i : ℕ) (rest : List Node) (v : Answer (List ClockedNode)) (h : Ahead
           fine = λ k e. h .fine (record { node = n; clocking = x .0 } ∷ k) (rest-fine i n (x .0) rest ns r (x .1) k e);
         }
 
-    pub ahead-deep : b ≡ true → Deeply (Deepest.At i) v
-    unfolding Deeply
+    pub ahead-deep : b ≡ true → v ≡ refused (Refusal.Deep i)
     ahead-deep j = h .sunk i (ap (clockings i) r ∙ here-sunk i n ns (is-deep (clocking n) (sym d ∙ j)))
 
 -- the nodes left stand there, and tell what v is
@@ -381,8 +380,12 @@ nodes-start M ts count at q ns g =
     let k : count - 0 ≡ count = omega arith in
     record { rest = ns; items = rw k g; ahead = ahead-start ns }
 
-pub nodes-end : (M : ℕ) (ts : List TagValue) (left i place q : ℕ) (v : Answer (List ClockedNode)) → left ≡ 0 → Nodes M ts left i place q v → Deeply Deepest.Nowhere v
-nodes-end M ts left i place q v z h = ahead-end i (h .rest) v (h .ahead) (times-nil (node M) ts left place (h .rest) q z (h .items) .0)
+pub nodes-end : (M : ℕ) (ts : List TagValue) (left i place q : ℕ) (v : Answer (List ClockedNode)) → left ≡ 0 → Nodes M ts left i place q v → Deeply q (Deepest.Nowhere place) v
+unfolding Deeply
+nodes-end M ts left i place q v z h =
+    let n = times-nil (node M) ts left place (h .rest) q z (h .items) in
+    let e = ahead-end i (h .rest) v (h .ahead) (n .0) in
+    (sym (n .1), e .0, e .1)
 
 module _ (M : ℕ) (ts : List TagValue) (count i place q : ℕ) (v : Answer (List ClockedNode)) (l : NodeLayout) (b : Bool) (z : i < count)
     (L : (n : Node) (q : ℕ) → node M ts place ≡ got n q → LaidNode M ts n q l)
@@ -395,7 +398,8 @@ module _ (M : ℕ) (ts : List TagValue) (count i place q : ℕ) (v : Answer (Lis
       let u : count - (i + 1) ≡ count - i - 1 = omega arith in
       record { rest = c .2; items = rw (d .ends, u) (c .4); ahead = ahead-step i (h .rest) v (h .ahead) (c .0) (c .2) (c .5) b (E (c .0) (c .1) d) j }
 
-  pub nodes-deep : b ≡ true → Deeply (Deepest.At i) v
+  pub nodes-deep : b ≡ true → Deeply q (Deepest.At i) v
+  unfolding Deeply
   nodes-deep j =
       let c = times-cons (node M) ts (count - i) place (h .rest) q (λ y. omega (arith, y)) (h .items) in
       ahead-deep i (h .rest) v (h .ahead) (c .0) (c .2) (c .5) b (E (c .0) (c .1) (L (c .0) (c .1) (c .3))) j

@@ -16,15 +16,15 @@ use Rattle.definitions.specs.Grammar.{equation}
 use Rattle.definitions.specs.Clock.{Clock}
 use Rattle.definitions.specs.InferClocks.{Natural, deep, formed, _>>=_, Formed, Clocks, Clocked, Clocking, Finding, Inferred, inferred, natural, orBase, clockedBy, checkEquation, isTooDeep, clocking}
 use Rattle.grammar.proofs.Got.{times-nil, times-cons}
-use Rattle.flat.specs.Flat.{clockIn}
+use Rattle.clock_tables.specs.Flat.{clockIn}
 use Rattle.skeleton.specs.Sites.{EquationSited, EquationsSited, EquationsOn}
 use Rattle.checking.specs.Walk.{onlySites, EquationStored}
 use Rattle.checking.proofs.Only.{only-both, only-right}
 use Rattle.infer_clocks.specs.Clocked.{isDeep, ClockedOrDeep, SitesTold}
 use Rattle.infer_clocks.specs.declared.NodeClocked.{NodeClocked}
-use Rattle.environment.specs.Environment.{Agrees}
-use Rattle.passes.specs.declared.Inference.{Inference}
-use Rattle.passes.specs.Passes.{Infers}
+use Rattle.clock_tables.specs.Environment.{Agrees}
+use Rattle.inference.specs.declared.Inference.{Inference}
+use Rattle.inference.specs.Passes.{Infers}
 
 -- two tables have the same rows from p up to q
 abbrev pub SameRows : List ℕ → List ℕ → ℕ → ℕ → Type 0

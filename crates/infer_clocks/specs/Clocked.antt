@@ -9,7 +9,7 @@ use Rattle.definitions.specs.Tree.{Equation, Node}
 use Rattle.definitions.specs.Refusals.{Answer, accepted, refused}
 use Rattle.definitions.specs.InferClocks.{Formed, deep, formed, _>>=_, Clocks, Finding, Clocked, Clocking, natural, orBase, checkEquation}
 use Rattle.definitions.specs.Output.{ClockedNode}
-use Rattle.environment.specs.Environment.{Agrees}
+use Rattle.clock_tables.specs.Environment.{Agrees}
 use Rattle.findings.specs.Findings.{findingsIn, FindingsHeld}
 use Rattle.skeleton.specs.Sites.{EquationsOn, EquationsSited}
 use Rattle.checking.specs.Walk.{onlySites}
@@ -60,7 +60,7 @@ unfoldable pub ClockedOrDeep : List ℕ → List ℕ → ℕ → NodeClocked →
 ClockedOrDeep env t m NodeClocked.Deep v = v ≡ deep
 ClockedOrDeep env t m (NodeClocked.Clocked passes n) v = (k : Clocking) × (v ≡ formed k) × ClocksStand env t m passes n k
 
--- the first node in which too deep a clock is formed
-unfoldable pub Deeply : Deepest → Answer (List ClockedNode) → Type 0
-Deeply (Deepest.At i) v = v ≡ refused (Refusal.Deep i)
-Deeply Deepest.Nowhere v = (l : List ClockedNode) × (v ≡ accepted l)
+-- the first node in which too deep a clock is formed; or q, where the nodes end
+unfoldable pub Deeply : ℕ → Deepest → Answer (List ClockedNode) → Type 0
+Deeply q (Deepest.At i) v = v ≡ refused (Refusal.Deep i)
+Deeply q (Deepest.Nowhere p) v = (p ≡ q) × (l : List ClockedNode) × (v ≡ accepted l)

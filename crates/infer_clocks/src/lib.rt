@@ -1,11 +1,11 @@
 // What clock inference and checking say of a node, and the first node in which too deep a clock is formed.
 // `tags` and `values` are as long as each other; `names` is the number of names. `env` has seventeen words a name, `marks` a byte
 // and `ports` a word a name, `table` thirty-eight words a token, `sites` seventeen words a token.
-use clock::Clock;
-use clock::Natural;
-use clock::Presence;
+use clock_tables::Clock;
+use clock_tables::Natural;
+use clock_tables::Presence;
+use inference::Inference;
 use layout::NodeLayout;
-use passes::Inference;
 ghost use mathlib.Core.Path.{_≡_};
 ghost use mathlib.Core.List.{List};
 ghost use mathlib.Core.Bool.{true};
@@ -21,11 +21,11 @@ ghost use Rattle.definitions.specs.Clock as trees;
 ghost use Rattle.definitions.specs.InferClocks as rules;
 ghost use Rattle.definitions.specs.InferClocks.{Clocks, Finding, Clocked, Clocking, formed, orBase, clockedBy, checkEquation, clocking, chains};
 ghost use Rattle.definitions.specs.Answer.{clockings};
-ghost use Rattle.clock.specs.Value.{valueOf, naturalOf};
-ghost use Rattle.environment.specs.Environment.{Agrees};
+ghost use Rattle.clock_tables.specs.Value.{valueOf, naturalOf};
+ghost use Rattle.clock_tables.specs.Environment.{Agrees};
 ghost use Rattle.findings.specs.Findings.{findingsIn, FindingsHeld};
-ghost use Rattle.fresh.specs.Places.{lettersAt};
-ghost use Rattle.order.specs.Order.{rowOf, picked};
+ghost use Rattle.spelling.specs.Places.{lettersAt};
+ghost use Rattle.chain_order.specs.Order.{rowOf, picked};
 ghost use Rattle.operands.specs.Spread.{tree};
 ghost use Rattle.layout.specs.Laid.{LaidNode};
 ghost use Rattle.checking.specs.Walk.{PortMarks, EquationStored};
@@ -44,9 +44,9 @@ pub enum NodeClocked {
     Clocked(usize, usize),
 }
 
-// The first node in which too deep a clock is formed.
+// The first of some nodes in which too deep a clock is formed; or where they end.
 pub enum Deepest {
-    Nowhere,
+    Nowhere(usize),
     At(u32),
 }
 
@@ -56,9 +56,9 @@ fn or_base(n: Natural) -> Clock
 {
     let p = n.presence;
     match p {
-        Presence::Free => clock::base(),
+        Presence::Free => clock_tables::base(),
         Presence::On => n.clock,
-        Presence::Deep => clock::base(),
+        Presence::Deep => clock_tables::base(),
     }
 }
 
@@ -116,7 +116,7 @@ fn check_one(
     ensures { λ r. ⌜ ((node : Node) (clocks : Clocks) (e : Equation) (q : ℕ) (fs : List Finding) → Agrees (now (env .entry)) names clocks → PortMarks (now (ports .entry)) names node → equation names (tokens (now (tags .entry)) (now (values .entry))) at ≡ got e q → tree names (tokens (now (tags .entry)) (now (values .entry))) right ≡ got (e .right) q → FindingsHeld (now (table .entry)) n fs → Tallied (now (table .exit)) r (joined fs (foundIn node clocks number e))) ⌝ }
     ensures { λ r. ⌜ ((clocks : Clocks) (e : Equation) (q : ℕ) (o : Option trees.Clock) → Agrees (now (env .entry)) names clocks → equation names (tokens (now (tags .entry)) (now (values .entry))) at ≡ got e q → tree names (tokens (now (tags .entry)) (now (values .entry))) right ≡ got (e .right) q → rules.natural clocks (e .right) ≡ formed o → EquationStored names (now (tags .entry)) (now (values .entry)) (now (sites .entry)) (now (sites .exit)) number (orBase o) e at q) ⌝ }
 {
-    let own = natural::natural_clock(tags, values, names, env, right);
+    let own = inference::natural_clock(tags, values, names, env, right);
     if is_deep(own) {
         return Tally::Deep;
     }
@@ -203,7 +203,7 @@ pub fn clock_laid(
     ensures { λ r. ⌜ ((n : Node) (q : ℕ) → LaidNode names (tokens (now (tags .entry)) (now (values .entry))) n q l → 17 * names ≤ length (now (env .entry)) → names ≤ length (now (marks .entry)) → names ≤ length (now (ports .entry)) → 38 * length (now (tags .entry)) ≤ length (now (table .entry)) → ClockedOrDeep (now (env .exit)) (now (table .exit)) names r (clocking n)) ⌝ }
     ensures { λ _. ⌜ ((n : Node) (q : ℕ) (k : Clocking) → LaidNode names (tokens (now (tags .entry)) (now (values .entry))) n q l → clocking n ≡ formed k → 17 * names ≤ length (now (env .entry)) → names ≤ length (now (marks .entry)) → names ≤ length (now (ports .entry)) → 38 * length (now (tags .entry)) ≤ length (now (table .entry)) → 17 * length (now (tags .entry)) ≤ length (now (sites .entry)) → SitesTold names (now (tags .entry)) (now (values .entry)) (now (sites .exit)) (k .findings) (k .equations) (l .equations .at) (l .equations .end)) ⌝ }
 {
-    let inferred = passes::infer(tags, values, names, l, env, marks);
+    let inferred = inference::infer(tags, values, names, l, env, marks);
     match inferred {
         Inference::Deep => NodeClocked::Deep,
         Inference::Passes(k) => {
@@ -241,7 +241,7 @@ fn deep_laid(
     ensures { λ r. ⌜ ((n : Node) (q : ℕ) → LaidNode names (tokens (now (tags .entry)) (now (values .entry))) n q l → 17 * names ≤ length (now (env .entry)) → names ≤ length (now (marks .entry)) → names ≤ length (now (ports .entry)) → 38 * length (now (tags .entry)) ≤ length (now (table .entry)) → r ≡ isDeep (clocking n)) ⌝ }
 {
     let e = l.equations;
-    let uses = extents::equations_use_clocks(tags, values, e.count, e.at);
+    let uses = layout::equations_use_clocks(tags, values, e.count, e.at);
     if !uses {
         return false;
     }
@@ -252,7 +252,7 @@ fn deep_laid(
     }
 }
 
-// The first of so many nodes, the first of which stands there, in which too deep a clock is formed.
+// The first of so many nodes, the first of which stands there, in which too deep a clock is formed; or where they end.
 pub fn first_deep(
     tags: &[u8],
     values: &[u32],
@@ -266,7 +266,7 @@ pub fn first_deep(
     sites: &mut [u32],
 ) -> Deepest
     requires { ⌜ length (now values) ≡ length (now tags) ⌝ }
-    ensures { λ r. ⌜ ((ns : List Node) (q : ℕ) → times count (node names) (tokens (now (tags .entry)) (now (values .entry))) at ≡ got ns q → 17 * names ≤ length (now (env .entry)) → names ≤ length (now (marks .entry)) → names ≤ length (now (ports .entry)) → 38 * length (now (tags .entry)) ≤ length (now (table .entry)) → Deeply r (clockings 0 ns)) ⌝ }
+    ensures { λ r. ⌜ ((ns : List Node) (q : ℕ) → times count (node names) (tokens (now (tags .entry)) (now (values .entry))) at ≡ got ns q → 17 * names ≤ length (now (env .entry)) → names ≤ length (now (marks .entry)) → names ≤ length (now (ports .entry)) → 38 * length (now (tags .entry)) ≤ length (now (table .entry)) → Deeply q r (clockings 0 ns)) ⌝ }
 {
     let mut i: u32 = 0;
     let mut place = at;
@@ -278,7 +278,7 @@ pub fn first_deep(
         place = l.end;
         i += 1;
     }
-    Deepest::Nowhere
+    Deepest::Nowhere(place)
 }
 
 // The chains of a node by its findings, in order: how many there are, and which rows.
@@ -300,5 +300,5 @@ pub fn chain_rows(
         return 0;
     }
     let k = m as u32;
-    order::sort_rows(starts, letters, rows, chain, k)
+    chain_order::sort_rows(starts, letters, rows, chain, k)
 }

@@ -8,8 +8,8 @@ use Rattle.definitions.specs.Tokens.{TagValue}
 use Rattle.definitions.specs.Tree.{TypeDef}
 use Rattle.definitions.specs.Grammar.{name, declaration}
 use Rattle.grammar.proofs.Laws.{times-length}
-use Rattle.typedefs.specs.declared.Defined.{Defined}
-use Rattle.typedefs.specs.Table.{Described}
+use Rattle.layout.specs.declared.Defined.{Defined}
+use Rattle.layout.specs.Table.{Described}
 use Rattle.inspect.specs.declared.TypeKind.{TypeKind}
 use Rattle.inspect.specs.Summary.{typeSummary}
 

@@ -4,13 +4,13 @@ use definitions::MOST_TOKENS;
 use definitions::MOST_TYPES;
 use definitions::NodeKind;
 use definitions::Refusal;
+use layout::Defined;
 use layout::NodeLayout;
 use libc::STDERR_FILENO;
 use libc::STDIN_FILENO;
 use libc::STDOUT_FILENO;
 use parts::Sizes;
 use sheet::SheetAnswer;
-use typedefs::Defined;
 ghost use mathlib.Core.Path.{_≡_};
 ghost use Prim.Native.Nat.{ℕ, _≤_};
 ghost use lib.ListN.{length};
@@ -61,7 +61,7 @@ fn put_type(
     t: TypeSummary,
 ) -> usize {
     let a = spelling::put_all(out, at, b"type ");
-    let b = fresh::put_name(out, a, starts, letters, t.name);
+    let b = spelling::put_name(out, a, starts, letters, t.name);
     let kind = t.kind;
     let c = put_type_kind(out, b, kind);
     let d = refusals::put_number(out, c, widths::wide(t.count));
@@ -107,7 +107,7 @@ fn put_node(
     uses: bool,
 ) -> usize {
     let a = spelling::put_all(out, at, b"node ");
-    let b = fresh::put_name(out, a, starts, letters, n.name);
+    let b = spelling::put_name(out, a, starts, letters, n.name);
     let kind = n.kind;
     let c = put_node_kind(out, b, kind);
     let d = put_counts(out, c, n);
@@ -119,7 +119,7 @@ fn type_summary(tags: &[u8], values: &[u32], names: u32, at: usize) -> TypeSumma
     requires { ⌜ length (now values) ≡ length (now tags) ⌝ }
     ensures { λ r. ⌜ ((d : TypeDef) (q : ℕ) → typeDef names (tokens (now (tags .entry)) (now (values .entry))) at ≡ got d q → r ≡ typeSummary d) ⌝ }
 {
-    let found = typedefs::describe(tags, values, names, at);
+    let found = layout::describe(tags, values, names, at);
     match found {
         Defined::Enum(x, n, _) => TypeSummary {
             name: x,
@@ -218,7 +218,7 @@ fn put_lines(
     requires { ⌜ sum (now lengths) ≤ 16384 ⌝ }
 {
     let mut starts = [0u32; 1025];
-    fresh::fill_starts(lengths, &mut starts);
+    spelling::fill_starts(lengths, &mut starts);
     let names = widths::narrow(sizes.names);
     let a = put_sizes(out, sizes);
     let b = put_types(out, a, tags, values, names, &starts, letters);
@@ -293,7 +293,7 @@ rewrite --help lists the numbers. The exit status is 0 in both cases.
 fn asks_help() -> bool {
     let mut word = [0u8; MOST_NODES];
     let n = os::arg(1, &mut word);
-    names::same(&word[..n], b"--help")
+    parts::same(&word[..n], b"--help")
 }
 
 fn main() {

@@ -23,7 +23,7 @@ use Rattle.grammar.proofs.Laws.{tokens-length, times-length}
 use Rattle.grammar.proofs.Parts.{counted-within}
 use Rattle.grammar.proofs.Longer.{token-got, counted-grows, tagged-grows, name-grows}
 use Rattle.grammar.proofs.Got.{times-nil, times-cons, token-value, tagged-value, counted-value, declarations-got, equation-got, node-got, sheet-got}
-use Rattle.typedefs.proofs.Laws.{placeAt, item}
+use Rattle.layout.proofs.TypedefsLaws.{placeAt, item}
 use Rattle.layout.specs.declared.Span.{Span}
 use Rattle.layout.specs.Spans.{pastIn, kindOr, kindIn, endOf, Spanned, Spans}
 use Rattle.layout.specs.Laid.{LaidNode, LaidEquation, LaidSheet, Places}
@@ -177,12 +177,6 @@ pub item-at : {A : Type 0} (l : List A) (i : ℕ) (a : A) → getElem? l i ≡ s
 item-at [] i a e = let z : _≡_ {A = ℕ} 0 1 = cc in absurd (omega arith)
 item-at (b ∷ l) zero a e = (cc, omega arith)
 item-at (b ∷ l) (suc i) a e = let r = item-at l i a e in (r .0, omega (arith, r .1))
-
--- there is one at each place below the length
-pub at-item : {A : Type 0} (l : List A) (i : ℕ) → i < length l → (a : A) × (getElem? l i ≡ some a)
-at-item [] i h = absurd (omega arith)
-at-item (b ∷ l) zero h = (b, refl)
-at-item (b ∷ l) (suc i) h = at-item l i (omega arith)
 
 -- a table that is filled
 pub places : {A : Type 0} (R : Reader A) (ts : List TagValue) (ps : List ℕ) (n p : ℕ) (l : List A) (q : ℕ) → ((k : ℕ) → k < n → getD ps k 0 ≡ placeAt R ts p k) → times n R ts p ≡ got l q → Places R ts ps l

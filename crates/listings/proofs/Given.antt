@@ -9,9 +9,9 @@ use Rattle.definitions.specs.Lists.{Letters}
 use Rattle.definitions.specs.Refusals.{Answer, accepted, refused, faulty, Told, down, told, _>>=_}
 use Rattle.definitions.specs.Output.{lettersOf, ClockedNode}
 use Rattle.definitions.specs.Answer.{Input, input, NodeClocks, nodeAt, nodeClocks, nodeListing, clocksAnswer, listingAnswer, listingsAnswer}
-use Rattle.listing.specs.declared.Told as listing
-use Rattle.texts.specs.declared.Lending.{Lending}
-use Rattle.texts.specs.Lending.{lentText, Gives}
+use Rattle.lines.specs.declared.Told as listing
+use Rattle.lines.specs.declared.Lending.{Lending}
+use Rattle.lines.specs.Lending.{lentText, Gives}
 use Rattle.query.specs.declared.NodeAnswer.{NodeAnswer}
 use Rattle.query.specs.declared.NodeCounts.{NodeCounts}
 use Rattle.query.specs.Standing.{NodeWithClocks, NodeTold}

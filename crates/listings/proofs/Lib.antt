@@ -1,3 +1,3 @@
 -- What the proofs of several functions use.
 pub mod Given
-pub mod Last
+pub mod All

@@ -9,7 +9,7 @@ use Rattle.definitions.specs.Tree.{Node}
 use Rattle.definitions.specs.Refusals.{Answer, accepted, refused, faulty, bytesAfter, _>>=_}
 use Rattle.definitions.specs.Output.{lettersOf}
 use Rattle.definitions.specs.Answer.{Input, NodeClocks, clockings, nodeAt, nodeClocks, nodeListing}
-use Rattle.texts.specs.Lending.{lentText}
+use Rattle.lines.specs.Lending.{lentText}
 use Rattle.query.specs.Words.{clocksOver, faultsOver, countsOf}
 use Rattle.listings.specs.declared.ClocksAnswer.{ClocksAnswer}
 use Rattle.listings.specs.declared.ListingAnswer.{ListingAnswer}

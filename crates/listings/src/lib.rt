@@ -3,28 +3,29 @@
 // above: `env` for the clocks of names, `table` for what is found in equations, `rows` and `chain` for chains and their order, `sites` for
 // the clocks of equations.
 use definitions::Refusal;
-use listing::Told;
-use query::Measured;
+use lines::Lending;
+use lines::Told;
+use parts::Written;
+use query::ListingsPut;
 use query::NodeAnswer;
 use query::NodeCounts;
-use texts::Lending;
 ghost use mathlib.Core.Path.{_≡_};
-ghost use mathlib.Core.List.{List, [], _∷_, _++_};
-ghost use Prim.Native.Nat.{ℕ, _+_, _≤_, _<_, _^_};
+ghost use mathlib.Core.List.{List};
+ghost use Prim.Native.Nat.{ℕ, _≤_};
 ghost use lib.ListN.{length};
 ghost use Rattle.definitions.specs.Bytes.{tokens};
-ghost use Rattle.definitions.specs.Lists.{join, numbered};
 ghost use Rattle.definitions.specs.Tree.{Node};
 ghost use Rattle.definitions.specs.Reading.{got, times};
 ghost use Rattle.definitions.specs.Grammar.{node};
-ghost use Rattle.definitions.specs.Refusals.{accepted};
 ghost use Rattle.definitions.specs.Output.{ClockedNode};
-ghost use Rattle.definitions.specs.Answer.{Input, clockings, nodeListing};
-ghost use Rattle.fresh.specs.Places.{lettersAt};
-ghost use Rattle.spelling.specs.Writing.{farthest};
-ghost use Rattle.texts.specs.Lending.{lentText};
+ghost use Rattle.definitions.specs.Answer.{Input, nodeListing};
+ghost use Rattle.spelling.specs.Places.{lettersAt};
+ghost use Rattle.lines.specs.Lending.{lentText};
 ghost use Rattle.query.specs.Standing.{Standing, Roomy, Ample, NodeWithClocks};
 ghost use Rattle.listings.specs.Answers.{clocksOf, listingOf, nodesListed, listingsOf, ClocksInWords, ListingGiven};
+
+// Enough bytes for the listings of usual sheets.
+const ASIDE: usize = 65536;
 
 // A node's name, passes and counts, or turned down.
 pub enum ClocksAnswer {
@@ -94,7 +95,7 @@ fn listing_told(
     requires { ⌜ length (now values) ≡ length (now tags) ⌝ }
     ensures { λ r. ⌜ ((n : ClockedNode) → NodeWithClocks (told .names) (now (tags .entry)) (now (values .entry)) (now (table .entry)) (now (sites .entry)) (told .number) told n → Ample (now (table .entry)) (now (rows .entry)) (now (chain .entry)) → length (now (letters .entry)) ≤ 16384 → length (now (tags .entry)) ≤ 4096 → ListingGiven (lentText (nodeListing (lettersAt (now (starts .entry)) (now (letters .entry))) (told .number) n) (length (now (out .entry)))) (now (out .entry)) (now (out .exit)) r) ⌝ }
 {
-    let lent = listing::node_into(
+    let lent = lines::node_into(
         out,
         starts,
         letters,
@@ -150,9 +151,20 @@ pub fn listing_in(
     }
 }
 
-// The listings of n nodes, of which the first stands at `from` and which take so many bytes, and behind them that of a clocked node,
-// which is written first, while its clocks stand in the working tables.
-fn listings_told(
+// A text over the front of the lent bytes, if these are enough.
+pub fn lend(text: &[u8], out: &mut [u8]) -> ListingAnswer
+    ensures { λ a. ⌜ ListingGiven (lentText (now (text .entry)) (length (now (out .entry)))) (now (out .entry)) (now (out .exit)) a ⌝ }
+{
+    let w = parts::write_bytes(text, out);
+    match w {
+        Written::Done(n) => ListingAnswer::Written(n),
+        Written::Lent(n) => ListingAnswer::Refused(Refusal::Lent(n)),
+    }
+}
+
+// The listings of n nodes, of which the first stands at `from`, over the front of the lent bytes, if these are enough. They are put aside first,
+// which measures them, so that each node is clocked once; longer ones are put again.
+fn listings_lent(
     out: &mut [u8],
     starts: &[u32],
     letters: &[u8],
@@ -161,8 +173,6 @@ fn listings_told(
     names: u32,
     n: u32,
     from: usize,
-    before: usize,
-    told: Told,
     env: &mut [u32],
     table: &mut [u32],
     rows: &mut [u32],
@@ -170,40 +180,11 @@ fn listings_told(
     sites: &mut [u32],
 ) -> ListingAnswer
     requires { ⌜ length (now values) ≡ length (now tags) ⌝ }
-    requires { ⌜ before + farthest < 2 ^ 64 ⌝ }
-    ensures { λ r. ⌜ ((ns : List Node) (q : ℕ) (l : List ClockedNode) (last : ClockedNode) → times n (node names) (tokens (now (tags .entry)) (now (values .entry))) from ≡ got ns q → clockings 0 ns ≡ accepted l → before ≡ length (join (numbered (nodeListing (lettersAt (now (starts .entry)) (now (letters .entry)))) 0 l)) → NodeWithClocks (told .names) (now (tags .entry)) (now (values .entry)) (now (table .entry)) (now (sites .entry)) (told .number) told last → Roomy names (length (now (tags .entry))) (now (env .entry)) (now (table .entry)) (now (sites .entry)) → Ample (now (table .entry)) (now (rows .entry)) (now (chain .entry)) → length (now (letters .entry)) ≤ 16384 → length (now (tags .entry)) ≤ 4096 → ListingGiven (lentText (join (numbered (nodeListing (lettersAt (now (starts .entry)) (now (letters .entry)))) 0 l) ++ nodeListing (lettersAt (now (starts .entry)) (now (letters .entry))) (told .number) last) (length (now (out .entry)))) (now (out .entry)) (now (out .exit)) r) ⌝ }
+    ensures { λ r. ⌜ ((ns : List Node) (q : ℕ) → times n (node names) (tokens (now (tags .entry)) (now (values .entry))) from ≡ got ns q → Roomy names (length (now (tags .entry))) (now (env .entry)) (now (table .entry)) (now (sites .entry)) → Ample (now (table .entry)) (now (rows .entry)) (now (chain .entry)) → length (now (letters .entry)) ≤ 16384 → length (now (tags .entry)) ≤ 4096 → ListingGiven (nodesListed (lettersAt (now (starts .entry)) (now (letters .entry))) ns (length (now (out .entry)))) (now (out .entry)) (now (out .exit)) r) ⌝ }
 {
-    let s = query::measure_told(
-        starts,
-        letters,
-        tags,
-        values,
-        sites,
-        table,
-        told,
-        rows,
-        chain,
-    );
-    let m = before + s.listing;
-    if out.len() < m {
-        return ListingAnswer::Refused(Refusal::Lent(m));
-    }
-    query::put_told(
-        out,
-        before,
-        starts,
-        letters,
-        tags,
-        values,
-        sites,
-        table,
-        told,
-        rows,
-        chain,
-        s.chains,
-    );
-    query::put_listings(
-        out,
+    let mut aside = [0u8; ASIDE];
+    let put = query::put_listings(
+        &mut aside,
         starts,
         letters,
         tags,
@@ -217,46 +198,16 @@ fn listings_told(
         chain,
         sites,
     );
-    ListingAnswer::Written(m)
-}
-
-// The listings of n nodes, of which the first stands at `from` and which take so many bytes, and of one more, which stands at `place`.
-fn listings_last(
-    out: &mut [u8],
-    starts: &[u32],
-    letters: &[u8],
-    tags: &[u8],
-    values: &[u32],
-    names: u32,
-    n: u32,
-    from: usize,
-    before: usize,
-    place: usize,
-    env: &mut [u32],
-    table: &mut [u32],
-    rows: &mut [u32],
-    chain: &mut [u32],
-    sites: &mut [u32],
-) -> ListingAnswer
-    requires { ⌜ length (now values) ≡ length (now tags) ⌝ }
-    requires { ⌜ before + farthest < 2 ^ 64 ⌝ }
-    ensures { λ r. ⌜ ((ns : List Node) (l : List ClockedNode) (last : Node) (q : ℕ) → times n (node names) (tokens (now (tags .entry)) (now (values .entry))) from ≡ got ns place → node names (tokens (now (tags .entry)) (now (values .entry))) place ≡ got last q → clockings 0 ns ≡ accepted l → before ≡ length (join (numbered (nodeListing (lettersAt (now (starts .entry)) (now (letters .entry)))) 0 l)) → Roomy names (length (now (tags .entry))) (now (env .entry)) (now (table .entry)) (now (sites .entry)) → Ample (now (table .entry)) (now (rows .entry)) (now (chain .entry)) → length (now (letters .entry)) ≤ 16384 → length (now (tags .entry)) ≤ 4096 → ListingGiven (nodesListed (lettersAt (now (starts .entry)) (now (letters .entry))) (ns ++ (last ∷ [])) (length (now (out .entry)))) (now (out .entry)) (now (out .exit)) r) ⌝ }
-{
-    let last = layout::node_at(tags, values, names, place);
-    let answer = query::clock_laid(
-        tags,
-        values,
-        names,
-        last,
-        widths::wide(n),
-        env,
-        table,
-        sites,
-    );
-    match answer {
-        NodeAnswer::Refused(r) => ListingAnswer::Refused(r),
-        NodeAnswer::Node(told) => {
-            listings_told(
+    match put {
+        ListingsPut::Deep(i) => ListingAnswer::Refused(Refusal::Deep(i)),
+        ListingsPut::Size(m) => {
+            if m <= ASIDE {
+                return lend(&aside[..m], out);
+            }
+            if out.len() < m {
+                return ListingAnswer::Refused(Refusal::Lent(m));
+            }
+            query::put_listings(
                 out,
                 starts,
                 letters,
@@ -265,19 +216,18 @@ fn listings_last(
                 names,
                 n,
                 from,
-                before,
-                told,
                 env,
                 table,
                 rows,
                 chain,
                 sites,
-            )
+            );
+            ListingAnswer::Written(m)
         }
     }
 }
 
-// The listings of all nodes, in order, over the front of the lent bytes: those before the last are measured first.
+// The listings of all nodes, in order, over the front of the lent bytes.
 pub fn listings_in(
     out: &mut [u8],
     starts: &[u32],
@@ -296,43 +246,38 @@ pub fn listings_in(
 {
     let whole = layout::sheet_at(tags, values, names);
     let nodes = whole.nodes;
-    let from = nodes.at;
     if nodes.count == 0 {
         return ListingAnswer::Written(0);
     }
-    let n = nodes.count - 1;
-    let measured = query::measure_listings(
-        starts,
-        letters,
-        tags,
-        values,
-        names,
-        n,
-        from,
-        env,
-        table,
-        rows,
-        chain,
-        sites,
-    );
-    match measured {
-        Measured::Deep(i) => ListingAnswer::Refused(Refusal::Deep(i)),
-        Measured::Size(before, place) => listings_last(
+    if nodes.count == 1 {
+        return listing_in(
             out,
             starts,
             letters,
             tags,
             values,
             names,
-            n,
-            from,
-            before,
-            place,
+            0,
             env,
             table,
             rows,
             chain,
             sites,
-        ),
+        );
     }
+    listings_lent(
+        out,
+        starts,
+        letters,
+        tags,
+        values,
+        names,
+        nodes.count,
+        nodes.at,
+        env,
+        table,
+        rows,
+        chain,
+        sites,
+    )
 }

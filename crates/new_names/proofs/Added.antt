@@ -16,17 +16,17 @@ use Rattle.definitions.specs.Declock.{Stem, ck, first, hold, clockPlace, declar
 use Rattle.definitions.specs.Output.{stemLetters, idOf, addName, addNames, lettersOf, newLetters, newId}
 use Rattle.spelling.specs.Writing.{overAt}
 use Rattle.spelling.proofs.Writing.{over-nothing, over-front, over-past, over-set, over-then, over-take, length-over}
-use Rattle.fresh.specs.declared.Counts.{Counts}
-use Rattle.fresh.specs.Table.{namesOf, within, Sound, NamesHeld}
-use Rattle.fresh.specs.Free.{newNumber, newNumbers, takenOf}
-use Rattle.fresh.proofs.Free.{new-letters}
-use Rattle.fresh.proofs.Table.{id-most, add-last-name}
-use Rattle.fresh.proofs.Places.{cut-length}
-use Rattle.rows.specs.Rows.{clocksIn, RowsHold}
-use Rattle.rows.proofs.Laws.{has-all, has-count}
-use Rattle.rows.proofs.Distinct.{Distinct, row-place}
-use Rattle.order.specs.Order.{rowOf, picked, FirstBelow}
-use Rattle.needs.specs.Need.{Needs}
+use Rattle.spelling.specs.declared.Counts.{Counts}
+use Rattle.spelling.specs.Table.{namesOf, within, Sound, NamesHeld}
+use Rattle.spelling.specs.Free.{newNumber, newNumbers, takenOf}
+use Rattle.spelling.proofs.Free.{new-letters}
+use Rattle.spelling.proofs.Table.{id-most, add-last-name}
+use Rattle.spelling.proofs.Places.{cut-length}
+use Rattle.clock_tables.specs.Rows.{clocksIn, RowsHold}
+use Rattle.clock_tables.proofs.RowsLaws.{has-all, has-count}
+use Rattle.clock_tables.proofs.Distinct.{Distinct, row-place}
+use Rattle.chain_order.specs.Order.{rowOf, picked, FirstBelow}
+use Rattle.stateless.specs.Need.{Needs}
 use Rattle.stateless.specs.Locals.{idsIn, Agree}
 use Rattle.stateless.specs.Rewritten.{newNames, namesBy}
 use Rattle.new_names.specs.Names.{nameOf, numberedName, orderedNames, countedNames, idsOf, Numbered, ChainOrdered}

@@ -1,2 +1,12 @@
 pub mod Ids
 pub mod Added
+pub mod Apart
+pub mod Pigeons
+pub mod Numbers
+pub mod Named
+pub mod Many
+pub mod Standing
+pub mod Written
+pub mod Large
+pub mod NodeTablesLaws
+pub mod OutputNamesLaws

@@ -8,8 +8,8 @@ use Rattle.definitions.specs.Tree.{Declared, Node}
 use Rattle.definitions.specs.Clock.{Clock, inChainOrder}
 use Rattle.definitions.specs.Declock.{Stem, clockPlace}
 use Rattle.definitions.specs.Output.{stemLetters, idOf}
-use Rattle.fresh.specs.Free.{newNumber, takenOf}
-use Rattle.order.specs.Order.{rowOf, picked, FirstBelow}
+use Rattle.spelling.specs.Free.{newNumber, takenOf}
+use Rattle.chain_order.specs.Order.{rowOf, picked, FirstBelow}
 
 -- the id of a declaration's name
 abbrev pub nameOf : Declared → ℕ

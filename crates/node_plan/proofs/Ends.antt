@@ -17,14 +17,14 @@ use Rattle.definitions.specs.Grammar.{name}
 use Rattle.definitions.specs.Clock.{Clock, isBase, sameClock}
 use Rattle.definitions.specs.InferClocks.{Fault}
 use Rattle.definitions.specs.Declock.{Shape, bare, other, calls, clockPlace, addWithParents}
-use Rattle.flat.specs.Flat.{clockIn}
+use Rattle.clock_tables.specs.Flat.{clockIn}
 use Rattle.operands.specs.Spread.{tree}
 use Rattle.layout.specs.declared.Span.{Span}
 use Rattle.layout.specs.declared.NodeLayout.{NodeLayout}
 use Rattle.layout.specs.Spans.{Spanned, Spans}
 use Rattle.layout.specs.Laid.{LaidNode}
-use Rattle.callees.specs.Callees.{NodesStand, isThere}
-use Rattle.needs.specs.Need.{Needs, withFlag, withGate, needed}
+use Rattle.index.specs.Callees.{NodesStand, isThere}
+use Rattle.stateless.specs.Need.{Needs, withFlag, withGate, needed}
 use Rattle.stateless.specs.Yield.{shapeAfter}
 use Rattle.stateless.specs.Faults.{faultIn, flaggedFault, rightFault}
 use Rattle.stateless.specs.Whole.{severalNeeds, flaggedNeeds, rightNeeds}
@@ -37,9 +37,9 @@ use Rattle.plan.specs.Planned.{metIn, Whole, Ahead, writer, Begun, Planned, End
 use Rattle.plan.specs.Walks.{Arrays, Tables, Setting, groundOf, Known, Roomy, Site, Leaves, Walks}
 use Rattle.plan.proofs.Closing.{ended-some, beside, there}
 use Rattle.plan.proofs.Walk.{ended-then, ended-stop, Sized}
-use Rattle.frames.specs.declared.Frame.{Frame}
-use Rattle.frames.specs.Framed.{frameIn, flaggedFrame, severalFrame, frameOf}
-use Rattle.frames.specs.Planned.{frameBy}
+use Rattle.planned.specs.declared.Frame.{Frame}
+use Rattle.planned.specs.Framed.{frameIn, flaggedFrame, severalFrame, frameOf}
+use Rattle.planned.specs.Planned.{frameBy}
 use Rattle.node_plan.specs.Noted.{gatesCall, gatesRight, Typed, Flagged}
 use Rattle.node_plan.specs.Equations.{EquationNoted, WalksEquation}
 use Rattle.node_plan.proofs.Noting.{sited-on}

@@ -12,8 +12,8 @@ use borrow.Author.Tests.{eq-eqb, ne-eqb}
 use Rattle.definitions.specs.Clock.{Clock}
 use Rattle.definitions.specs.InferClocks.{undeclared, noDefault, notSingleCall}
 use Rattle.definitions.specs.Declock.{clockPlace, addWithParents}
-use Rattle.rows.specs.Rows.{RowsHold}
-use Rattle.needs.specs.Need.{Needs, Counted, withFlag, withGate}
+use Rattle.clock_tables.specs.Rows.{RowsHold}
+use Rattle.stateless.specs.Need.{Needs, Counted, withFlag, withGate}
 use Rattle.plan.specs.Planned.{metIn, Begun}
 use Rattle.plan.proofs.Closing.{eight, word-in, recounted, recount-gate, recount-flag, beside, there, row-found, row-least}
 use Rattle.node_plan.specs.Noted.{Flagged}

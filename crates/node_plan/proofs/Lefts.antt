@@ -30,13 +30,13 @@ use Rattle.typing.specs.declared.TypeFound.{TypeFound}
 use Rattle.typing.specs.Found.{IsFound}
 use Rattle.typing.proofs.Laws.{label-is}
 use Rattle.typing.proofs.Typed.{declared-at}
-use Rattle.callees.specs.Callees.{isThere}
+use Rattle.index.specs.Callees.{isThere}
 use Rattle.plan.specs.Planned.{metIn}
 use Rattle.node_plan.specs.declared.Met.{Met}
 use Rattle.node_plan.specs.Noted.{metOf, gatesRight}
 use Rattle.node_plan.proofs.Met.{the-type}
-use Rattle.rewritten_shape.specs.declared.After.{After}
-use Rattle.rewritten_shape.specs.After.{afterOf}
+use Rattle.typing.specs.declared.After.{After}
+use Rattle.typing.specs.After.{afterOf}
 use Rattle.stateless.specs.Faults.{unless, leftTypeFault, leftFault, leftsFault, severalFault, flaggedFault}
 
 unless-none : {A : Type 0} (o : Option A) (f : Fault) (b : Bool) → b ≡ isSome o → b ≡ false → some f ≡ unless o f

@@ -19,7 +19,7 @@ use Rattle.definitions.specs.Clock.{Clock, isBase}
 use Rattle.definitions.specs.InferClocks.{Fault, NodeFault, Clocked}
 use Rattle.definitions.specs.Declock.{Hold, Shape, bare, other, calls, addWithParents}
 use Rattle.definitions.specs.Output.{exprTokens}
-use Rattle.flat.specs.Flat.{clockIn}
+use Rattle.clock_tables.specs.Flat.{clockIn}
 use Rattle.grammar.proofs.Got.{times-nil, times-cons, equation-got}
 use Rattle.layout.specs.declared.Span.{Span}
 use Rattle.layout.specs.declared.NodeLayout.{NodeLayout}
@@ -27,8 +27,8 @@ use Rattle.layout.specs.Spans.{Spanned, Spans, pastIn}
 use Rattle.layout.specs.Laid.{LaidNode}
 use Rattle.layout.proofs.Laws.{span-at}
 use Rattle.typing.proofs.Laws.{label-is}
-use Rattle.extents.proofs.Owed.{owed-on}
-use Rattle.needs.specs.Need.{Needs, withFlag, withGate, needed}
+use Rattle.layout.proofs.Owed.{owed-on}
+use Rattle.stateless.specs.Need.{Needs, withFlag, withGate, needed}
 use Rattle.stateless.specs.Yield.{Ids, shapeAfter, yield, rightYield, oldYield}
 use Rattle.stateless.specs.Faults.{faultIn, flaggedFault, rightFault, atEquation, oldFault}
 use Rattle.stateless.specs.Whole.{severalNeeds, flaggedNeeds, rightNeeds, oldNeeds}
@@ -43,7 +43,7 @@ use Rattle.plan.specs.Walks.{Arrays, Tables, Setting, groundOf, Known, Roomy, S
 use Rattle.plan.proofs.Growth.{ahead-self, ahead-trans, ahead-flag, ahead-needed, yield-holds, yield-count}
 use Rattle.plan.proofs.Laws.{held-append}
 use Rattle.plan.proofs.Walk.{Sized, roomy-after}
-use Rattle.frames.specs.Planned.{EquationPlanned, EquationsPlanned}
+use Rattle.planned.specs.Planned.{EquationPlanned, EquationsPlanned}
 use Rattle.node_plan.specs.Equations.{EquationNoted, EquationsNoted, Counts, WalksEquation, WalksEquations}
 
 -- ---- what an equation needs besides its right side

@@ -15,9 +15,9 @@ use Rattle.definitions.specs.Tree.{TypeDef, Node}
 use Rattle.definitions.specs.InferClocks.{Fault, undeclared, noDefault, noOutputDefault, notSingleCall, preUntyped, NodeFault, Clocked}
 use Rattle.layout.specs.declared.NodeLayout.{NodeLayout}
 use Rattle.layout.specs.Laid.{LaidNode}
-use Rattle.rows.proofs.Laws.{has-none}
-use Rattle.needs.specs.declared.Counts as needed
-use Rattle.needs.specs.Need.{Needs, Counted}
+use Rattle.clock_tables.proofs.RowsLaws.{has-none}
+use Rattle.stateless.specs.declared.Counts as needed
+use Rattle.stateless.specs.Need.{Needs, Counted}
 use Rattle.stateless.specs.Faults.{rightFault, atEquation, oldFault}
 use Rattle.stateless.specs.Whole.{noNeeds, oldNeeds}
 use Rattle.skeleton.specs.Sites.{EquationsSited}

@@ -21,7 +21,7 @@ use Rattle.layout.specs.declared.Span.{Span}
 use Rattle.layout.specs.Spans.{Spanned, Spans, pastIn}
 use Rattle.layout.proofs.Laws.{span-at}
 use Rattle.typing.proofs.Laws.{label-is}
-use Rattle.needs.specs.Need.{Needs, needed}
+use Rattle.stateless.specs.Need.{Needs, needed}
 use Rattle.stateless.specs.Yield.{shapeAfter, yield, rightYield}
 use Rattle.stateless.specs.Whole.{rightNeeds}
 use Rattle.stateless.specs.Locals.{idsIn}
@@ -32,8 +32,8 @@ use Rattle.plan.specs.Planned.{Whole, Ahead, Agrees, writer, Begun, Planned, tr
 use Rattle.plan.specs.Closed.{Beside}
 use Rattle.plan.specs.Walks.{Arrays, Tables, Setting, groundOf}
 use Rattle.plan.proofs.Growth.{ahead-trans}
-use Rattle.frames.specs.Planned.{frameBy, EquationPlanned}
-use Rattle.frames.specs.Framed.{frameOf}
+use Rattle.planned.specs.Planned.{frameBy, EquationPlanned}
+use Rattle.planned.specs.Framed.{frameOf}
 use Rattle.node_plan.specs.Equations.{EquationNoted}
 use Rattle.node_plan.proofs.Noting.{right-ahead, right-holds}
 

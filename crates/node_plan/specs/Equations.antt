@@ -10,7 +10,7 @@ use Rattle.definitions.specs.Clock.{Clock}
 use Rattle.definitions.specs.InferClocks.{NodeFault, Clocked}
 use Rattle.layout.specs.declared.NodeLayout.{NodeLayout}
 use Rattle.layout.specs.Laid.{LaidNode}
-use Rattle.needs.specs.Need.{Needs}
+use Rattle.stateless.specs.Need.{Needs}
 use Rattle.stateless.specs.Yield.{rightYield, oldYield}
 use Rattle.stateless.specs.Faults.{rightFault, oldFault}
 use Rattle.stateless.specs.Whole.{rightNeeds, oldNeeds}
@@ -19,7 +19,7 @@ use Rattle.skeleton.specs.Sites.{EquationSited, EquationsSited}
 use Rattle.planned.specs.Held.{HeldFrom}
 use Rattle.plan.specs.Planned.{metIn, Whole, Ahead, Agrees, Kept, writer, Begun, Ended}
 use Rattle.plan.specs.Walks.{Arrays, Tables, Setting, groundOf, Known, Roomy}
-use Rattle.frames.specs.Planned.{EquationPlanned, EquationsPlanned}
+use Rattle.planned.specs.Planned.{EquationPlanned, EquationsPlanned}
 
 module _ (A : Arrays) (T : Setting) (condact : ℕ) where
   -- the equation at p up to q on this clock is planned, y being needed before

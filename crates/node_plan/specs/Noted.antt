@@ -12,12 +12,12 @@ use Rattle.definitions.specs.Tree.{TypeDef, Node}
 use Rattle.definitions.specs.Clock.{Clock}
 use Rattle.definitions.specs.InferClocks.{Fault, undeclared, noDefault, notSingleCall}
 use Rattle.definitions.specs.Declock.{Shape, bare, other, calls, clockPlace, addWithParents, declared}
-use Rattle.typedefs.specs.Table.{Table}
+use Rattle.layout.specs.Table.{Table}
 use Rattle.layout.specs.declared.NodeLayout.{NodeLayout}
 use Rattle.layout.specs.Laid.{LaidNode}
 use Rattle.defaults.specs.Has.{DefaultsKnown}
 use Rattle.typing.specs.Found.{Declares}
-use Rattle.needs.specs.Need.{Needs, withFlag, withGate}
+use Rattle.stateless.specs.Need.{Needs, withFlag, withGate}
 use Rattle.plan.specs.Planned.{Begun}
 use Rattle.plan.specs.Closed.{Beside}
 use Rattle.node_plan.specs.declared.Met.{Met}

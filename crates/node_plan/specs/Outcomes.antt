@@ -9,10 +9,10 @@ use Rattle.definitions.specs.Bytes.{tokens}
 use Rattle.definitions.specs.Tree.{TypeDef, Node}
 use Rattle.definitions.specs.InferClocks.{Fault, NodeFault, Clocked}
 use Rattle.definitions.specs.Declock.{declared}
-use Rattle.fault.specs.Value.{faultOf}
+use Rattle.findings.specs.Value.{faultOf}
 use Rattle.typing.specs.Found.{Declares}
-use Rattle.needs.specs.declared.Counts.{Counts}
-use Rattle.needs.specs.Need.{Needs, Counted}
+use Rattle.stateless.specs.declared.Counts.{Counts}
+use Rattle.stateless.specs.Need.{Needs, Counted}
 use Rattle.stateless.specs.Yield.{oldYield}
 use Rattle.stateless.specs.Faults.{oldFault}
 use Rattle.stateless.specs.Whole.{noNeeds, oldNeeds}
@@ -20,7 +20,7 @@ use Rattle.stateless.specs.Locals.{idsIn}
 use Rattle.planned.specs.Writes.{Writer}
 use Rattle.planned.specs.Held.{HeldFrom}
 use Rattle.plan.specs.Planned.{Whole}
-use Rattle.frames.specs.Planned.{EquationsPlanned}
+use Rattle.planned.specs.Planned.{EquationsPlanned}
 use Rattle.node_plan.specs.declared.Told.{Told}
 use Rattle.node_plan.specs.declared.Outcome.{Outcome}
 

@@ -1,14 +1,14 @@
 // The plan of a node's equations, in order: of each its right side, then what the flag of its clock needs, and its own word at its count
 // token: 0, or the row of its flag and one more. The arrays are those of crate `plan`; `condact` is the id of `condact`.
-use clock::Clock;
+use clock_tables::Clock;
 use definitions::MOST_NODES;
 use definitions::MOST_TYPES;
-use fault::Fault;
+use findings::Fault;
 use layout::NodeLayout;
 use layout::Span;
-use needs::Counts;
 use plan::Extent;
-use rewritten_shape::After;
+use stateless::Counts;
+use typing::After;
 use typing::TypeFound;
 ghost use mathlib.Core.Path.{_≡_};
 ghost use mathlib.Core.List.{List};
@@ -22,18 +22,18 @@ ghost use Rattle.definitions.specs.InferClocks.{Clocked};
 ghost use Rattle.definitions.specs.Reading.{got, times};
 ghost use Rattle.definitions.specs.Grammar.{name};
 ghost use Rattle.definitions.specs.Clock.{isBase};
-ghost use Rattle.clock.specs.Value.{valueOf};
-ghost use Rattle.extents.specs.Owed.{parts};
+ghost use Rattle.clock_tables.specs.Value.{valueOf};
+ghost use Rattle.layout.specs.Owed.{parts};
 ghost use Rattle.layout.specs.Spans.{Spans};
 ghost use Rattle.layout.specs.Laid.{LaidNode};
-ghost use Rattle.typedefs.specs.Table.{Table};
+ghost use Rattle.layout.specs.Table.{Table};
 ghost use Rattle.defaults.specs.Has.{DefaultsKnown};
-ghost use Rattle.callees.specs.Callees.{NodesStand, isThere};
+ghost use Rattle.index.specs.Callees.{NodesStand, isThere};
 ghost use Rattle.skeleton.specs.Sites.{EquationsSited};
-ghost use Rattle.needs.specs.Need.{Needs};
+ghost use Rattle.stateless.specs.Need.{Needs};
 ghost use Rattle.stateless.specs.Faults.{leftFault, leftsFault, flaggedFault};
 ghost use Rattle.plan.specs.Planned.{Begun, faultBy, wordIn, metIn, countsIn};
-ghost use Rattle.rewritten_shape.specs.After.{afterOf};
+ghost use Rattle.typing.specs.After.{afterOf};
 ghost use Rattle.node_plan.specs.Noted.{metOf, gatesRight, Typed, Flagged};
 ghost use Rattle.node_plan.specs.Equations.{WalksEquation, WalksEquations};
 ghost use Rattle.node_plan.specs.Outcomes.{toldOf, inEquation, metBy, PlansNode};
@@ -114,9 +114,9 @@ fn lefts_fault(
     if count == 0 {
         return Met::Nothing;
     }
-    let x = typedefs::value_at(values, at);
+    let x = layout::value_at(values, at);
     let one = left_fault(tags, values, defs, has, types, k, x);
-    let next = layout::past(tags, at);
+    let next = layout::behind(tags, at);
     let others = lefts_fault(tags, values, defs, has, types, k, count - 1, next);
     or_met(one, others)
 }
@@ -205,8 +205,8 @@ fn flag_equation(
     ensures { λ r. ⌜ length (now (flags .exit)) ≡ length (now (flags .entry)) ⌝ }
     ensures { λ r. ⌜ ((firsts : List ℕ) (y : Needs) → Begun (now (flags .entry)) firsts (now (tally .entry)) y → Flagged (now (plan .entry)) (now (plan .exit)) (now (flags .exit)) firsts (now (tally .exit)) (valueOf c) left gated y at) ⌝ }
 {
-    let n = rows::add_with_parents(flags, tally[0], c);
-    let i = rows::find(flags, n, c);
+    let n = clock_tables::add_with_parents(flags, tally[0], c);
+    let i = clock_tables::find(flags, n, c);
     tally[0] = n;
     let word = plan::word_of(i);
     if gated {
@@ -275,8 +275,8 @@ fn equation(
         plan::put_word(plan, at, 0);
         return end;
     }
-    let c = rows::get(sites, at);
-    let u = rewritten_shape::shape_after(tags, values, k.names, places, k.nodes, condact, c, right);
+    let c = clock_tables::get(sites, at);
+    let u = typing::shape_after(tags, values, k.names, places, k.nodes, condact, c, right);
     let m = flagged_fault(tags, values, defs, has, types, k, condact, left, u);
     if tell_met(tally, m) {
         return 0;
@@ -388,22 +388,22 @@ fn fault_by(k: usize, x: u32, f: u32) -> Told
     ensures { λ r. ⌜ toldOf r ≡ faultBy k x f ⌝ }
 {
     if k == 5 {
-        let fault = fault::undeclared(x);
+        let fault = findings::undeclared(x);
         return Told { found: true, fault };
     }
     if k == 6 {
-        let fault = fault::no_default(x);
+        let fault = findings::no_default(x);
         return Told { found: true, fault };
     }
     if k == 7 {
-        let fault = fault::no_output_default(x, f);
+        let fault = findings::no_output_default(x, f);
         return Told { found: true, fault };
     }
     if k == 8 {
-        let fault = fault::not_single_call();
+        let fault = findings::not_single_call();
         return Told { found: true, fault };
     }
-    let fault = fault::pre_untyped();
+    let fault = findings::pre_untyped();
     Told {
         found: k == 9,
         fault,

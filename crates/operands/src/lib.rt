@@ -159,7 +159,7 @@ pub fn first_operand(tags: &[u8], values: &[u32], names: u32, gap: Gap, at: usiz
     ensures { λ r. ⌜ Stepped names (tokens (now (tags .entry)) (now (values .entry))) gap at r ⌝ }
 {
     let place = operand_at(tags, gap, at);
-    let end = extents::expr_end(tags, values, place);
+    let end = layout::expr_end(tags, values, place);
     let rest = after_operand(tags, gap, end);
     let next = rest.next;
     let later = rest.gap;
@@ -202,7 +202,7 @@ fn behind_start(tags: &[u8], values: &[u32], names: u32, at: usize) -> Operands
     requires { ⌜ length (now values) ≡ length (now tags) ⌝ }
     ensures { λ r. ⌜ ((e : Expr) (q : ℕ) → tree names (tokens (now (tags .entry)) (now (values .entry))) at ≡ got e q → r ≡ behindStart at (counted 3 0 64 (tokens (now (tags .entry)) (now (values .entry))) q)) ⌝ }
 {
-    let end = extents::expr_end(tags, values, at);
+    let end = layout::expr_end(tags, values, at);
     let count = grammar::read_count(tags, values, 3, 0, MOST_ITEMS, end);
     match count {
         Counted::Count(n, _) => Operands {

@@ -6,7 +6,7 @@ use native.Mathlib.Numerals.{add-one}
 use native.Mathlib.Omega.{arith}
 use lib.ListN.{length, getD, take, drop, set, length-drop}
 use lib.Seq.{getD-take, getD-drop, length-take-le, take-all}
-use Rattle.names.proofs.Laws.{sum-drop}
+use Rattle.parts.proofs.NamesLaws.{sum-drop}
 use Rattle.definitions.specs.Lists.{sum, over}
 use Rattle.definitions.specs.Bytes.{fourByteWords}
 use Rattle.parts.specs.Answers.{wordAt}

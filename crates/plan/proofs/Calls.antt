@@ -12,9 +12,9 @@ use Rattle.definitions.specs.Reading.{got, times}
 use Rattle.definitions.specs.Grammar.{declaration}
 use Rattle.definitions.specs.Clock.{Clock, isBase}
 use Rattle.definitions.specs.Declock.{operatorOutputs}
-use Rattle.callees.specs.declared.Callee.{Callee}
-use Rattle.callees.specs.Callees.{OutputsStand, isThere}
-use Rattle.needs.specs.Need.{Needs}
+use Rattle.index.specs.declared.Callee.{Callee}
+use Rattle.index.specs.Callees.{OutputsStand, isThere}
+use Rattle.stateless.specs.Need.{Needs}
 use Rattle.stateless.specs.Yield.{gateOf}
 use Rattle.stateless.specs.Faults.{outputsFault, gateFault}
 use Rattle.plan.specs.declared.Lack.{Lack}

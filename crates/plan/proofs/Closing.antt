@@ -16,11 +16,11 @@ use Rattle.definitions.specs.Tree.{Ty, Declared, TypeDef, Node}
 use Rattle.definitions.specs.Clock.{Clock, isBase, sameClock}
 use Rattle.definitions.specs.InferClocks.{Fault, noOutputDefault, preUntyped}
 use Rattle.definitions.specs.Declock.{clockPlace, add, addWithParents, operatorOutputs}
-use Rattle.rows.specs.Rows.{RowsHold}
-use Rattle.callees.specs.Callees.{isThere}
-use Rattle.needs.specs.declared.Turn.{Turn}
-use Rattle.needs.specs.declared.Counts.{Counts}
-use Rattle.needs.specs.Need.{Needs, Counted, preTurn, callTurn, settled}
+use Rattle.clock_tables.specs.Rows.{RowsHold}
+use Rattle.index.specs.Callees.{isThere}
+use Rattle.stateless.specs.declared.Turn.{Turn}
+use Rattle.stateless.specs.declared.Counts.{Counts}
+use Rattle.stateless.specs.Need.{Needs, Counted, preTurn, callTurn, settled}
 use Rattle.stateless.specs.Yield.{gateOf}
 use Rattle.stateless.specs.Faults.{preFault, outputsFault, gateFault}
 use Rattle.plan.specs.Planned.{countsIn, metIn, wordIn, Kept, Begun, Ended}

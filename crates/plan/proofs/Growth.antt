@@ -10,9 +10,9 @@ use Rattle.definitions.specs.Lists.{choose, any}
 use Rattle.definitions.specs.Tree.{Ty, TypeDef, Expr, Exprs, Node}
 use Rattle.definitions.specs.Clock.{Clock, base, _↓_, parent, isOn, isNot, isBase, sameClock}
 use Rattle.definitions.specs.Declock.{Hold, add, addWithParents, operatorOutputs, declared, operandType}
-use Rattle.callees.specs.Callees.{isThere}
-use Rattle.needs.specs.declared.Turn.{Turn}
-use Rattle.needs.specs.Need.{Needs, isBare, preTurn, arrowTurn, callTurn, settled, needed, neededAll}
+use Rattle.index.specs.Callees.{isThere}
+use Rattle.stateless.specs.declared.Turn.{Turn}
+use Rattle.stateless.specs.Need.{Needs, isBare, preTurn, arrowTurn, callTurn, settled, needed, neededAll}
 use Rattle.stateless.specs.Yield.{Ids, Yield, typeOr, preYield, yield, yields}
 use Rattle.stateless.proofs.Growth.{keeps-add, keeps-parents}
 use Rattle.plan.specs.Planned.{Ahead}

@@ -17,11 +17,11 @@ use Rattle.definitions.specs.Reading.{got}
 use Rattle.definitions.specs.Clock.{Clock, isBase}
 use Rattle.definitions.specs.Declock.{Hold, clockPlace, addWithParents, operatorOutputs, declared, operandType, ifOf}
 use Rattle.definitions.specs.Output.{exprTokens, operandTokens}
-use Rattle.extents.specs.Owed.{follows, Owed}
+use Rattle.layout.specs.Owed.{follows, Owed}
 use Rattle.operands.specs.Spread.{tree}
-use Rattle.callees.specs.Callees.{isThere}
-use Rattle.needs.specs.declared.Turn.{Turn}
-use Rattle.needs.specs.Need.{Needs, preTurn, arrowTurn, callTurn, settled}
+use Rattle.index.specs.Callees.{isThere}
+use Rattle.stateless.specs.declared.Turn.{Turn}
+use Rattle.stateless.specs.Need.{Needs, preTurn, arrowTurn, callTurn, settled}
 use Rattle.stateless.specs.Yield.{Ids, outputTrees, gateOf}
 use Rattle.stateless.specs.Faults.{outputsFault, gateFault}
 use Rattle.stateless.specs.Locals.{idsIn}

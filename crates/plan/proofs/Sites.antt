@@ -18,9 +18,9 @@ use Rattle.definitions.specs.declared.Primitive.{Primitive}
 use Rattle.definitions.specs.Clock.{isBase}
 use Rattle.definitions.specs.Types.{default}
 use Rattle.definitions.specs.InferClocks.{Fault, noOutputDefault}
-use Rattle.clock.specs.Value.{capped, clockAt}
-use Rattle.flat.specs.Flat.{conditionsFrom, depthIn, clockIn}
-use Rattle.callees.specs.Callees.{isThere}
+use Rattle.clock_tables.specs.Value.{capped, clockAt}
+use Rattle.clock_tables.specs.Flat.{conditionsFrom, depthIn, clockIn}
+use Rattle.index.specs.Callees.{isThere}
 use Rattle.defaults.specs.Has.{isSome}
 use Rattle.typing.specs.declared.TypeFound.{TypeFound}
 use Rattle.typing.specs.Found.{IsFound}

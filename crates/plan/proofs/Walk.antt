@@ -20,16 +20,16 @@ use Rattle.definitions.specs.InferClocks.{Fault}
 use Rattle.definitions.specs.Declock.{Hold, operatorOutputs, declared, operandType, ifOf}
 use Rattle.definitions.specs.Output.{exprTokens, operandTokens}
 use Rattle.shapes.specs.Shape.{many}
-use Rattle.flat.specs.Flat.{clockIn}
-use Rattle.extents.specs.Owed.{follows}
-use Rattle.extents.proofs.Owed.{owed-on, owed-few}
-use Rattle.typedefs.specs.Table.{Table}
+use Rattle.clock_tables.specs.Flat.{clockIn}
+use Rattle.layout.specs.Owed.{follows}
+use Rattle.layout.proofs.Owed.{owed-on, owed-few}
+use Rattle.layout.specs.Table.{Table}
 use Rattle.operands.specs.Spread.{tree}
-use Rattle.callees.specs.Callees.{NodesStand, isThere}
+use Rattle.index.specs.Callees.{NodesStand, isThere}
 use Rattle.defaults.specs.Has.{DefaultsKnown}
 use Rattle.typing.specs.Found.{Declares}
-use Rattle.needs.specs.declared.Turn.{Turn}
-use Rattle.needs.specs.Need.{Needs, isBare, preTurn, arrowTurn, callTurn, settled, needed, neededAll}
+use Rattle.stateless.specs.declared.Turn.{Turn}
+use Rattle.stateless.specs.Need.{Needs, isBare, preTurn, arrowTurn, callTurn, settled, needed, neededAll}
 use Rattle.stateless.specs.Yield.{Ids, Yield, typeOr, gateOf, outputTrees, preYield, callTree, yield, yields}
 use Rattle.stateless.specs.Faults.{preFault, gateFault, faultIn, faultAmong}
 use Rattle.skeleton.specs.Around.{around}

@@ -9,7 +9,7 @@ use Rattle.definitions.specs.Lists.{choose}
 use Rattle.definitions.specs.Clock.{Clock, isBase}
 use Rattle.definitions.specs.InferClocks.{Fault, noOutputDefault}
 use Rattle.definitions.specs.Declock.{clockPlace, addWithParents}
-use Rattle.needs.specs.Need.{Needs, preTurn, arrowTurn, callTurn, settled}
+use Rattle.stateless.specs.Need.{Needs, preTurn, arrowTurn, callTurn, settled}
 use Rattle.plan.specs.Planned.{Kept, Begun}
 use Rattle.plan.specs.declared.Lack.{Lack}
 

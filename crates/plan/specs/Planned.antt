@@ -14,8 +14,8 @@ use Rattle.definitions.specs.Clock.{Clock, isBase, sameClock}
 use Rattle.definitions.specs.InferClocks.{Fault, undeclared, noDefault, noOutputDefault, notSingleCall, preUntyped}
 use Rattle.definitions.specs.Declock.{Hold, clockPlace}
 use Rattle.definitions.specs.Output.{exprTokens, operandTokens}
-use Rattle.needs.specs.declared.Counts.{Counts}
-use Rattle.needs.specs.Need.{Needs, Counted}
+use Rattle.stateless.specs.declared.Counts.{Counts}
+use Rattle.stateless.specs.Need.{Needs, Counted}
 use Rattle.stateless.specs.Yield.{Ids, yield, yields}
 use Rattle.stateless.specs.Locals.{idsIn}
 use Rattle.skeleton.specs.Lies.{Frame, weave}

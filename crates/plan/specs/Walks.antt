@@ -11,11 +11,11 @@ use Rattle.definitions.specs.Tree.{TypeDef, Expr, Exprs, Node}
 use Rattle.definitions.specs.Clock.{Clock}
 use Rattle.definitions.specs.InferClocks.{Fault}
 use Rattle.definitions.specs.Declock.{Hold, declared}
-use Rattle.typedefs.specs.Table.{Table}
-use Rattle.callees.specs.Callees.{NodesStand}
+use Rattle.layout.specs.Table.{Table}
+use Rattle.index.specs.Callees.{NodesStand}
 use Rattle.defaults.specs.Has.{DefaultsKnown}
 use Rattle.typing.specs.Found.{Declares}
-use Rattle.needs.specs.Need.{Needs, needed, neededAll}
+use Rattle.stateless.specs.Need.{Needs, needed, neededAll}
 use Rattle.stateless.specs.Yield.{Ids}
 use Rattle.stateless.specs.Faults.{faultIn, faultAmong}
 use Rattle.skeleton.specs.Lies.{Frame, Lies, LiesAt}

@@ -3,11 +3,11 @@
 // the row of its token; `places` has the places of the sheet's nodes, `defs` those of its types' definitions; byte i of `has` says whether
 // definition i has a default; `types` has the types of the node's names. `plan` gets a word a token, `flags` and `firsts` the clocks with
 // flags, `holds` two words a hold: where its operand stands, and the row of its flag. `tally` counts, and has the fault.
-use callees::Callee;
 use definitions::ARRAY_LEVELS;
 use definitions::MOST_NODES;
 use definitions::MOST_TYPES;
 use grammar::Read;
+use index::Callee;
 use typing::TypeFound;
 ghost use mathlib.Core.Path.{_≡_};
 ghost use mathlib.Core.List.{List};
@@ -21,14 +21,14 @@ ghost use Rattle.definitions.specs.Reading.{got, times};
 ghost use Rattle.definitions.specs.Grammar.{declaration};
 ghost use Rattle.definitions.specs.Clock.{isBase};
 ghost use Rattle.definitions.specs.Declock.{operandType, operatorOutputs};
-ghost use Rattle.flat.specs.Flat.{clockIn};
-ghost use Rattle.extents.specs.Owed.{parts};
-ghost use Rattle.typedefs.specs.Table.{Table};
+ghost use Rattle.clock_tables.specs.Flat.{clockIn};
+ghost use Rattle.layout.specs.Owed.{parts};
+ghost use Rattle.layout.specs.Table.{Table};
 ghost use Rattle.operands.specs.Spread.{tree};
-ghost use Rattle.callees.specs.Callees.{NodesStand, isThere};
+ghost use Rattle.index.specs.Callees.{NodesStand, isThere};
 ghost use Rattle.defaults.specs.Has.{DefaultsKnown};
 ghost use Rattle.typing.specs.Found.{Declares};
-ghost use Rattle.needs.specs.Need.{Needs, isBare, preTurn};
+ghost use Rattle.stateless.specs.Need.{Needs, isBare, preTurn};
 ghost use Rattle.stateless.specs.Yield.{gateOf};
 ghost use Rattle.stateless.specs.Faults.{preFault, outputsFault, gateFault};
 ghost use Rattle.plan.specs.Planned.{Begun, Ended};
@@ -92,10 +92,10 @@ pub fn tell(tally: &mut [usize; 8], fault: usize, x: u32, f: u32)
 pub fn on_base(sites: &[u32], at: usize) -> bool
     ensures { λ r. ⌜ r ≡ isBase (clockIn (now (sites .entry)) (17 * at)) ⌝ }
 {
-    if sites.len() / flat::WORDS < at {
+    if sites.len() / clock_tables::WORDS < at {
         return true;
     }
-    let d = flat::depth_at(sites, flat::WORDS * at);
+    let d = clock_tables::depth_at(sites, clock_tables::WORDS * at);
     d == 0
 }
 
@@ -151,7 +151,7 @@ fn output_lack(
     if defaults::type_has_default(tags, values, names, defs, k.types, has, first) {
         return output_lack(tags, values, defs, has, k, count - 1, next);
     }
-    let x = typedefs::value_at(values, at);
+    let x = layout::value_at(values, at);
     Lack::Output(x)
 }
 
@@ -173,10 +173,10 @@ fn close_follow(
         put_word(plan, at, 0);
         return;
     }
-    let c = rows::get(sites, at);
-    let n = rows::add_with_parents(flags, tally[0], c);
-    let m = rows::find_or_add(firsts, tally[1], c);
-    let i = rows::find(firsts, m, c);
+    let c = clock_tables::get(sites, at);
+    let n = clock_tables::add_with_parents(flags, tally[0], c);
+    let m = clock_tables::find_or_add(firsts, tally[1], c);
+    let i = clock_tables::find(firsts, m, c);
     tally[0] = n;
     tally[1] = m;
     put_word(plan, at, word_of(i));
@@ -188,9 +188,9 @@ fn gate(sites: &[u32], plan: &mut [u32], flags: &mut [u32], tally: &mut [usize; 
     ensures { λ r. ⌜ length (now (flags .exit)) ≡ length (now (flags .entry)) ⌝ }
     ensures { λ r. ⌜ ((firsts : List ℕ) (y : Needs) → isBase (clockIn (now (sites .entry)) (17 * at)) ≡ false → Begun (now (flags .entry)) firsts (now (tally .entry)) y → Gated (now (plan .entry)) (now (plan .exit)) (now (flags .exit)) firsts (now (tally .exit)) (clockIn (now (sites .entry)) (17 * at)) true y at) ⌝ }
 {
-    let c = rows::get(sites, at);
-    let n = rows::add_with_parents(flags, tally[0], c);
-    let row = rows::find(flags, n, c);
+    let c = clock_tables::get(sites, at);
+    let n = clock_tables::add_with_parents(flags, tally[0], c);
+    let row = clock_tables::find(flags, n, c);
     tally[0] = n;
     tally[3] = 1;
     put_word(plan, at, word_of(row));
@@ -221,8 +221,8 @@ fn close_call(
         put_word(plan, at, 0);
         return end;
     }
-    let f = typedefs::value_at(values, at);
-    let callee = callees::operator_of(tags, values, k.names, places, k.nodes, f);
+    let f = layout::value_at(values, at);
+    let callee = index::operator_of(tags, values, k.names, places, k.nodes, f);
     let Callee::Operator(first, count) = callee else {
         put_word(plan, at, 0);
         return end;
@@ -254,10 +254,10 @@ fn hold(
     ensures { λ r. ⌜ length (now (holds .exit)) ≡ length (now (holds .entry)) ⌝ }
     ensures { λ r. ⌜ ((firsts : List ℕ) (y : Needs) → isBase (clockIn (now (sites .entry)) (17 * at)) ≡ false → Begun (now (flags .entry)) firsts (now (tally .entry)) y → Preceded (now (plan .entry)) (now (plan .exit)) (now (flags .exit)) firsts (now (holds .entry)) (now (holds .exit)) (now (tally .exit)) (clockIn (now (sites .entry)) (17 * at)) false y at) ⌝ }
 {
-    let c = rows::get(sites, at);
+    let c = clock_tables::get(sites, at);
     let j = tally[2];
-    let n = rows::add_with_parents(flags, tally[0], c);
-    let i = rows::find(flags, n, c);
+    let n = clock_tables::add_with_parents(flags, tally[0], c);
+    let i = clock_tables::find(flags, n, c);
     tally[0] = n;
     if 4294967295 <= j {
         return;
@@ -487,7 +487,7 @@ pub fn expr(
             at + 1,
         ),
         _ => {
-            let many = extents::follow(table, tag, values[at]);
+            let many = layout::follow(table, tag, values[at]);
             exprs(
                 tags,
                 values,
@@ -615,7 +615,7 @@ fn exprs(
         }
         let tag = tags[from];
         if tag < 50 {
-            let more = extents::follow(table, tag, values[from]);
+            let more = layout::follow(table, tag, values[from]);
             left = left - 1 + (more as usize);
             from += 1;
         } else {

@@ -22,7 +22,7 @@ use Rattle.definitions.specs.Output.{exprTokens, operandTokens}
 use Rattle.grammar.proofs.Laws.{times-length}
 use Rattle.grammar.proofs.Got.{times-nil, declarations-got, node-got}
 use Rattle.operands.proofs.Laws.{count-place}
-use Rattle.callees.specs.Callees.{NodesStand}
+use Rattle.index.specs.Callees.{NodesStand}
 use Rattle.stateless.specs.Yield.{outputTrees}
 use Rattle.stateless.specs.Faults.{unless, outputsFault}
 use Rattle.emit.specs.Out.{Out, emits}

@@ -10,8 +10,8 @@ use Rattle.definitions.specs.Tokens.{TagValue, tagValue}
 use Rattle.definitions.specs.Tree.{Declared}
 use Rattle.definitions.specs.Declock.{operatorOutputs}
 use Rattle.stateless.specs.Faults.{outputsFault}
-use Rattle.extents.specs.Owed.{Owed}
-use Rattle.extents.proofs.Owed.{owed-on}
+use Rattle.layout.specs.Owed.{Owed}
+use Rattle.layout.proofs.Owed.{owed-on}
 use Rattle.emit.specs.Out.{Out, puts}
 use Rattle.emit.proofs.Laws.{puts-append}
 use Rattle.skeleton.specs.Lies.{codeAt, partsAt}

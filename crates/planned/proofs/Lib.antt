@@ -3,3 +3,9 @@ pub mod Laws
 pub mod Arms
 pub mod Defaults
 pub mod Walk
+pub mod HoldsLaws
+pub mod LeftDefaultsLaws
+pub mod FramesRights
+pub mod FramesLaws
+pub mod EquationsRights
+pub mod Old

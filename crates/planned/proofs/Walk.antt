@@ -16,10 +16,10 @@ use Rattle.definitions.specs.Declock.{operatorOutputs}
 use Rattle.definitions.specs.Output.{operandTokens}
 use Rattle.grammar.proofs.Laws.{times-length}
 use Rattle.grammar.proofs.Got.{times-nil}
-use Rattle.typedefs.specs.Table.{Table}
-use Rattle.callees.specs.declared.Callee.{Callee}
-use Rattle.callees.specs.Callees.{OutputsStand}
-use Rattle.extents.specs.Owed.{follows, Owed}
+use Rattle.layout.specs.Table.{Table}
+use Rattle.index.specs.declared.Callee.{Callee}
+use Rattle.index.specs.Callees.{OutputsStand}
+use Rattle.layout.specs.Owed.{follows, Owed}
 use Rattle.stateless.specs.Yield.{outputTrees}
 use Rattle.stateless.specs.Faults.{outputsFault}
 use Rattle.emit.specs.Out.{Out, puts, emits}

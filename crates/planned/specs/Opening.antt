@@ -8,8 +8,8 @@ use Rattle.definitions.specs.Bytes.{tokens}
 use Rattle.definitions.specs.Tree.{Declared}
 use Rattle.definitions.specs.Reading.{got, times}
 use Rattle.definitions.specs.Grammar.{declaration}
-use Rattle.typedefs.specs.Table.{Table}
-use Rattle.callees.specs.Callees.{NodesStand}
+use Rattle.layout.specs.Table.{Table}
+use Rattle.index.specs.Callees.{NodesStand}
 use Rattle.stateless.specs.Faults.{outputsFault}
 use Rattle.emit.specs.Out.{Out, puts}
 use Rattle.planned.specs.declared.Sizes.{Sizes}

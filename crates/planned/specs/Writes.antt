@@ -12,7 +12,7 @@ use Rattle.definitions.specs.Tokens.{TagValue, tagValue, codeOf}
 use Rattle.definitions.specs.Tree.{Declared, TypeDef, Node}
 use Rattle.definitions.specs.Declock.{operatorOutputs}
 use Rattle.definitions.specs.Output.{e, operandTokens}
-use Rattle.extents.specs.Owed.{Owed}
+use Rattle.layout.specs.Owed.{Owed}
 use Rattle.stateless.specs.Yield.{outputTrees}
 use Rattle.stateless.specs.Faults.{outputsFault}
 use Rattle.skeleton.specs.Lies.{codeAt, partsAt}

@@ -18,15 +18,15 @@ use Rattle.definitions.specs.Clock.{Clock, base}
 use Rattle.definitions.specs.InferClocks.{Clocked, Finding, NodeFault, faultNumber, chains, clockFaults}
 use Rattle.definitions.specs.Output.{ClockedNode}
 use Rattle.definitions.specs.Answer.{nodeClocks}
-use Rattle.listing.specs.declared.Told.{Told}
-use Rattle.listing.proofs.Laws.{picked-length, node-many}
+use Rattle.lines.specs.declared.Told.{Told}
+use Rattle.lines.proofs.Laws.{picked-length, node-many}
 use Rattle.query.specs.declared.NodeCounts.{NodeCounts}
 use Rattle.query.specs.Standing.{NodeWithClocks}
-use Rattle.flat.specs.Flat.{clockIn}
+use Rattle.clock_tables.specs.Flat.{clockIn}
 use Rattle.skeleton.specs.Sites.{EquationsOn}
 use Rattle.findings.specs.Findings.{faultIn, findingIn, findingsIn}
 use Rattle.findings.proofs.Laws.{none-yet, count-more, faults-one, faults-no}
-use Rattle.order.specs.Order.{rowOf, picked}
+use Rattle.chain_order.specs.Order.{rowOf, picked}
 use Rattle.spelling.specs.Writing.{overAt}
 use Rattle.spelling.proofs.Writing.{over-front, over-then, length-over}
 use Rattle.query.specs.Words.{clockWords, faultWords, entriesOver, clocksOver, faultsOver, Written}

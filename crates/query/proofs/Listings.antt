@@ -20,15 +20,15 @@ use Rattle.layout.specs.declared.NodeLayout.{NodeLayout}
 use Rattle.layout.specs.Laid.{LaidNode}
 use Rattle.definitions.specs.declared.Refusal.{Refusal}
 use Rattle.query.specs.declared.NodeAnswer.{NodeAnswer}
-use Rattle.query.specs.declared.Measured.{Measured}
-use Rattle.listing.specs.declared.Told.{Told}
+use Rattle.query.specs.declared.ListingsPut.{ListingsPut}
+use Rattle.lines.specs.declared.Told.{Told}
 use Rattle.spelling.specs.Writing.{overAt, Put, farthest}
 use Rattle.spelling.proofs.Writing.{put-over, put-measure, over-past, over-then, over-nothing}
-use Rattle.texts.proofs.Pieces.{numbered-last}
+use Rattle.lines.proofs.Pieces.{numbered-last}
 use Rattle.query.specs.Standing.{Roomy, Ample, NodeWithClocks, ClockedAs}
-use Rattle.query.specs.Sizes.{Measures}
+use Rattle.query.specs.Listed.{ListingsStand}
 use Rattle.query.specs.Words.{PutText}
-use Rattle.query.proofs.Nodes.{cons-clocked, none-clocked, all-left, node-formed, node-deep}
+use Rattle.query.proofs.Nodes.{all-left, node-formed, node-deep}
 
 -- ---- a text in a part of the lent bytes
 over-cut : (l s : List ℕ) (k : ℕ) → min (length l) (length s) ≤ k → over l (take k s) ++ drop k s ≡ over l s
@@ -66,37 +66,9 @@ module _ (M : ℕ) (gs vs t sites : List ℕ) (k : ℕ) (n : Node) (a : NodeAnsw
   unfolding ClockedAs
   clocked-as told e = let x : ClockedAs M gs vs t sites k n (NodeAnswer.Node told) = rw e at h in x
 
-  module _ (c : Clocking) (f : clocking n ≡ formed c) where
-    pub clocked-never : (r : Refusal) → a ≡ NodeAnswer.Refused r → ⊥
-    clocked-never r e =
-        let y : deep ≡ formed c = sym (clocked-turned r e .0) ∙ f in
-        let z : _≡_ {A = ℕ} 0 1 = cc in omega arith
-
-    pub clocked-told : (told : Told) → a ≡ NodeAnswer.Node told → NodeWithClocks M gs vs t sites k told (record { node = n; clocking = c })
-    clocked-told told e =
-        let x = clocked-as told e in
-        let s : x .0 ≡ c = let y : formed (x .0) ≡ formed c = sym (x .1) ∙ f in cc in
-        rw s at (x .2)
-
 -- by the number that the node was told under
 pub told-own : (M : ℕ) (gs vs t sites : List ℕ) (k : ℕ) (told : Told) (n : ClockedNode) → NodeWithClocks M gs vs t sites k told n → NodeWithClocks (told .names) gs vs t sites (told .number) told n
 told-own M gs vs t sites k told n z = subst (λ (x : ℕ). NodeWithClocks x gs vs t sites (told .number) told n) (sym (z .names)) (subst (λ (y : ℕ). NodeWithClocks M gs vs t sites y told n) (sym (z .number)) z)
-
--- the listing of the same node
-pub same-number : (letters : ℕ → Letters) (n : ClockedNode) (number i at : ℕ) (lent : List ℕ) (size : ℕ) (after : List ℕ) → number ≡ i → PutText (nodeListing letters number n) at lent size after → PutText (nodeListing letters i n) at lent size after
-same-number letters n number i at lent size after e h = rw e at h
-
--- ---- all nodes
--- the listings so far, and the nodes left; all listings are `all`
-pub record Listed (M : ℕ) (ts : List TagValue) (letters : ℕ → Letters) (left i place : ℕ) (lent : List ℕ) (at : ℕ) (now : List ℕ) (all : Letters) : Type 0 where
-  pub end : ℕ
-  pub rest : List Node
-  pub later : List ClockedNode
-  pub so-far : Letters
-  pub items : times left (node M) ts place ≡ got rest end
-  pub clocked : clockings i rest ≡ accepted later
-  pub put : PutText so-far 0 lent at now
-  pub whole : so-far ++ join (numbered (nodeListing letters) i later) ≡ all
 
 -- a text behind another
 text-then : {a b : Letters} {lent : List ℕ} {at size next : ℕ} {now after : List ℕ} → PutText a 0 lent at now → PutText b at now size after → next ≡ at + size → PutText (a ++ b) 0 lent next after
@@ -107,53 +79,15 @@ text-then {a} {b} {lent} {at} {size} {next} {now} {after} u v e =
       bytes = v .bytes ∙ (ap (λ (l : List ℕ). overAt at b l) (u .bytes) ∙ (ap (λ (p : ℕ). overAt p b (overAt 0 a lent)) z ∙ over-then 0 a b lent));
     }
 
--- one listing more
-one-more : (f : ℕ → ClockedNode → Letters) (i : ℕ) (so-far : Letters) (l later : List ClockedNode) (n : ClockedNode) (all : Letters) → l ≡ n ∷ later → so-far ++ join (numbered f i l) ≡ all → (so-far ++ f i n) ++ join (numbered f (i + 1) later) ≡ all
-one-more f i so-far l later n all e h = append-assoc so-far (f i n) (join (numbered f (i + 1) later)) ∙ (rw (add-one i) (sym (ap (λ (x : List ClockedNode). so-far ++ join (numbered f i x)) e)) ∙ h)
-
-module _ (M : ℕ) (ts : List TagValue) (letters : ℕ → Letters) (lent : List ℕ) where
-  pub listed-none : (count at q : ℕ) (ns : List Node) (l : List ClockedNode) → times count (node M) ts at ≡ got ns q → clockings 0 ns ≡ accepted l
-      → Listed M ts letters (count - 0) 0 at lent 0 lent (join (numbered (nodeListing letters) 0 l))
-  listed-none count at q ns l g h =
-      let k : count - 0 ≡ count = omega arith in
-      record { end = q; rest = ns; later = l; so-far = []; items = rw k g; clocked = h; put = record { long = refl; bytes = sym (over-nothing 0 lent) }; whole = refl }
-
-  pub listed-more : (n i place at size next : ℕ) (now after : List ℕ) (all : Letters) (l : NodeLayout) → i < n → ((x : Node) (q : ℕ) → node M ts place ≡ got x q → LaidNode M ts x q l)
-      → ((x : Node) (q : ℕ) (k : Clocking) → LaidNode M ts x q l → clocking x ≡ formed k → PutText (nodeListing letters i (record { node = x; clocking = k })) at now size after) → next ≡ at + size
-      → Listed M ts letters (n - i) i place lent at now all → Listed M ts letters (n - (i + 1)) (i + 1) (l .end) lent next after all
-  listed-more n i place at size next now after all l z L P e h =
-      let c = times-cons (node M) ts (n - i) place (h .rest) (h .end) (λ y. omega (arith, y)) (h .items) in
-      let d = L (c .0) (c .1) (c .3) in
-      let b = cons-clocked i (c .0) (c .2) (h .later) (ap (clockings i) (sym (c .5)) ∙ h .clocked) in
-      let p = P (c .0) (c .1) (b .0) d (b .2) in
-      let w : n - (i + 1) ≡ n - i - 1 = omega arith in
-      record {
-        end = h .end;
-        rest = c .2;
-        later = b .1;
-        so-far = h .so-far ++ nodeListing letters i (record { node = c .0; clocking = b .0 });
-        items = rw (d .ends, w) (c .4);
-        clocked = ap (λ (j : ℕ). clockings j (c .2)) (add-one i) ∙ b .3;
-        put = text-then (h .put) p e;
-        whole = one-more (nodeListing letters) i (h .so-far) (h .later) (b .1) (record { node = c .0; clocking = b .0 }) all (b .4) (h .whole);
-      }
-
-  pub listed-all : (left i place at : ℕ) (now : List ℕ) (all : Letters) → left ≡ 0 → Listed M ts letters left i place lent at now all → PutText all 0 lent at now
-  listed-all left i place at now all z h =
-      let e = times-nil (node M) ts left place (h .rest) (h .end) z (h .items) in
-      let n = none-clocked i (h .later) (ap (clockings i) (sym (e .0)) ∙ h .clocked) in
-      let w : h .so-far ≡ all = sym (append-nil (h .so-far)) ∙ (ap (λ (x : List ClockedNode). h .so-far ++ join (numbered (nodeListing letters) i x)) (sym n) ∙ h .whole) in
-      rw w at (h .put)
-
--- ---- all nodes measured
--- how long the listings so far are, and the nodes left; `v` is what is answered of all
-pub record Sizing (M : ℕ) (ts : List TagValue) (letters : ℕ → Letters) (left i place q at : ℕ) (v : Answer (List ClockedNode)) : Type 0 where
+-- ---- all nodes
+-- the listings so far are put, and the nodes left; `v` is what is answered of all
+pub record Putting (M : ℕ) (ts : List TagValue) (letters : ℕ → Letters) (left i place q : ℕ) (lent : List ℕ) (at : ℕ) (now : List ℕ) (v : Answer (List ClockedNode)) : Type 0 where
   pub rest : List Node
   pub so-far : List ClockedNode
   pub items : times left (node M) ts place ≡ got rest q
   pub many : i ≡ length so-far
   pub whole : v ≡ (clockings i rest >>= λ l. accepted (so-far ++ l))
-  pub long : at ≡ length (join (numbered (nodeListing letters) 0 so-far))
+  pub put : PutText (join (numbered (nodeListing letters) 0 so-far)) 0 lent at now
 
 -- one behind those so far
 one-behind : {A : Type 0} (so-far : List A) (a : A) (v : Answer (List A)) → ((v >>= λ l. accepted (a ∷ l)) >>= λ l. accepted (so-far ++ l)) ≡ (v >>= λ l. accepted ((so-far ++ (a ∷ [])) ++ l))
@@ -161,66 +95,63 @@ one-behind so-far a (accepted l) = ap accepted (sym (append-assoc so-far (a ∷ 
 one-behind so-far a (refused r) = refl
 one-behind so-far a (faulty l) = refl
 
-module _ (M : ℕ) (gs vs : List ℕ) (letters : ℕ → Letters) where
-  pub sizing-none : (n at q : ℕ) (ns : List Node) → times n (node M) (tokens gs vs) at ≡ got ns q → Sizing M (tokens gs vs) letters (n - 0) 0 at q 0 (clockings 0 ns)
-  sizing-none n at q ns g =
+module _ (M : ℕ) (gs vs : List ℕ) (letters : ℕ → Letters) (lent : List ℕ) where
+  pub putting-none : (n at q : ℕ) (ns : List Node) → times n (node M) (tokens gs vs) at ≡ got ns q → Putting M (tokens gs vs) letters (n - 0) 0 at q lent 0 lent (clockings 0 ns)
+  putting-none n at q ns g =
       let k : n - 0 ≡ n = omega arith in
-      record { rest = ns; so-far = []; items = rw k g; many = refl; whole = all-left (clockings 0 ns); long = refl }
+      record { rest = ns; so-far = []; items = rw k g; many = refl; whole = all-left (clockings 0 ns); put = record { long = refl; bytes = sym (over-nothing 0 lent) } }
 
-  module _ (n i place q at : ℕ) (v : Answer (List ClockedNode)) (l : NodeLayout) (z : i < n) (L : (x : Node) (q : ℕ) → node M (tokens gs vs) place ≡ got x q → LaidNode M (tokens gs vs) x q l) (h : Sizing M (tokens gs vs) letters (n - i) i place q at v) where
+  module _ (n i place q at : ℕ) (now : List ℕ) (v : Answer (List ClockedNode)) (l : NodeLayout) (z : i < n) (L : (x : Node) (q : ℕ) → node M (tokens gs vs) place ≡ got x q → LaidNode M (tokens gs vs) x q l) (h : Putting M (tokens gs vs) letters (n - i) i place q lent at now v) where
     -- the node that stands there
-    pub sizing-here : (x : Node) × (s : ℕ) × (xs : List Node) × LaidNode M (tokens gs vs) x s l × (times (n - (i + 1)) (node M) (tokens gs vs) (l .end) ≡ got xs q) × (h .rest ≡ x ∷ xs)
-    sizing-here =
+    node-here : (x : Node) × (s : ℕ) × (xs : List Node) × LaidNode M (tokens gs vs) x s l × (times (n - (i + 1)) (node M) (tokens gs vs) (l .end) ≡ got xs q) × (h .rest ≡ x ∷ xs)
+    node-here =
         let c = times-cons (node M) (tokens gs vs) (n - i) place (h .rest) q (λ y. omega (arith, y)) (h .items) in
         let d = L (c .0) (c .1) (c .3) in
         let w : n - (i + 1) ≡ n - i - 1 = omega arith in
         (c .0, c .1, c .2, d, rw (d .ends, w) (c .4), c .5)
 
     module _ (k : ℕ) (e : k ≡ i) (t sites : List ℕ) (a : NodeAnswer) (C : (x : Node) (s : ℕ) → LaidNode M (tokens gs vs) x s l → ClockedAs M gs vs t sites k x a) where
-      here-clocked : ClockedAs M gs vs t sites k (sizing-here .0) a
-      here-clocked = C (sizing-here .0) (sizing-here .1) (sizing-here .3)
+      here-clocked : ClockedAs M gs vs t sites k (node-here .0) a
+      here-clocked = C (node-here .0) (node-here .1) (node-here .3)
 
-      pub sizing-deep : (r : Refusal) → a ≡ NodeAnswer.Refused r → v ≡ refused (Refusal.Deep k)
-      sizing-deep r u =
-          let d = clocked-turned M gs vs t sites k (sizing-here .0) a here-clocked r u in
-          let w : clockings i (h .rest) ≡ refused (Refusal.Deep i) = ap (clockings i) (sizing-here .5) ∙ node-deep i (sizing-here .0) (sizing-here .2) (d .0) in
+      pub putting-deep : (r : Refusal) → a ≡ NodeAnswer.Refused r → v ≡ refused (Refusal.Deep k)
+      putting-deep r u =
+          let d = clocked-turned M gs vs t sites k (node-here .0) a here-clocked r u in
+          let w : clockings i (h .rest) ≡ refused (Refusal.Deep i) = ap (clockings i) (node-here .5) ∙ node-deep i (node-here .0) (node-here .2) (d .0) in
           h .whole ∙ (ap (λ (y : Answer (List ClockedNode)). y >>= λ l. accepted (h .so-far ++ l)) w ∙ ap (λ (j : ℕ). refused (Refusal.Deep j)) (sym e))
 
-      pub sizing-more : (told : Told) (size next : ℕ) → a ≡ NodeAnswer.Node told → ((y : ClockedNode) → NodeWithClocks (told .names) gs vs t sites (told .number) told y → size ≡ length (nodeListing letters (told .number) y)) → next ≡ at + size
-          → Sizing M (tokens gs vs) letters (n - (i + 1)) (i + 1) (l .end) q next v
-      sizing-more told size next u S j =
-          let d = clocked-as M gs vs t sites k (sizing-here .0) a here-clocked told u in
-          let y : ClockedNode = record { node = sizing-here .0; clocking = d .0 } in
-          let w : clockings i (h .rest) ≡ (clockings (suc i) (sizing-here .2) >>= λ l. accepted (y ∷ l)) = ap (clockings i) (sizing-here .5) ∙ node-formed i (sizing-here .0) (sizing-here .2) (d .0) (d .1) in
-          let b : v ≡ (clockings (suc i) (sizing-here .2) >>= λ l. accepted ((h .so-far ++ (y ∷ [])) ++ l)) =
-          h .whole ∙ (ap (λ (x : Answer (List ClockedNode)). x >>= λ l. accepted (h .so-far ++ l)) w ∙ one-behind (h .so-far) y (clockings (suc i) (sizing-here .2))) in
-          let g : size ≡ length (nodeListing letters (told .number) y) = S y (told-own M gs vs t sites k told y (d .2)) in
+      pub putting-more : (told : Told) (size next : ℕ) (after : List ℕ) → a ≡ NodeAnswer.Node told → ((y : ClockedNode) → NodeWithClocks (told .names) gs vs t sites (told .number) told y → PutText (nodeListing letters (told .number) y) at now size after) → next ≡ at + size
+          → Putting M (tokens gs vs) letters (n - (i + 1)) (i + 1) (l .end) q lent next after v
+      putting-more told size next after u P j =
+          let d = clocked-as M gs vs t sites k (node-here .0) a here-clocked told u in
+          let y : ClockedNode = record { node = node-here .0; clocking = d .0 } in
+          let w : clockings i (h .rest) ≡ (clockings (suc i) (node-here .2) >>= λ l. accepted (y ∷ l)) = ap (clockings i) (node-here .5) ∙ node-formed i (node-here .0) (node-here .2) (d .0) (d .1) in
+          let b : v ≡ (clockings (suc i) (node-here .2) >>= λ l. accepted ((h .so-far ++ (y ∷ [])) ++ l)) =
+          h .whole ∙ (ap (λ (x : Answer (List ClockedNode)). x >>= λ l. accepted (h .so-far ++ l)) w ∙ one-behind (h .so-far) y (clockings (suc i) (node-here .2))) in
+          let g = P y (told-own M gs vs t sites k told y (d .2)) in
+          let o : told .number ≡ 0 + length (h .so-far) = omega (arith, d .2 .number, h .many) in
+          let f : join (numbered (nodeListing letters) 0 (h .so-far)) ++ nodeListing letters (told .number) y ≡ join (numbered (nodeListing letters) 0 (h .so-far ++ (y ∷ []))) =
+          ap (λ (x : ℕ). join (numbered (nodeListing letters) 0 (h .so-far)) ++ nodeListing letters x y) o ∙ sym (numbered-last (nodeListing letters) 0 (h .so-far) y) in
           record {
-            rest = sizing-here .2;
+            rest = node-here .2;
             so-far = h .so-far ++ (y ∷ []);
-            items = sizing-here .4;
+            items = node-here .4;
             many = simp length-append (omega (arith, h .many));
             whole = rw (add-one i) b;
-            long = longer (h .so-far) y (told .number) size next at (d .2 .number ∙ (e ∙ h .many)) g j (h .long);
+            put = subst (λ (x : Letters). PutText x 0 lent next after) f (text-then (h .put) g j);
           }
-        where
-          longer : (s : List ClockedNode) (y : ClockedNode) (k size next at : ℕ) → k ≡ length s → size ≡ length (nodeListing letters k y) → next ≡ at + size → at ≡ length (join (numbered (nodeListing letters) 0 s)) → next ≡ length (join (numbered (nodeListing letters) 0 (s ++ (y ∷ []))))
-          longer s y k size next at e g j u =
-              let o : k ≡ 0 + length s = omega arith in
-              let w : size ≡ length (nodeListing letters (0 + length s) y) = g ∙ ap (λ (x : ℕ). length (nodeListing letters x y)) o in
-              omega (arith, ap length (numbered-last (nodeListing letters) 0 s y), length-append (join (numbered (nodeListing letters) 0 s)) (nodeListing letters (0 + length s) y))
 
-  pub sizing-all : (ns : List Node) (left i place q at : ℕ) → left ≡ 0 → Sizing M (tokens gs vs) letters left i place q at (clockings 0 ns) → Measures letters ns q (Measured.Size at place)
-  unfolding Measures clockings
-  sizing-all ns left i place q at z h =
+  pub putting-all : (ns : List Node) (left i place q at : ℕ) (now : List ℕ) → left ≡ 0 → Putting M (tokens gs vs) letters left i place q lent at now (clockings 0 ns) → ListingsStand letters ns lent now (ListingsPut.Size at)
+  unfolding ListingsStand clockings
+  putting-all ns left i place q at now z h =
       let e = times-nil (node M) (tokens gs vs) left place (h .rest) q z (h .items) in
       let w : clockings 0 ns ≡ accepted (h .so-far) = h .whole ∙ (ap (λ (l : List Node). clockings i l >>= λ r. accepted (h .so-far ++ r)) (e .0) ∙ ap accepted (append-nil (h .so-far))) in
-      (h .so-far, w, h .long, sym (e .1))
+      (h .so-far, w, h .put)
 
 -- refusal 9
-pub measures-deep : (letters : ℕ → Letters) (ns : List Node) (q k : ℕ) → clockings 0 ns ≡ refused (Refusal.Deep k) → Measures letters ns q (Measured.Deep k)
-unfolding Measures
-measures-deep letters ns q k h = h
+pub stands-deep : (letters : ℕ → Letters) (ns : List Node) (lent now : List ℕ) (k : ℕ) → clockings 0 ns ≡ refused (Refusal.Deep k) → ListingsStand letters ns lent now (ListingsPut.Deep k)
+unfolding ListingsStand
+stands-deep letters ns lent now k h = h
 
 -- ---- working tables
 module _ (table rows chain : List ℕ) (r : Ample table rows chain) where

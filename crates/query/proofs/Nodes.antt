@@ -1,30 +1,30 @@
 -- A node found, laid out and clocked. Assumes nothing.
 use mathlib.Core.Path.{_≡_, refl, sym, _∙_, ap}
 use mathlib.Core.List.{List, [], _∷_, _++_}
-use mathlib.Core.Option.{some}
-use Prim.Native.Nat.{ℕ, zero, suc, _+_, _≤_, _<_, min}
+use mathlib.Core.Logic.{_⊎_, inl, inr}
+use Prim.Native.Nat.{ℕ, zero, suc, _+_, _-_, _≤_, _<_, min}
 use native.Mathlib.Omega.{arith}
-use lib.ListN.{length, getD, getElem?, take}
+use lib.ListN.{length, take}
 use lib.Seq.{length-take-le}
 use Rattle.definitions.specs.declared.Refusal.{Refusal}
 use Rattle.definitions.specs.Tokens.{TagValue}
 use Rattle.definitions.specs.Bytes.{tokens}
 use Rattle.definitions.specs.Tree.{Node}
-use Rattle.definitions.specs.Reading.{got, times}
+use Rattle.definitions.specs.Reading.{Reader, got, times}
 use Rattle.definitions.specs.Grammar.{node}
 use Rattle.definitions.specs.Refusals.{Answer, accepted, refused, faulty, _>>=_}
 use Rattle.definitions.specs.InferClocks.{Formed, deep, formed, Clocking, clocking}
 use Rattle.definitions.specs.Output.{ClockedNode}
 use Rattle.definitions.specs.Answer.{Input, clockings, itemAt, nodeAt}
+use Rattle.grammar.proofs.Got.{times-cons}
 use Rattle.layout.specs.declared.NodeLayout.{NodeLayout}
-use Rattle.layout.specs.Laid.{LaidNode, Places}
-use Rattle.layout.proofs.Laws.{at-item}
+use Rattle.layout.specs.Laid.{LaidNode}
+use Rattle.lines.specs.declared.Told.{Told}
 use Rattle.infer_clocks.specs.declared.NodeClocked.{NodeClocked}
 use Rattle.infer_clocks.specs.declared.Deepest.{Deepest}
 use Rattle.infer_clocks.specs.Clocked.{SitesTold, ClockedOrDeep, Deeply}
-use Rattle.query.specs.declared.NodePlace.{NodePlace}
 use Rattle.query.specs.declared.NodeAnswer.{NodeAnswer}
-use Rattle.query.specs.Standing.{Located, ClockedAs, NodeTold}
+use Rattle.query.specs.Standing.{firstFrom, NodeWithClocks, ClockedAs, NodeTold}
 
 -- ---- an item of a list
 item-missing : {A : Type 0} (l : List A) (k : ℕ) → length l ≤ k → itemAt l k ≡ refused Refusal.Missing
@@ -32,25 +32,41 @@ item-missing [] k h = refl
 item-missing (a ∷ l) zero h = absurd (omega arith)
 item-missing (a ∷ l) (suc k) h = item-missing l k (omega arith)
 
-item-there : {A : Type 0} (l : List A) (k : ℕ) (a : A) → getElem? l k ≡ some a → itemAt l k ≡ accepted a
-item-there [] k a e = let z : _≡_ {A = ℕ} 0 1 = cc in absurd (omega arith)
-item-there (b ∷ l) zero a e = cc
-item-there (b ∷ l) (suc k) a e = item-there l k a e
+-- the one behind k others is the first of the rest
+item-behind : {A : Type 0} (l m : List A) (k : ℕ) → length l ≡ k → itemAt (l ++ m) k ≡ itemAt m 0
+item-behind [] m k e = let z : k ≡ 0 = omega arith in ap (itemAt m) z
+item-behind (a ∷ l) m zero e = absurd (omega arith)
+item-behind (a ∷ l) m (suc k) e = item-behind l m k (omega arith)
 
--- ---- where a node stands
-module _ (M : ℕ) (ts : List TagValue) (ns : List Node) (k n count : ℕ) (e : n ≡ count) (many : count ≡ length ns) where
-  pub located-none : n ≤ k → Located M ts ns k NodePlace.Missing
-  unfolding Located
-  located-none h = item-missing ns k (omega arith)
+-- ---- items that are read, with k before one of them
+pub record Around {A : Type 0} (R : Reader A) (ts : List TagValue) (k behind at : ℕ) (l : List A) (q : ℕ) : Type 0 where
+  pub front : List A
+  pub place : ℕ
+  pub item : A
+  pub next : ℕ
+  pub rest : List A
+  pub before : times k R ts at ≡ got front place
+  pub here : R ts place ≡ got item next
+  pub after : times behind R ts next ≡ got rest q
+  pub whole : l ≡ front ++ (item ∷ rest)
+  pub many : length front ≡ k
 
-  pub located-at : (ps : List ℕ) (at q : ℕ) → ((l : List Node) (q : ℕ) → times n (node M) ts at ≡ got l q → Places (node M) ts ps l) → times count (node M) ts at ≡ got ns q → k < n → n ≤ 16
-      → Located M ts ns k (NodePlace.At (getD ps k 0))
-  unfolding Located
-  located-at ps at q P g h few =
-      let p = P ns q (rw e g) in
-      let a = at-item ns k (omega arith) in
-      let s = p .stands k (a .0) (a .1) in
-      (a .0, s .0, item-there ns k (a .0) (a .1), s .1, omega arith)
+pub around : {A : Type 0} (R : Reader A) (ts : List TagValue) (k behind at : ℕ) (l : List A) (q : ℕ) → times (k + suc behind) R ts at ≡ got l q → Around R ts k behind at l q
+unfolding times
+around R ts zero behind at l q g =
+    let e : zero + suc behind ≡ suc behind = omega arith in
+    let c = times-cons R ts (suc behind) at l q (λ y. omega (arith, y)) (rw e at g) in
+    let f : suc behind - 1 ≡ behind = omega arith in
+    record { front = []; place = at; item = c .0; next = c .1; rest = c .2; before = refl; here = c .3; after = rw f at (c .4); whole = c .5; many = refl }
+around {A} R ts (suc k) behind at l q g =
+    let c = times-cons R ts (suc k + suc behind) at l q (λ y. omega (arith, y)) g in
+    let f : suc k + suc behind - 1 ≡ k + suc behind = omega arith in
+    more (c .0) (c .1) (c .2) (c .3) (c .5) (around R ts k behind (c .1) (c .2) q (rw f at (c .4)))
+  where
+    more : (b : A) (s : ℕ) (r : List A) → R ts at ≡ got b s → l ≡ b ∷ r → Around R ts k behind s r q → Around R ts (suc k) behind at l q
+    more b s r e f h =
+        let g = h .before in
+        record { front = b ∷ h .front; place = h .place; item = h .item; next = h .next; rest = h .rest; before = rw (e, g); here = h .here; after = h .after; whole = f ∙ ap (λ (x : List A). b ∷ x) (h .whole); many = ap suc (h .many) }
 
 -- ---- the same node with its clocks
 pub none-clocked : (i : ℕ) (l : List ClockedNode) → clockings i [] ≡ accepted l → l ≡ []
@@ -113,56 +129,159 @@ clockings-append i (n ∷ ns) ms = go (clocking n) refl (clockings-append (suc i
         ∙ (swap y (clockings (suc i) ns) (clockings (suc i + length ns) ms)
         ∙ (ap (λ (k : ℕ). rest k (clockings (suc i) ns >>= λ l. accepted (y ∷ l))) j ∙ ap (rest (i + suc (length ns))) (sym (node-formed i n ns c e)))))
 
-item-clocked : (i : ℕ) (ns : List Node) (l : List ClockedNode) (k : ℕ) (n : Node) → clockings i ns ≡ accepted l → itemAt ns k ≡ accepted n
-    → (c : Clocking) × (clocking n ≡ formed c) × (itemAt l k ≡ accepted (record { node = n; clocking = c }))
-item-clocked i [] l k n h e = let z : _≡_ {A = ℕ} 0 1 = cc in absurd (omega arith)
-item-clocked i (m ∷ ns) l zero n h e =
-    let a = cons-clocked i m ns l h in
-    let f : m ≡ n = cc in
-    (a .0, ap clocking (sym f) ∙ a .2, ap (λ (x : List ClockedNode). itemAt x 0) (a .4) ∙ ap (λ (x : Node). accepted (record { node = x; clocking = a .0 })) f)
-item-clocked i (m ∷ ns) l (suc k) n h e =
-    let a = cons-clocked i m ns l h in
-    let b = item-clocked (suc i) ns (a .1) k n (a .3) e in
-    (b .0, b .1, ap (λ (x : List ClockedNode). itemAt x (suc k)) (a .4) ∙ b .2)
+clocked-long : (i : ℕ) (ns : List Node) (l : List ClockedNode) → clockings i ns ≡ accepted l → length l ≡ length ns
+clocked-long i [] l h = ap length (none-clocked i l h)
+clocked-long i (n ∷ ns) l h = let a = cons-clocked i n ns l h in ap length (a .4) ∙ ap suc (clocked-long (suc i) ns (a .1) (a .3))
+
+-- the same nodes numbered from i and from j on: all clocks are formed, or the same node's are not
+numbered-anew : (i j : ℕ) (ns : List Node) → ((l : List ClockedNode) × (clockings i ns ≡ accepted l) × (clockings j ns ≡ accepted l)) ⊎ ((d : ℕ) × (clockings i ns ≡ refused (Refusal.Deep (i + d))) × (clockings j ns ≡ refused (Refusal.Deep (j + d))))
+unfolding clockings
+numbered-anew i j [] = inl ([], refl, refl)
+numbered-anew i j (n ∷ ns) = go (clocking n) refl (numbered-anew (suc i) (suc j) ns)
+  where
+    with-first : Clocking → Answer (List ClockedNode) → Answer (List ClockedNode)
+    with-first c v = v >>= λ l. accepted (record { node = n; clocking = c } ∷ l)
+
+    go : (v : Formed Clocking) → clocking n ≡ v
+        → ((l : List ClockedNode) × (clockings (suc i) ns ≡ accepted l) × (clockings (suc j) ns ≡ accepted l)) ⊎ ((d : ℕ) × (clockings (suc i) ns ≡ refused (Refusal.Deep (suc i + d))) × (clockings (suc j) ns ≡ refused (Refusal.Deep (suc j + d))))
+        → ((l : List ClockedNode) × (clockings i (n ∷ ns) ≡ accepted l) × (clockings j (n ∷ ns) ≡ accepted l)) ⊎ ((d : ℕ) × (clockings i (n ∷ ns) ≡ refused (Refusal.Deep (i + d))) × (clockings j (n ∷ ns) ≡ refused (Refusal.Deep (j + d))))
+    go deep e h =
+        let a : i ≡ i + 0 = omega arith in
+        let b : j ≡ j + 0 = omega arith in
+        inr (0, node-deep i n ns e ∙ ap (λ (x : ℕ). refused (Refusal.Deep x)) a, node-deep j n ns e ∙ ap (λ (x : ℕ). refused (Refusal.Deep x)) b)
+    go (formed c) e (inl (l, a, b)) = inl (record { node = n; clocking = c } ∷ l, node-formed i n ns c e ∙ ap (with-first c) a, node-formed j n ns c e ∙ ap (with-first c) b)
+    go (formed c) e (inr (d, a, b)) =
+        let x : suc i + d ≡ i + suc d = omega arith in
+        let y : suc j + d ≡ j + suc d = omega arith in
+        inr (suc d, node-formed i n ns c e ∙ (ap (with-first c) a ∙ ap (λ (z : ℕ). refused (Refusal.Deep z)) x), node-formed j n ns c e ∙ (ap (with-first c) b ∙ ap (λ (z : ℕ). refused (Refusal.Deep z)) y))
+
+module _ (j : ℕ) (ns : List Node) where
+  -- the nodes from node j on, by the search among them
+  behind-fine : (l : List ClockedNode) → clockings 0 ns ≡ accepted l → clockings j ns ≡ accepted l
+  behind-fine l h = go (numbered-anew 0 j ns)
+    where
+      go : ((l : List ClockedNode) × (clockings 0 ns ≡ accepted l) × (clockings j ns ≡ accepted l)) ⊎ ((d : ℕ) × (clockings 0 ns ≡ refused (Refusal.Deep (0 + d))) × (clockings j ns ≡ refused (Refusal.Deep (j + d)))) → clockings j ns ≡ accepted l
+      go (inl (m, a, b)) = b ∙ (sym a ∙ h)
+      go (inr (d, a, b)) =
+          let x : refused (Refusal.Deep (0 + d)) ≡ accepted l = sym a ∙ h in
+          let z : _≡_ {A = ℕ} 0 1 = cc in absurd (omega arith)
+
+  behind-deep : (i : ℕ) → clockings 0 ns ≡ refused (Refusal.Deep i) → clockings j ns ≡ refused (Refusal.Deep (j + i))
+  behind-deep i h = go (numbered-anew 0 j ns)
+    where
+      go : ((l : List ClockedNode) × (clockings 0 ns ≡ accepted l) × (clockings j ns ≡ accepted l)) ⊎ ((d : ℕ) × (clockings 0 ns ≡ refused (Refusal.Deep (0 + d))) × (clockings j ns ≡ refused (Refusal.Deep (j + d)))) → clockings j ns ≡ refused (Refusal.Deep (j + i))
+      go (inl (m, a, b)) =
+          let x : accepted m ≡ refused (Refusal.Deep i) = sym a ∙ h in
+          let z : _≡_ {A = ℕ} 0 1 = cc in absurd (omega arith)
+      go (inr (d, a, b)) =
+          let x : refused (Refusal.Deep (0 + d)) ≡ refused (Refusal.Deep i) = sym a ∙ h in
+          let y : 0 + d ≡ i = cc in
+          let w : j + d ≡ j + i = omega arith in
+          b ∙ ap (λ (z : ℕ). refused (Refusal.Deep z)) w
 
 -- ---- what is told of node k
-node-known : (r : Input) (k : ℕ) (n : Node) (ns : List ClockedNode) (m : ClockedNode) → itemAt (r .sheet .nodes) k ≡ accepted n → clockings 0 (r .sheet .nodes) ≡ accepted ns → itemAt ns k ≡ accepted m → nodeAt r k ≡ accepted m
+-- 8
+pub node-missing : (r : Input) (k : ℕ) → length (r .sheet .nodes) ≤ k → nodeAt r k ≡ refused Refusal.Missing
 unfolding nodeAt
-node-known r k n ns m e f g = rw (e, f, g)
+node-missing r k h = let e = item-missing (r .sheet .nodes) k h in rw e
 
-module _ (M : ℕ) (gs vs t sites : List ℕ) (r : Input) (k : ℕ) (found : NodePlace) (f : Located M (tokens gs vs) (r .sheet .nodes) k found) where
-  pub told-missing : found ≡ NodePlace.Missing → NodeTold M gs vs t sites k (NodeAnswer.Refused Refusal.Missing) (nodeAt r k)
-  unfolding Located NodeTold nodeAt
-  told-missing e = let g : Located M (tokens gs vs) (r .sheet .nodes) k NodePlace.Missing = rw e at f in rw g
+module _ (r : Input) (k : ℕ) (front : List Node) (n : Node) (ns : List Node) (e : r .sheet .nodes ≡ front ++ (n ∷ ns)) (many : length front ≡ k) where
+  known : itemAt (r .sheet .nodes) k ≡ accepted n
+  known = ap (λ (l : List Node). itemAt l k) e ∙ item-behind front (n ∷ ns) k many
 
-  module _ (p : ℕ) (e : found ≡ NodePlace.At p) (d : Deepest) (h : Deeply d (clockings 0 (r .sheet .nodes))) where
-    pub told-deep : (i w : ℕ) → d ≡ Deepest.At i → w ≡ i → NodeTold M gs vs t sites k (NodeAnswer.Refused (Refusal.Deep w)) (nodeAt r k)
-    unfolding Located NodeTold nodeAt Deeply
-    told-deep i w j u =
-        let g : Located M (tokens gs vs) (r .sheet .nodes) k (NodePlace.At p) = rw e at f in
-        let x : Deeply (Deepest.At i) (clockings 0 (r .sheet .nodes)) = rw j at h in
-        rw (g .2, x, u)
+  -- 9 at a node before it
+  pub node-after-deep : (i : ℕ) → clockings 0 front ≡ refused (Refusal.Deep i) → nodeAt r k ≡ refused (Refusal.Deep i)
+  unfolding nodeAt
+  node-after-deep i h =
+      let x : clockings 0 (r .sheet .nodes) ≡ refused (Refusal.Deep i) = ap (clockings 0) e ∙ (clockings-append 0 front (n ∷ ns) ∙ rw h) in
+      rw (known, x)
 
-    module _ (j : d ≡ Deepest.Nowhere) (l : NodeLayout) (L : (n : Node) (q : ℕ) → node M (tokens gs vs) p ≡ got n q → LaidNode M (tokens gs vs) n q l) where
-      pub told-node : (a : NodeAnswer) → ((n : Node) (q : ℕ) → LaidNode M (tokens gs vs) n q l → ClockedAs M gs vs t sites k n a) → NodeTold M gs vs t sites k a (nodeAt r k)
-      unfolding Located NodeTold Deeply ClockedAs
-      told-node a C =
-          let g : Located M (tokens gs vs) (r .sheet .nodes) k (NodePlace.At p) = rw e at f in
-          let x : Deeply Deepest.Nowhere (clockings 0 (r .sheet .nodes)) = rw j at h in
-          let b = item-clocked 0 (r .sheet .nodes) (x .0) k (g .0) (x .1) (g .2) in
-          let m = node-known r k (g .0) (x .0) (record { node = g .0; clocking = b .0 }) (g .2) (x .1) (b .2) in
-          go a (g .0) (b .0) m (b .1) (g .4) (C (g .0) (g .1) (L (g .0) (g .1) (g .3)))
-        where
-          go : (a : NodeAnswer) (n : Node) (c : Clocking) → nodeAt r k ≡ accepted (record { node = n; clocking = c }) → clocking n ≡ formed c → k < 16 → ClockedAs M gs vs t sites k n a → NodeTold M gs vs t sites k a (nodeAt r k)
-          go (NodeAnswer.Refused u) n c m b few y =
-              let z : deep ≡ formed c = sym (y .0) ∙ b in
-              let w : _≡_ {A = ℕ} 0 1 = cc in absurd (omega arith)
-          go (NodeAnswer.Node told) n c m b few y =
-              let s : formed (y .0) ≡ formed c = sym (y .1) ∙ b in
-              (record { node = n; clocking = y .0 }, m ∙ same n (y .0) c s, y .2, few)
-            where
-              same : (n : Node) (c d : Clocking) → formed c ≡ formed d → _≡_ {A = Answer ClockedNode} (accepted (record { node = n; clocking = d })) (accepted (record { node = n; clocking = c }))
-              same n c d s = let e : c ≡ d = cc in ap (λ (x : Clocking). accepted (record { node = n; clocking = x })) (sym e)
+  -- it and the nodes behind it
+  pub node-after : (l : List ClockedNode) → clockings 0 front ≡ accepted l → nodeAt r k ≡ firstFrom k (n ∷ ns)
+  unfolding nodeAt
+  node-after l h =
+      let j : 0 + length front ≡ k = omega (arith, many) in
+      let x : clockings 0 (r .sheet .nodes) ≡ (clockings k (n ∷ ns) >>= λ m. accepted (l ++ m)) = ap (clockings 0) e ∙ (clockings-append 0 front (n ∷ ns) ∙ rw (h, j)) in
+      rw (known, x) (go (clockings k (n ∷ ns)))
+    where
+      go : (v : Answer (List ClockedNode)) → ((v >>= λ m. accepted (l ++ m)) >>= λ a. itemAt a k) ≡ (v >>= λ m. itemAt m 0)
+      go (accepted m) = item-behind l m k (clocked-long 0 front l h ∙ many)
+      go (refused x) = refl
+      go (faulty x) = refl
+
+-- node k among the nodes of a sheet, which are read there: `before` are as many as k
+module _ (M : ℕ) (ts : List TagValue) (r : Input) (k count before at q : ℕ) (few : k < count) (e : before ≡ k) (g : times count (node M) ts at ≡ got (r .sheet .nodes) q) where
+  among : Around (node M) ts before (count - before - 1) at (r .sheet .nodes) q
+  among = let f : count ≡ before + suc (count - before - 1) = omega arith in around (node M) ts before (count - before - 1) at (r .sheet .nodes) q (ap (λ (n : ℕ). times n (node M) ts at) (sym f) ∙ g)
+
+  module _ (d : Deepest) (D : (ns : List Node) (p : ℕ) → times before (node M) ts at ≡ got ns p → Deeply p d (clockings 0 ns)) where
+    -- 9 before it
+    pub asked-deep : (i w : ℕ) → d ≡ Deepest.At i → w ≡ i → nodeAt r k ≡ refused (Refusal.Deep w)
+    unfolding Deeply
+    asked-deep i w f u =
+        let s = among in
+        let x : Deeply (s .place) (Deepest.At i) (clockings 0 (s .front)) = rw f at (D (s .front) (s .place) (s .before)) in
+        node-after-deep r k (s .front) (s .item) (s .rest) (s .whole) (s .many ∙ e) i x ∙ ap (λ (z : ℕ). refused (Refusal.Deep z)) (sym u)
+
+    -- it stands there, and the nodes behind it after it
+    pub asked-there : (p : ℕ) → d ≡ Deepest.Nowhere p → (n : Node) × (m : ℕ) × (ns : List Node) × (node M ts p ≡ got n m) × (times (count - before - 1) (node M) ts m ≡ got ns q) × (nodeAt r k ≡ firstFrom k (n ∷ ns))
+    unfolding Deeply
+    asked-there p f =
+        let s = among in
+        let x : Deeply (s .place) (Deepest.Nowhere p) (clockings 0 (s .front)) = rw f at (D (s .front) (s .place) (s .before)) in
+        (s .item, s .next, s .rest, ap (node M ts) (x .0) ∙ s .here, s .after, node-after r k (s .front) (s .item) (s .rest) (s .whole) (s .many ∙ e) (x .1) (x .2))
+
+-- what is told is that
+pub told-as : (M : ℕ) (gs vs t sites : List ℕ) (k : ℕ) (a : NodeAnswer) (v w : Answer ClockedNode) → v ≡ w → NodeTold M gs vs t sites k a w → NodeTold M gs vs t sites k a v
+told-as M gs vs t sites k a v w e h = rw e h
+
+pub told-refused : (M : ℕ) (gs vs t sites : List ℕ) (k : ℕ) (x : Refusal) (v : Answer ClockedNode) → v ≡ refused x → NodeTold M gs vs t sites k (NodeAnswer.Refused x) v
+unfolding NodeTold
+told-refused M gs vs t sites k x v e = e
+
+-- node k, which is n, and the nodes behind it
+module _ (k : ℕ) (n : Node) (ns : List Node) where
+  -- 9 at it
+  pub first-deep : clocking n ≡ deep → firstFrom k (n ∷ ns) ≡ refused (Refusal.Deep k)
+  first-deep e = let d = node-deep k n ns e in rw d
+
+  module _ (c : Clocking) (e : clocking n ≡ formed c) where
+    -- 9 behind it
+    pub first-behind : (i : ℕ) → clockings 0 ns ≡ refused (Refusal.Deep i) → firstFrom k (n ∷ ns) ≡ refused (Refusal.Deep (k + 1 + i))
+    first-behind i h =
+        let x = node-formed k n ns c e in
+        let y = behind-deep (suc k) ns i h in
+        let j : suc k + i ≡ k + 1 + i = omega arith in
+        rw (x, y, j)
+
+    pub first-there : (l : List ClockedNode) → clockings 0 ns ≡ accepted l → firstFrom k (n ∷ ns) ≡ accepted (record { node = n; clocking = c })
+    first-there l h =
+        let x = node-formed k n ns c e in
+        let y = behind-fine (suc k) ns l h in
+        rw (x, y)
+
+-- what clocking it and searching behind it tell
+module _ (M : ℕ) (gs vs t sites : List ℕ) (k : ℕ) (n : Node) (ns : List Node) (a : NodeAnswer) (h : ClockedAs M gs vs t sites k n a) where
+  pub told-deep : (x : Refusal) → a ≡ NodeAnswer.Refused x → NodeTold M gs vs t sites k (NodeAnswer.Refused (Refusal.Deep k)) (firstFrom k (n ∷ ns))
+  unfolding NodeTold ClockedAs
+  told-deep x e = let c : ClockedAs M gs vs t sites k n (NodeAnswer.Refused x) = rw e at h in first-deep k n ns (c .0)
+
+  module _ (told : Told) (e : a ≡ NodeAnswer.Node told) (q : ℕ) (d : Deepest) (D : Deeply q d (clockings 0 ns)) where
+    this : (c : Clocking) × (clocking n ≡ formed c) × NodeWithClocks M gs vs t sites k told (record { node = n; clocking = c })
+    unfolding ClockedAs
+    this = let c : ClockedAs M gs vs t sites k n (NodeAnswer.Node told) = rw e at h in c
+
+    pub told-behind : (i w : ℕ) → d ≡ Deepest.At i → w ≡ i → NodeTold M gs vs t sites k (NodeAnswer.Refused (Refusal.Deep (k + 1 + w))) (firstFrom k (n ∷ ns))
+    unfolding NodeTold Deeply
+    told-behind i w f u =
+        let x : Deeply q (Deepest.At i) (clockings 0 ns) = rw f at D in
+        first-behind k n ns (this .0) (this .1) i x ∙ ap (λ (z : ℕ). refused (Refusal.Deep (k + 1 + z))) (sym u)
+
+    pub told-node : (p : ℕ) → d ≡ Deepest.Nowhere p → k < 16 → NodeTold M gs vs t sites k (NodeAnswer.Node told) (firstFrom k (n ∷ ns))
+    unfolding NodeTold Deeply
+    told-node p f few =
+        let x : Deeply q (Deepest.Nowhere p) (clockings 0 ns) = rw f at D in
+        (record { node = n; clocking = this .0 }, first-there k n ns (this .0) (this .1) (x .1) (x .2), this .2, few)
 
 -- ---- the part of a working table that names take
 module _ (n w : ℕ) (l : List ℕ) (e : n ≡ min w 1024) (f : length l ≡ 1024) where

@@ -12,9 +12,9 @@ use lib.Seq.{take-suc, take-all, length-take-le, getD-append-add}
 use Rattle.definitions.specs.declared.Condition.{Condition}
 use Rattle.definitions.specs.Lists.{join, over}
 use Rattle.definitions.specs.Clock.{Clock, conditions}
-use Rattle.clock.specs.Value.{at, clockAt}
-use Rattle.clock.proofs.Laws.{depth-at}
-use Rattle.flat.specs.Flat.{wordOf}
+use Rattle.clock_tables.specs.Value.{at, clockAt}
+use Rattle.clock_tables.proofs.ClockLaws.{depth-at}
+use Rattle.clock_tables.specs.Flat.{wordOf}
 use Rattle.spelling.specs.Writing.{overAt}
 use Rattle.spelling.proofs.Writing.{over-nothing, over-set, over-then, over-front, length-over}
 use Rattle.query.specs.Words.{zeros, conditionWords, clockWords}

@@ -4,20 +4,18 @@ use mathlib.Core.Path.{_≡_}
 use mathlib.Core.List.{List}
 use lib.ListN.{length}
 use Rattle.definitions.specs.declared.Refusal.{Refusal}
-use Rattle.definitions.specs.Tokens.{TagValue}
 use Rattle.definitions.specs.Tree.{Node}
 use Rattle.definitions.specs.Bytes.{tokens}
 use Rattle.definitions.specs.Reading.{got}
-use Rattle.definitions.specs.Grammar.{node, sheet}
-use Rattle.definitions.specs.Refusals.{Answer, accepted, refused}
+use Rattle.definitions.specs.Grammar.{sheet}
+use Rattle.definitions.specs.Refusals.{Answer, accepted, refused, _>>=_}
 use Rattle.definitions.specs.InferClocks.{deep, formed, Clocking, clocking}
 use Rattle.definitions.specs.Output.{lettersOf, ClockedNode}
-use Rattle.definitions.specs.Answer.{Input, itemAt}
-use Rattle.fresh.specs.Places.{lettersAt}
+use Rattle.definitions.specs.Answer.{Input, clockings, itemAt}
+use Rattle.spelling.specs.Places.{lettersAt}
 use Rattle.layout.specs.Laid.{LaidNode}
-use Rattle.listing.specs.declared.Told.{Told}
-use Rattle.listing.specs.ToldClocks.{ToldClocks}
-use Rattle.query.specs.declared.NodePlace.{NodePlace}
+use Rattle.lines.specs.declared.Told.{Told}
+use Rattle.lines.specs.ToldClocks.{ToldClocks}
 use Rattle.query.specs.declared.NodeAnswer.{NodeAnswer}
 
 -- the sheet r stands in these tables: the letters of its names by where they start, its tokens as tags and values
@@ -41,10 +39,9 @@ pub record Ample (table rows chain : List ℕ) : Type 0 where
   pub chained : 17 * length table ≤ 38 * length rows
   pub ordered : length table ≤ 38 * length chain
 
--- where node k stands, or 8
-unfoldable pub Located : ℕ → List TagValue → List Node → ℕ → NodePlace → Type 0
-Located M ts ns k NodePlace.Missing = itemAt ns k ≡ refused Refusal.Missing
-Located M ts ns k (NodePlace.At p) = (n : Node) × (q : ℕ) × (itemAt ns k ≡ accepted n) × (node M ts p ≡ got n q) × (k < 16)
+-- the first of these nodes with its clocks, where it is node k and no clock of them is too deep
+abbrev pub firstFrom : ℕ → List Node → Answer ClockedNode
+firstFrom k ns = clockings k ns >>= λ l. itemAt l 0
 
 -- node k laid out, with its clocks in the working tables
 pub record NodeWithClocks (M : ℕ) (gs vs t sites : List ℕ) (k : ℕ) (told : Told) (n : ClockedNode) : Type 0 where

@@ -9,7 +9,7 @@ use Rattle.definitions.specs.Lists.{join, over, Letters}
 use Rattle.definitions.specs.Clock.{Clock, depth, conditions}
 use Rattle.definitions.specs.InferClocks.{NodeFault}
 use Rattle.definitions.specs.Answer.{NodeClocks, faultRecord}
-use Rattle.flat.specs.Flat.{wordOf}
+use Rattle.clock_tables.specs.Flat.{wordOf}
 use Rattle.spelling.specs.Writing.{overAt}
 use Rattle.query.specs.declared.NodeCounts.{NodeCounts}
 

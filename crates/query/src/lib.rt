@@ -1,46 +1,38 @@
 // What the questions on a sheet's nodes are answered from, over the working tables: a node found and clocked, its clocks and faults
 // as words, the listings of all nodes. `tags` and `values` are as long as each other; `names` is the number of names. `sites` has seventeen
 // words for each token: clocking puts the clock of each equation in the row of its first token.
-use clock::Clock;
+use clock_tables::Clock;
 use definitions::MOST_NAMES;
-use definitions::MOST_NODES;
 use definitions::Refusal;
 use infer_clocks::Deepest;
 use infer_clocks::NodeClocked;
 use layout::NodeLayout;
 use layout::Span;
-use listing::Told;
+use lines::Told;
 ghost use mathlib.Core.Path.{_≡_};
 ghost use mathlib.Core.List.{List, [], _∷_, map};
-ghost use Prim.Native.Nat.{ℕ, _+_, _*_, _/_, _≤_, _<_, min};
+ghost use Prim.Native.Nat.{ℕ, _+_, _*_, _/_, _≤_, _<_};
 ghost use lib.ListN.{length, getD};
 ghost use lib.Dec.{ltb};
 ghost use Rattle.definitions.specs.Bytes.{tokens};
-ghost use Rattle.definitions.specs.Lists.{choose, join, numbered};
-ghost use Rattle.definitions.specs.Tree.{Node, Sheet};
+ghost use Rattle.definitions.specs.Lists.{choose};
+ghost use Rattle.definitions.specs.Tree.{Node};
 ghost use Rattle.definitions.specs.Reading.{got, times};
 ghost use Rattle.definitions.specs.Grammar.{node, sheet};
-ghost use Rattle.definitions.specs.InferClocks.{Clocked, Clocking, formed, clocking, chains, clockFaults};
-ghost use Rattle.definitions.specs.Refusals.{accepted};
+ghost use Rattle.definitions.specs.InferClocks.{Clocked, chains, clockFaults};
 ghost use Rattle.definitions.specs.Output.{ClockedNode};
 ghost use Rattle.definitions.specs.Answer.{Input, clockings, nodeAt, nodeClocks, nodeListing};
-ghost use Rattle.clock.specs.Value.{valueOf};
+ghost use Rattle.clock_tables.specs.Value.{valueOf};
 ghost use Rattle.findings.specs.Findings.{findingsIn};
-ghost use Rattle.fresh.specs.Places.{lettersAt};
-ghost use Rattle.order.specs.Order.{rowOf, picked};
+ghost use Rattle.spelling.specs.Places.{lettersAt};
+ghost use Rattle.chain_order.specs.Order.{rowOf, picked};
 ghost use Rattle.spelling.specs.Writing.{overAt, farthest};
 ghost use Rattle.layout.specs.Laid.{LaidNode};
 ghost use Rattle.skeleton.specs.Sites.{EquationsOn};
 ghost use Rattle.infer_clocks.specs.Clocked.{Deeply};
-ghost use Rattle.query.specs.Standing.{Roomy, Ample, Located, NodeWithClocks, ClockedAs, NodeTold};
-ghost use Rattle.query.specs.Sizes.{SizedListing, sizeOf, Measures};
+ghost use Rattle.query.specs.Standing.{Roomy, Ample, firstFrom, NodeWithClocks, ClockedAs, NodeTold};
+ghost use Rattle.query.specs.Listed.{ListingsStand};
 ghost use Rattle.query.specs.Words.{clockWords, clocksOver, faultsOver, Written, PutText};
-
-// Where a node stands.
-pub enum NodePlace {
-    Missing,
-    At(usize),
-}
 
 // A node laid out and clocked, or turned down.
 pub enum NodeAnswer {
@@ -57,58 +49,34 @@ pub struct NodeCounts {
     pub faults: usize,
 }
 
-// How many chains a node has, and how long its listing is.
-pub struct NodeSize {
-    pub chains: usize,
-    pub listing: usize,
-}
-
-// Listings measured: how long they are, and where the next node stands; or the first node in which too deep a clock is formed.
-pub enum Measured {
+// Listings put: how long they are; or the first node in which too deep a clock is formed.
+pub enum ListingsPut {
     Deep(usize),
-    Size(usize, usize),
+    Size(usize),
 }
 
-// Where node k stands, if the sheet has it.
-pub fn node_place(tags: &[u8], values: &[u32], names: u32, k: usize) -> NodePlace
-    requires { ⌜ length (now values) ≡ length (now tags) ⌝ }
-    ensures { λ r. ⌜ ((s : Sheet) (q : ℕ) → sheet names (tokens (now (tags .entry)) (now (values .entry))) 0 ≡ got s q → Located names (tokens (now (tags .entry)) (now (values .entry))) (s .nodes) k r) ⌝ }
-{
-    let whole = layout::sheet_at(tags, values, names);
-    let nodes = whole.nodes;
-    let n = widths::wide(nodes.count);
-    if n <= k {
-        return NodePlace::Missing;
-    }
-    if MOST_NODES < n {
-        return NodePlace::Missing;
-    }
-    let places = layout::node_places(tags, values, names, n, nodes.at);
-    NodePlace::At(places[k])
-}
-
-// The first node in which too deep a clock is formed.
-pub fn first_deep(
+// The first of so many nodes, the first of which stands there, in which too deep a clock is formed; or where they end.
+pub fn deep_among(
     tags: &[u8],
     values: &[u32],
     names: u32,
+    count: u32,
+    at: usize,
     env: &mut [u32],
     table: &mut [u32],
     sites: &mut [u32],
 ) -> Deepest
     requires { ⌜ length (now values) ≡ length (now tags) ⌝ }
-    ensures { λ r. ⌜ ((s : Sheet) (q : ℕ) → sheet names (tokens (now (tags .entry)) (now (values .entry))) 0 ≡ got s q → Roomy names (length (now (tags .entry))) (now (env .entry)) (now (table .entry)) (now (sites .entry)) → Deeply r (clockings 0 (s .nodes))) ⌝ }
+    ensures { λ r. ⌜ ((ns : List Node) (q : ℕ) → times count (node names) (tokens (now (tags .entry)) (now (values .entry))) at ≡ got ns q → Roomy names (length (now (tags .entry))) (now (env .entry)) (now (table .entry)) (now (sites .entry)) → Deeply q r (clockings 0 ns)) ⌝ }
 {
-    let whole = layout::sheet_at(tags, values, names);
-    let nodes = whole.nodes;
     let mut marks = [0u8; MOST_NAMES];
     let mut ports = [0u32; MOST_NAMES];
     infer_clocks::first_deep(
         tags,
         values,
         names,
-        nodes.count,
-        nodes.at,
+        count,
+        at,
         env,
         &mut marks,
         &mut ports,
@@ -118,7 +86,7 @@ pub fn first_deep(
 }
 
 // Node k, which has this layout, clocked; or refusal 9 at it. Marks and ports, which are cleared for each node, are lent as far as names go.
-pub fn clock_laid(
+fn clock_laid(
     tags: &[u8],
     values: &[u32],
     names: u32,
@@ -157,6 +125,36 @@ pub fn clock_laid(
     }
 }
 
+// Node k, which stands there, laid out and clocked; or the first of it and so many nodes behind it in which too deep a clock is formed. It is
+// clocked last, so that its clocks stand in the working tables.
+fn clock_before(
+    tags: &[u8],
+    values: &[u32],
+    names: u32,
+    k: usize,
+    at: usize,
+    behind: u32,
+    env: &mut [u32],
+    table: &mut [u32],
+    sites: &mut [u32],
+) -> NodeAnswer
+    requires { ⌜ length (now values) ≡ length (now tags) ⌝ }
+    requires { ⌜ k < 4294967296 ⌝ }
+    ensures { λ r. ⌜ ((n : Node) (p : ℕ) (ns : List Node) (q : ℕ) → node names (tokens (now (tags .entry)) (now (values .entry))) at ≡ got n p → times behind (node names) (tokens (now (tags .entry)) (now (values .entry))) p ≡ got ns q → Roomy names (length (now (tags .entry))) (now (env .entry)) (now (table .entry)) (now (sites .entry)) → k < 16 → NodeTold names (now (tags .entry)) (now (values .entry)) (now (table .exit)) (now (sites .exit)) k r (firstFrom k (n ∷ ns))) ⌝ }
+{
+    let layout = layout::node_at(tags, values, names, at);
+    let end = layout.end;
+    let deep = deep_among(tags, values, names, behind, end, env, table, sites);
+    let answer = clock_laid(tags, values, names, layout, k, env, table, sites);
+    let NodeAnswer::Node(told) = answer else {
+        return NodeAnswer::Refused(Refusal::Deep(k));
+    };
+    if let Deepest::At(i) = deep {
+        return NodeAnswer::Refused(Refusal::Deep(k + 1 + widths::wide(i)));
+    }
+    NodeAnswer::Node(told)
+}
+
 // Node k laid out and clocked; refusal 8 is told before 9.
 pub fn clock_at(
     tags: &[u8],
@@ -170,23 +168,28 @@ pub fn clock_at(
     requires { ⌜ length (now values) ≡ length (now tags) ⌝ }
     ensures { λ r. ⌜ ((i : Input) (q : ℕ) → sheet names (tokens (now (tags .entry)) (now (values .entry))) 0 ≡ got (i .sheet) q → Roomy names (length (now (tags .entry))) (now (env .entry)) (now (table .entry)) (now (sites .entry)) → NodeTold names (now (tags .entry)) (now (values .entry)) (now (table .exit)) (now (sites .exit)) k r (nodeAt i k)) ⌝ }
 {
-    let found = node_place(tags, values, names, k);
-    let NodePlace::At(at) = found else {
+    let whole = layout::sheet_at(tags, values, names);
+    let nodes = whole.nodes;
+    let n = nodes.count;
+    if widths::wide(n) <= k {
         return NodeAnswer::Refused(Refusal::Missing);
-    };
-    let deep = first_deep(tags, values, names, env, table, sites);
-    if let Deepest::At(i) = deep {
-        return NodeAnswer::Refused(Refusal::Deep(widths::wide(i)));
     }
-    let layout = layout::node_at(tags, values, names, at);
-    clock_laid(tags, values, names, layout, k, env, table, sites)
+    let before = widths::narrow(k);
+    let deep = deep_among(tags, values, names, before, nodes.at, env, table, sites);
+    match deep {
+        Deepest::At(i) => NodeAnswer::Refused(Refusal::Deep(widths::wide(i))),
+        Deepest::Nowhere(at) => {
+            let behind = n - before - 1;
+            clock_before(tags, values, names, k, at, behind, env, table, sites)
+        }
+    }
 }
 
 // Word j of a clock in seventeen.
 fn clock_word(c: Clock, j: usize) -> u32
     ensures { λ r. ⌜ r ≡ getD (clockWords (valueOf c)) j 0 ⌝ }
 {
-    let d = clock::depth_of(c);
+    let d = clock_tables::depth_of(c);
     if j == 0 {
         return (d + 1) as u32;
     }
@@ -199,7 +202,7 @@ fn clock_word(c: Clock, j: usize) -> u32
         return k.name;
     }
     let test = k.test;
-    flat::word_of(test)
+    clock_tables::word_of(test)
 }
 
 // A clock in the seventeen words from b on.
@@ -208,7 +211,7 @@ fn put_clock(list: &mut [u32], b: usize, c: Clock)
     ensures { λ r. ⌜ now (list .exit) ≡ overAt b (clockWords (valueOf c)) (now (list .entry)) ⌝ }
 {
     let mut j: usize = 0;
-    while j < flat::WORDS {
+    while j < clock_tables::WORDS {
         let w = clock_word(c, j);
         list[b + j] = w;
         j += 1;
@@ -220,15 +223,15 @@ fn write_equations(tags: &[u8], values: &[u32], sites: &[u32], s: Span, list: &m
     requires { ⌜ length (now values) ≡ length (now tags) ⌝ }
     ensures { λ r. ⌜ ((M : ℕ) (cs : List Clocked) (q : ℕ) → EquationsOn M (now (tags .entry)) (now (values .entry)) (now (sites .entry)) cs (s .at) q → length cs ≡ s .count → now (list .exit) ≡ clocksOver (map (λ c. c .clock) cs) (now (list .entry))) ⌝ }
 {
-    let room = list.len() / flat::WORDS;
+    let room = list.len() / clock_tables::WORDS;
     let n = widths::wide(s.count);
     let most = widths::least(n, room);
     let mut place = s.at;
     let mut i: usize = 0;
     while i < most {
-        let c = rows::get(sites, place);
-        put_clock(list, flat::WORDS * i, c);
-        place = extents::equation_end(tags, values, place);
+        let c = clock_tables::get(sites, place);
+        put_clock(list, clock_tables::WORDS * i, c);
+        place = layout::equation_end(tags, values, place);
         i += 1;
     }
 }
@@ -237,13 +240,13 @@ fn write_equations(tags: &[u8], values: &[u32], sites: &[u32], s: Span, list: &m
 fn write_rows(rows: &[u32], chain: &[u32], m: usize, list: &mut [u32])
     ensures { λ r. ⌜ now (list .exit) ≡ clocksOver (picked (rowOf (now (rows .entry))) (now (chain .entry)) 0 m) (now (list .entry)) ⌝ }
 {
-    let room = list.len() / flat::WORDS;
+    let room = list.len() / clock_tables::WORDS;
     let most = widths::least(m, room);
     let mut i: usize = 0;
     while i < most {
-        let row = widths::wide(flat::word_at(chain, i));
-        let c = rows::get(rows, row);
-        put_clock(list, flat::WORDS * i, c);
+        let row = widths::wide(clock_tables::word_at(chain, i));
+        let c = clock_tables::get(rows, row);
+        put_clock(list, clock_tables::WORDS * i, c);
         i += 1;
     }
 }
@@ -291,7 +294,7 @@ fn write_faults(table: &[u32], n: usize, node: u32, list: &mut [u32]) -> usize
         if faulty {
             let f = findings::found_in(table, i);
             let fault = f.fault;
-            let number = fault::fault_number(fault);
+            let number = findings::fault_number(fault);
             put_fault(list, m, node, number, f.equation);
             m += 1;
             i += 1;
@@ -346,40 +349,8 @@ pub fn write_clocks(
     }
 }
 
-// The chains of a clocked node put in their rows, and its listing measured.
-pub fn measure_told(
-    starts: &[u32],
-    letters: &[u8],
-    tags: &[u8],
-    values: &[u32],
-    sites: &[u32],
-    table: &[u32],
-    told: Told,
-    rows: &mut [u32],
-    chain: &mut [u32],
-) -> NodeSize
-    requires { ⌜ length (now values) ≡ length (now tags) ⌝ }
-    ensures { λ r. ⌜ r .listing ≤ farthest ⌝ }
-    ensures { λ r. ⌜ ((n : ClockedNode) → NodeWithClocks (told .names) (now (tags .entry)) (now (values .entry)) (now (table .entry)) (now (sites .entry)) (told .number) told n → Ample (now (table .entry)) (now (rows .entry)) (now (chain .entry)) → length (now (letters .entry)) ≤ 16384 → length (now (tags .entry)) ≤ 4096 → SizedListing (lettersAt (now (starts .entry)) (now (letters .entry))) (now (table .entry)) (now (rows .exit)) (now (chain .exit)) told n r) ⌝ }
-{
-    let chains = infer_clocks::chain_rows(starts, letters, table, told.findings, rows, chain);
-    let listing = listing::measure_node(
-        starts,
-        letters,
-        tags,
-        values,
-        sites,
-        table,
-        told,
-        rows,
-        chain,
-        chains,
-    );
-    NodeSize { chains, listing }
-}
-
 // The listing of a clocked node, whose m chains stand in their rows, at a place of the lent bytes, as far as they reach: how long it is.
-pub fn put_told(
+fn put_told(
     out: &mut [u8],
     at: usize,
     starts: &[u32],
@@ -398,7 +369,7 @@ pub fn put_told(
     ensures { λ r. ⌜ ((n : ClockedNode) → NodeWithClocks (told .names) (now (tags .entry)) (now (values .entry)) (now (table .entry)) (now (sites .entry)) (told .number) told n → picked (rowOf (now (rows .entry))) (now (chain .entry)) 0 m ≡ chains (lettersAt (now (starts .entry)) (now (letters .entry))) (findingsIn (now (table .entry)) (told .findings)) → length (now (letters .entry)) ≤ 16384 → length (now (tags .entry)) ≤ 4096 → told .findings ≤ 4096 → PutText (nodeListing (lettersAt (now (starts .entry)) (now (letters .entry))) (told .number) n) at (now (out .entry)) r (now (out .exit))) ⌝ }
 {
     if out.len() <= at {
-        return listing::measure_node(
+        return lines::measure_node(
             starts,
             letters,
             tags,
@@ -414,7 +385,7 @@ pub fn put_told(
     let left = out.len() - at;
     let to = at + widths::least(left, 4294967296);
     let part = &mut out[at..to];
-    listing::put_node(
+    lines::put_node(
         part,
         0,
         starts,
@@ -430,31 +401,24 @@ pub fn put_told(
     )
 }
 
-// The same of node k, which has this layout and is clocked first.
-fn put_laid(
+// The same of a clocked node, whose chains are put in their rows first.
+fn put_chained(
     out: &mut [u8],
     at: usize,
     starts: &[u32],
     letters: &[u8],
     tags: &[u8],
     values: &[u32],
-    names: u32,
-    layout: NodeLayout,
-    k: usize,
-    env: &mut [u32],
-    table: &mut [u32],
+    sites: &[u32],
+    table: &[u32],
+    told: Told,
     rows: &mut [u32],
     chain: &mut [u32],
-    sites: &mut [u32],
 ) -> usize
     requires { ⌜ length (now values) ≡ length (now tags) ⌝ }
     ensures { λ r. ⌜ r ≤ farthest ⌝ }
-    ensures { λ r. ⌜ ((n : Node) (q : ℕ) (c : Clocking) → LaidNode names (tokens (now (tags .entry)) (now (values .entry))) n q layout → clocking n ≡ formed c → Roomy names (length (now (tags .entry))) (now (env .entry)) (now (table .entry)) (now (sites .entry)) → Ample (now (table .entry)) (now (rows .entry)) (now (chain .entry)) → length (now (letters .entry)) ≤ 16384 → length (now (tags .entry)) ≤ 4096 → PutText (nodeListing (lettersAt (now (starts .entry)) (now (letters .entry))) k (record { node = n; clocking = c })) at (now (out .entry)) r (now (out .exit))) ⌝ }
+    ensures { λ r. ⌜ ((n : ClockedNode) → NodeWithClocks (told .names) (now (tags .entry)) (now (values .entry)) (now (table .entry)) (now (sites .entry)) (told .number) told n → Ample (now (table .entry)) (now (rows .entry)) (now (chain .entry)) → length (now (letters .entry)) ≤ 16384 → length (now (tags .entry)) ≤ 4096 → PutText (nodeListing (lettersAt (now (starts .entry)) (now (letters .entry))) (told .number) n) at (now (out .entry)) r (now (out .exit))) ⌝ }
 {
-    let answer = clock_laid(tags, values, names, layout, k, env, table, sites);
-    let NodeAnswer::Node(told) = answer else {
-        return 0;
-    };
     let m = infer_clocks::chain_rows(starts, letters, table, told.findings, rows, chain);
     put_told(
         out,
@@ -472,7 +436,8 @@ fn put_laid(
     )
 }
 
-// The listings of n nodes, of which the first stands at `from`, over the front of the lent bytes, as far as they reach: how long they are.
+// The listings of n nodes, of which the first stands at `from`, over the front of the lent bytes, as far as they reach: each node is clocked and
+// its listing put, up to the first in which too deep a clock is formed.
 pub fn put_listings(
     out: &mut [u8],
     starts: &[u32],
@@ -487,57 +452,9 @@ pub fn put_listings(
     rows: &mut [u32],
     chain: &mut [u32],
     sites: &mut [u32],
-) -> usize
+) -> ListingsPut
     requires { ⌜ length (now values) ≡ length (now tags) ⌝ }
-    ensures { λ r. ⌜ ((ns : List Node) (q : ℕ) (l : List ClockedNode) → times n (node names) (tokens (now (tags .entry)) (now (values .entry))) from ≡ got ns q → clockings 0 ns ≡ accepted l → Roomy names (length (now (tags .entry))) (now (env .entry)) (now (table .entry)) (now (sites .entry)) → Ample (now (table .entry)) (now (rows .entry)) (now (chain .entry)) → length (now (letters .entry)) ≤ 16384 → length (now (tags .entry)) ≤ 4096 → PutText (join (numbered (nodeListing (lettersAt (now (starts .entry)) (now (letters .entry)))) 0 l)) 0 (now (out .entry)) r (now (out .exit))) ⌝ }
-{
-    let mut place = from;
-    let mut at: usize = 0;
-    let mut i: u32 = 0;
-    while i < n {
-        let one = layout::node_at(tags, values, names, place);
-        let k = widths::wide(i);
-        let size = put_laid(
-            out,
-            at,
-            starts,
-            letters,
-            tags,
-            values,
-            names,
-            one,
-            k,
-            env,
-            table,
-            rows,
-            chain,
-            sites,
-        );
-        at += size;
-        place = one.end;
-        i += 1;
-    }
-    at
-}
-
-// The listings of n nodes, of which the first stands at `from`, measured.
-pub fn measure_listings(
-    starts: &[u32],
-    letters: &[u8],
-    tags: &[u8],
-    values: &[u32],
-    names: u32,
-    n: u32,
-    from: usize,
-    env: &mut [u32],
-    table: &mut [u32],
-    rows: &mut [u32],
-    chain: &mut [u32],
-    sites: &mut [u32],
-) -> Measured
-    requires { ⌜ length (now values) ≡ length (now tags) ⌝ }
-    ensures { λ r. ⌜ sizeOf r ≤ 4294967296 * n ⌝ }
-    ensures { λ r. ⌜ ((ns : List Node) (q : ℕ) → times n (node names) (tokens (now (tags .entry)) (now (values .entry))) from ≡ got ns q → Roomy names (length (now (tags .entry))) (now (env .entry)) (now (table .entry)) (now (sites .entry)) → Ample (now (table .entry)) (now (rows .entry)) (now (chain .entry)) → length (now (letters .entry)) ≤ 16384 → length (now (tags .entry)) ≤ 4096 → Measures (lettersAt (now (starts .entry)) (now (letters .entry))) ns q r) ⌝ }
+    ensures { λ r. ⌜ ((ns : List Node) (q : ℕ) → times n (node names) (tokens (now (tags .entry)) (now (values .entry))) from ≡ got ns q → Roomy names (length (now (tags .entry))) (now (env .entry)) (now (table .entry)) (now (sites .entry)) → Ample (now (table .entry)) (now (rows .entry)) (now (chain .entry)) → length (now (letters .entry)) ≤ 16384 → length (now (tags .entry)) ≤ 4096 → ListingsStand (lettersAt (now (starts .entry)) (now (letters .entry))) ns (now (out .entry)) (now (out .exit)) r) ⌝ }
 {
     let mut place = from;
     let mut at: usize = 0;
@@ -547,9 +464,11 @@ pub fn measure_listings(
         let k = widths::wide(i);
         let answer = clock_laid(tags, values, names, one, k, env, table, sites);
         let NodeAnswer::Node(told) = answer else {
-            return Measured::Deep(k);
+            return ListingsPut::Deep(k);
         };
-        let size = measure_told(
+        let size = put_chained(
+            out,
+            at,
             starts,
             letters,
             tags,
@@ -560,9 +479,9 @@ pub fn measure_listings(
             rows,
             chain,
         );
-        at += size.listing;
+        at += size;
         place = one.end;
         i += 1;
     }
-    Measured::Size(at, place)
+    ListingsPut::Size(at)
 }

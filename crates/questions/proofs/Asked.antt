@@ -11,10 +11,12 @@ use Rattle.listings.specs.declared.ListingAnswer.{ListingAnswer}
 use Rattle.listings.specs.Answers.{clocksOf, listingOf, listingsOf, ClocksInWords, ListingGiven}
 use Rattle.listings.proofs.Given.{clocks-refused, listing-refused, listings-refused, clocks-read, listing-read, listings-read}
 use Rattle.first_faults.specs.Faults.{RoomToPlan}
-use Rattle.rewriting.specs.declared.RewriteAnswer.{RewriteAnswer}
-use Rattle.rewriting.specs.Given.{RewriteInWords}
+use Rattle.declock_project.specs.declared.RewriteAnswer.{RewriteAnswer}
+use Rattle.declock_project.specs.Given.{RewriteInWords}
 use Rattle.fault_text.specs.Texts.{textOf}
+use Rattle.fault_text.specs.Lines.{faultLinesOf}
 use Rattle.fault_text.proofs.Texts.{text-down, text-read}
+use Rattle.fault_text.proofs.Laws.{lines-down, lines-read}
 use Rattle.questions.specs.declared.Question.{Question}
 use Rattle.questions.specs.declared.Reply.{Reply}
 use Rattle.questions.specs.Asked.{rewriteReplied, clocksReplied, listingReplied, Asked, Rooms}
@@ -27,6 +29,7 @@ asked-down (Question.Clocks k) b out es cs fs t h = clocks-refused b t h k es cs
 asked-down (Question.Listing k) b out es cs fs t h = listing-refused b t h k out
 asked-down Question.Listings b out es cs fs t h = listings-refused b t h out
 asked-down (Question.Text k j) b out es cs fs t h = text-down b k j out t h
+asked-down Question.FaultLines b out es cs fs t h = lines-down b out t h
 
 -- ---- an arm's answer, of a sheet that was read
 module _ (q : Question) (b out es cs fs out′ es′ cs′ fs′ : List ℕ) (r : Reply) where
@@ -45,6 +48,9 @@ module _ (q : Question) (b out es cs fs out′ es′ cs′ fs′ : List ℕ) (r 
 
     pub text-asked : (k j : ℕ) (a : ListingAnswer) → q ≡ Question.Text k j → listingReplied r ≡ a → ListingGiven (textOf i k j (length out)) out out′ a → Asked q b out es cs fs out′ es′ cs′ fs′ r
     text-asked k j a e f g = rw (e, f, text-read b i h k j (length out)) g
+
+    pub lines-asked : (a : ListingAnswer) → q ≡ Question.FaultLines → listingReplied r ≡ a → ListingGiven (faultLinesOf i (length out)) out out′ a → Asked q b out es cs fs out′ es′ cs′ fs′ r
+    lines-asked a e f g = rw (e, f, lines-read b i h (length out)) g
 
 -- ---- room to plan
 pub to-plan : {M many : ℕ} {env table rows chain sites : List ℕ} → Rooms M many env table rows chain sites → many ≤ 4096 → RoomToPlan M many env table sites rows chain

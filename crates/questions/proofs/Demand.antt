@@ -17,9 +17,9 @@ use Rattle.shapes.proofs.Accepts.{Accepts, accepts, no-refused, no-faulty, acce
 use Rattle.runs.specs.Demand.{DemandThreeAt}
 use Rattle.runs.proofs.Sheet.{demand-three-at}
 use Rattle.stateless.proofs.Answers.{rewrite-refused}
-use Rattle.rewriting.specs.declared.RewriteAnswer.{RewriteAnswer}
-use Rattle.rewriting.specs.Given.{RewriteInWords}
-use Rattle.rewriting.proofs.Outcomes.{given-refused}
+use Rattle.declock_project.specs.declared.RewriteAnswer.{RewriteAnswer}
+use Rattle.declock_project.specs.Given.{RewriteInWords}
+use Rattle.declock_project.proofs.Outcomes.{given-refused}
 
 -- ---- what a slice of bytes has is below 256
 pub bytes-below : (l : List ℕ) → ((i : ℕ) → getD l i 0 < 256) → Bytes l

@@ -9,15 +9,17 @@ use borrow.Author.Tests.{ltb-true, ltb-false}
 use lib.ListN.{length, getD, take, drop, List·getD-eq-default}
 use lib.Seq.{length-take-le}
 use Rattle.definitions.specs.Lists.{sum, over}
-use Rattle.definitions.specs.Bytes.{Parts, lengths, letters, cut, tags, values, tokens, parts}
+use Rattle.definitions.specs.Bytes.{Parts, T, lengths, letters, cut, tags, values, tokens, parts}
+use Rattle.definitions.specs.Reading.{got}
+use Rattle.definitions.specs.Grammar.{sheet}
 use Rattle.definitions.specs.Output.{lettersOf}
 use Rattle.definitions.specs.Refusals.{Answer, accepted, refused, faulty}
 use Rattle.definitions.specs.Answer.{Input}
 use Rattle.spelling.specs.Writing.{overAt}
 use Rattle.spelling.proofs.Writing.{over-front, length-over}
-use Rattle.fresh.specs.Places.{startsFrom, between, lettersAt}
-use Rattle.fresh.proofs.Places.{starts-length}
-use Rattle.order.proofs.Laws.{letters-of}
+use Rattle.spelling.specs.Places.{startsFrom, between, lettersAt}
+use Rattle.spelling.proofs.Places.{starts-length}
+use Rattle.chain_order.proofs.Laws.{letters-of}
 use Rattle.parts.specs.declared.Sizes.{Sizes}
 use Rattle.parts.specs.Answers.{sizesOf, tagsAfter, valuesAfter, SizedParts, Accepted}
 use Rattle.parts.proofs.Laws.{SizesFit, lengths-part, letters-part, few-lengths, lengths-long, letters-long, names-told, tokens-told}
@@ -86,6 +88,9 @@ module _ (b : List ℕ) (s : Sizes) (a : Accepted b × (s ≡ sizesOf b)) where
 
   -- the sheet stands in the tables
   module _ (ts vs : List ℕ) (i : Input) (z : Stands b ts vs i) where
+    pub tree-there : sheet (s .names) (tokens (take (s .tokens) ts) (take (s .tokens) vs)) 0 ≡ got (i .sheet) (T b)
+    tree-there = rw (names-told b s sized, tokens-told b s sized) (z .tree)
+
     pub standing : (starts : List ℕ) (names : ℕ) → lettersAt starts (letters b) ≡ lettersOf (cut (lengths b) (letters b)) → names ≡ s .names
         → Standing starts (take (12 + s .names + s .letters - (12 + s .names)) (drop (12 + s .names) b)) (take (s .tokens) ts) (take (s .tokens) vs) names i
     standing starts names e n =

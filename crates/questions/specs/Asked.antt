@@ -3,13 +3,13 @@ use Prim.Native.Nat.{ℕ, _≤_}
 use mathlib.Core.List.{List}
 use lib.ListN.{length}
 use Rattle.definitions.specs.declared.Refusal.{Refusal}
-use Rattle.definitions.specs.Answer.{rewriteAnswer, clocksAnswer, listingAnswer, listingsAnswer, textAnswer}
+use Rattle.definitions.specs.Answer.{rewriteAnswer, clocksAnswer, listingAnswer, listingsAnswer, textAnswer, faultLinesAnswer}
 use Rattle.query.specs.Standing.{Roomy, Ample}
 use Rattle.listings.specs.declared.ClocksAnswer.{ClocksAnswer}
 use Rattle.listings.specs.declared.ListingAnswer.{ListingAnswer}
 use Rattle.listings.specs.Answers.{ClocksInWords, ListingGiven}
-use Rattle.rewriting.specs.declared.RewriteAnswer.{RewriteAnswer}
-use Rattle.rewriting.specs.Given.{RewriteInWords}
+use Rattle.declock_project.specs.declared.RewriteAnswer.{RewriteAnswer}
+use Rattle.declock_project.specs.Given.{RewriteInWords}
 use Rattle.questions.specs.declared.Question.{Question}
 use Rattle.questions.specs.declared.Reply.{Reply}
 
@@ -36,6 +36,7 @@ Asked (Question.Clocks k) bytes out es cs fs out′ es′ cs′ fs′ r = Clocks
 Asked (Question.Listing k) bytes out es cs fs out′ es′ cs′ fs′ r = ListingGiven (listingAnswer bytes k (length out)) out out′ (listingReplied r)
 Asked Question.Listings bytes out es cs fs out′ es′ cs′ fs′ r = ListingGiven (listingsAnswer bytes (length out)) out out′ (listingReplied r)
 Asked (Question.Text k j) bytes out es cs fs out′ es′ cs′ fs′ r = ListingGiven (textAnswer bytes k j (length out)) out out′ (listingReplied r)
+Asked Question.FaultLines bytes out es cs fs out′ es′ cs′ fs′ r = ListingGiven (faultLinesAnswer bytes (length out)) out out′ (listingReplied r)
 
 -- the working tables have room for a sheet of M names and so many tokens: for clocks and chains; those for chains for types and a plan too
 pub record Rooms (M many : ℕ) (env table rows chain sites : List ℕ) : Type 0 where

@@ -1,6 +1,7 @@
 // The questions that are asked of a sheet, and the one way down to their answers: the sheet's bytes are read, its names, letters and tokens
-// cut, the working tables made, and the question's own arm answers from these. Each question has an entry point, which lends what its
-// question needs. What is answered and written is said for all inputs.
+// cut, the working tables made, and the question's own arm answers from these; a sheet without clocks that is to be rewritten is copied.
+// Each question has an entry point, which lends what its question needs. What is answered and written is said for all inputs.
+use declock_project::RewriteAnswer;
 use definitions::CHAIN_TABLE;
 use definitions::CLOCK_TABLE;
 use definitions::FINDING_TABLE;
@@ -12,37 +13,43 @@ use definitions::SMALL_TOKENS;
 use listings::ClocksAnswer;
 use listings::ListingAnswer;
 use parts::Sizes;
+use parts::Written;
 use query::NodeCounts;
-use rewriting::RewriteAnswer;
 use sheet::SheetAnswer;
 ghost use mathlib.Core.Path.{_≡_};
+ghost use mathlib.Core.Bool.{false};
 ghost use mathlib.Core.List.{List};
-ghost use Prim.Native.Nat.{ℕ, _≤_};
+ghost use Prim.Native.Nat.{ℕ, _≤_, _<_, _^_};
 ghost use lib.ListN.{length, take};
-ghost use Rattle.definitions.specs.Lists.{sum};
-ghost use Rattle.definitions.specs.Bytes.{lengths, letters, cut};
+ghost use Rattle.definitions.specs.Lists.{sum, any};
+ghost use Rattle.definitions.specs.Bytes.{lengths, letters, cut, tokens};
+ghost use Rattle.definitions.specs.Tree.{Sheet};
+ghost use Rattle.definitions.specs.Reading.{got};
+ghost use Rattle.definitions.specs.Grammar.{sheet};
 ghost use Rattle.definitions.specs.Refusals.{accepted};
+ghost use Rattle.definitions.specs.InferClocks.{usesClocks};
 ghost use Rattle.definitions.specs.Output.{lettersOf};
-ghost use Rattle.definitions.specs.Answer.{Input, input, rewriteAnswer, clocksAnswer, listingAnswer, listingsAnswer, textAnswer};
-ghost use Rattle.fresh.specs.Places.{lettersAt};
+ghost use Rattle.definitions.specs.Answer.{Input, input, rewriteAnswer, clocksAnswer, listingAnswer, listingsAnswer, textAnswer, faultLinesAnswer};
+ghost use Rattle.spelling.specs.Places.{lettersAt};
 ghost use Rattle.parts.specs.Answers.{Accepted, sizesOf};
 ghost use Rattle.sheet.specs.Answers.{Stands};
 ghost use Rattle.runs.specs.Demand.{DemandThreeAt};
 ghost use Rattle.listings.specs.Answers.{ClocksInWords, ListingGiven};
-ghost use Rattle.rewriting.specs.Given.{RewriteInWords, Read};
+ghost use Rattle.declock_project.specs.Given.{RewriteInWords, Read};
 ghost use Rattle.questions.specs.Asked.{rewriteReplied, clocksReplied, listingReplied, Asked, Rooms};
 
 // A small sheet has at most so many names.
 const SMALL_NAMES: u32 = SMALL_TOKENS as u32;
 
 // A question: the sheet on one base tick; the clocks of a node; the listing of a node; the listings of all nodes; the text of a fault, by
-// its node and its place among the node's faults.
+// its node and its place among the node's faults; the lines of all nodes' first faults.
 pub enum Question {
     Rewrite,
     Clocks(usize),
     Listing(usize),
     Listings,
     Text(usize, usize),
+    FaultLines,
 }
 
 // The number of bytes written; or a node's name, passes and counts; or turned down.
@@ -141,7 +148,7 @@ fn ask_in(
     ensures { λ r. ⌜ ((bytes : List ℕ) (i : Input) → Read (now (given .entry)) (now (starts .entry)) (now (letters .entry)) (now (tags .entry)) (now (values .entry)) names bytes i → Rooms names (length (now (tags .entry))) (now (env .entry)) (now (table .entry)) (now (rows .entry)) (now (chain .entry)) (now (sites .entry)) → Asked q bytes (now (out .entry)) (now (equations .entry)) (now (chains .entry)) (now (faults .entry)) (now (out .exit)) (now (equations .exit)) (now (chains .exit)) (now (faults .exit)) r) ⌝ }
 {
     match q {
-        Question::Rewrite => rewrite_reply(rewriting::rewrite_in(
+        Question::Rewrite => rewrite_reply(declock_project::rewrite_in(
             given,
             starts,
             letters,
@@ -209,6 +216,20 @@ fn ask_in(
             names,
             k,
             j,
+            env,
+            table,
+            sites,
+            rows,
+            chain,
+        )),
+        Question::FaultLines => listing_reply(fault_text::lines_in(
+            out,
+            given,
+            starts,
+            letters,
+            tags,
+            values,
+            names,
             env,
             table,
             sites,
@@ -359,7 +380,7 @@ fn starts_of(sheet: &[u8], sizes: Sizes) -> [u32; 1025]
 {
     let from = 12 + sizes.names;
     let mut starts = [0u32; 1025];
-    fresh::fill_starts(&sheet[12..from], &mut starts);
+    spelling::fill_starts(&sheet[12..from], &mut starts);
     starts
 }
 
@@ -399,6 +420,61 @@ fn ask_front(
     )
 }
 
+// Does a node of the sheet whose tokens stand at the front of the working arrays use clocks?
+fn front_uses_clocks(tags: &[u8], values: &[u32], sizes: Sizes) -> bool
+    requires { ⌜ (sizes .names < 2 ^ 32) × (sizes .tokens ≤ length (now tags)) × (sizes .tokens ≤ length (now values)) ⌝ }
+    ensures { λ r. ⌜ ((s : Sheet) (q : ℕ) → sheet (sizes .names) (tokens (take (sizes .tokens) (now (tags .entry))) (take (sizes .tokens) (now (values .entry)))) 0 ≡ got s q → r ≡ any usesClocks (s .nodes)) ⌝ }
+{
+    let n = sizes.tokens;
+    let names = widths::narrow(sizes.names);
+    sheet::uses_clocks(&tags[..n], &values[..n], names)
+}
+
+// The sheet on one base tick, of a sheet none of whose nodes uses clocks: itself.
+fn as_it_came(sheet: &[u8], out: &mut [u8]) -> RewriteAnswer
+    ensures { λ a. ⌜ ((i : Input) (faults : List ℕ) → input (now (sheet .entry)) ≡ accepted i → any usesClocks (i .sheet .nodes) ≡ false → RewriteInWords (rewriteAnswer (now (sheet .entry)) (length (now (out .entry)))) (now (out .entry)) faults (now (out .exit)) faults a) ⌝ }
+{
+    let w = parts::write_bytes(sheet, out);
+    match w {
+        Written::Done(n) => RewriteAnswer::Written(n),
+        Written::Lent(n) => RewriteAnswer::Refused(Refusal::Lent(n)),
+    }
+}
+
+// The same of an accepted sheet, with no table made for one that is its own answer.
+fn ask_read(
+    sheet: &[u8],
+    tags: &[u8],
+    values: &[u32],
+    sizes: Sizes,
+    q: Question,
+    out: &mut [u8],
+    equations: &mut [u32],
+    chains: &mut [u32],
+    faults: &mut [u32],
+) -> Reply
+    requires { ⌜ Accepted (now sheet) × (sizes ≡ sizesOf (now sheet)) ⌝ }
+    requires { ⌜ (4096 ≤ length (now tags)) × (4096 ≤ length (now values)) ⌝ }
+    ensures { λ r. ⌜ ((i : Input) → input (now (sheet .entry)) ≡ accepted i → Stands (now (sheet .entry)) (now (tags .entry)) (now (values .entry)) i → Asked q (now (sheet .entry)) (now (out .entry)) (now (equations .entry)) (now (chains .entry)) (now (faults .entry)) (now (out .exit)) (now (equations .exit)) (now (chains .exit)) (now (faults .exit)) r) ⌝ }
+{
+    if let Question::Rewrite = q {
+        if !front_uses_clocks(tags, values, sizes) {
+            return rewrite_reply(as_it_came(sheet, out));
+        }
+    }
+    ask_front(
+        sheet,
+        tags,
+        values,
+        sizes,
+        q,
+        out,
+        equations,
+        chains,
+        faults,
+    )
+}
+
 // A question of a sheet. Its bytes go over the front of `out`, a node's clocks into `equations` and `chains`, faults into `faults`, as far
 // as these reach in whole entries; a question that needs none of one leaves it as it is.
 pub fn ask(
@@ -416,7 +492,7 @@ pub fn ask(
     let answer = sheet::read(sheet, &mut tags, &mut values);
     match answer {
         SheetAnswer::Refused(r) => Reply::Refused(r),
-        SheetAnswer::Sheet(sizes) => ask_front(
+        SheetAnswer::Sheet(sizes) => ask_read(
             sheet,
             &tags,
             &values,
@@ -519,6 +595,25 @@ pub fn text(sheet: &[u8], node: usize, fault: usize, out: &mut [u8]) -> ListingA
     let reply = ask(
         sheet,
         Question::Text(node, fault),
+        out,
+        &mut equations,
+        &mut chains,
+        &mut faults,
+    );
+    listing_answer(reply)
+}
+
+// Each faulty node's first fault, in order, a line each, over the front of the lent bytes: what a caller of `rewrite` tells under refusal 10,
+// without asking for each text.
+pub fn fault_lines(sheet: &[u8], out: &mut [u8]) -> ListingAnswer
+    ensures { λ a. ⌜ ListingGiven (faultLinesAnswer (now (sheet .entry)) (length (now (out .entry)))) (now (out .entry)) (now (out .exit)) a ⌝ }
+{
+    let mut equations = [0u32; 1];
+    let mut chains = [0u32; 1];
+    let mut faults = [0u32; 1];
+    let reply = ask(
+        sheet,
+        Question::FaultLines,
         out,
         &mut equations,
         &mut chains,

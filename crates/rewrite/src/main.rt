@@ -1,13 +1,11 @@
 // Rewrites the sheet on standard input to run on one base tick; or says what it is refused for.
 use arguments::Word;
-use definitions::FaultRecord;
-use definitions::MOST_NODES;
+use declock_project::RewriteAnswer;
 use definitions::Refusal;
 use libc::STDERR_FILENO;
 use libc::STDIN_FILENO;
 use libc::STDOUT_FILENO;
 use listings::ListingAnswer;
-use rewriting::RewriteAnswer;
 
 fn help() {
     io::write_all(
@@ -70,68 +68,40 @@ fn show_line(line: &[u8; 128], n: usize) {
     show(STDERR_FILENO, line, n)
 }
 
+fn show_lines(lines: &[u8; 16384], n: usize) {
+    show(STDERR_FILENO, lines, n)
+}
+
 fn show_count(count: usize) {
     let mut line = [0u8; 128];
     let n = put_count(&mut line, count);
     show_line(&line, n);
 }
 
-// The text of a node's first fault.
-fn show_text(sheet: &[u8], node: usize) {
-    let mut text = io::buffer();
-    let answer = questions::text(sheet, node, 0, &mut text);
+// A line for each faulty node, its first fault: 16,384 bytes are enough for sixteen, the longest being 819.
+fn show_faults(sheet: &[u8]) {
+    let mut lines = [0u8; 16384];
+    let answer = questions::fault_lines(sheet, &mut lines);
     if let ListingAnswer::Written(n) = answer {
-        show(STDERR_FILENO, &text, n);
-    }
-    io::write_all(STDERR_FILENO, b"\n");
-}
-
-// `fault NODE FAULT EQUATION`
-fn put_fault(out: &mut [u8; 128], node: u32, fault: u32, equation: u32) -> usize {
-    let a = spelling::put_all(out, 0, b"fault");
-    let b = refusals::put_number(out, a, node as usize);
-    let c = refusals::put_number(out, b, fault as usize);
-    let d = refusals::put_number(out, c, equation as usize);
-    spelling::put(out, d, b' ')
-}
-
-// `fault NODE FAULT EQUATION TEXT`
-fn show_fault(sheet: &[u8], node: u32, fault: u32, equation: u32) {
-    let mut line = [0u8; 128];
-    let n = put_fault(&mut line, node, fault, equation);
-    show_line(&line, n);
-    show_text(sheet, node as usize);
-}
-
-// A line for each of the first faults, of which there are at most as many as nodes.
-fn show_faults(sheet: &[u8], count: usize, faults: [FaultRecord; MOST_NODES]) {
-    let mut i: usize = 0;
-    while i < MOST_NODES {
-        if count <= i {
-            return;
-        }
-        let f = faults[i];
-        show_fault(sheet, f.node, f.fault, f.equation);
-        i += 1;
+        show_lines(&lines, n);
     }
 }
 
-fn refuse(sheet: &[u8], r: Refusal, faults: [FaultRecord; MOST_NODES]) {
+fn refuse(sheet: &[u8], r: Refusal) {
     show_refusal(r);
     if let Refusal::Faulty(count) = r {
         show_count(count);
-        show_faults(sheet, count, faults);
+        show_faults(sheet);
     }
 }
 
 // Rewrites into the bytes lent.
 fn rewrite(sheet: &[u8], out: &mut [u8]) {
     let told = clock_pass::rewrite_told(sheet, out);
-    let faults = told.list;
     let answer = told.answer;
     match answer {
         RewriteAnswer::Written(n) => show(STDOUT_FILENO, out, n),
-        RewriteAnswer::Refused(r) => refuse(sheet, r, faults),
+        RewriteAnswer::Refused(r) => refuse(sheet, r),
     }
 }
 
@@ -150,6 +120,12 @@ fn answer_sheet(sheet: &[u8], lent: usize) {
     rewrite_lent(sheet, &mut out, lent);
 }
 
+// A sheet of less than 64 bytes has too few tokens for a when: it comes out as it is, and fits in what it was read into.
+fn answer_few(sheet: &[u8], lent: usize) {
+    let mut out = io::buffer();
+    rewrite_lent(sheet, &mut out, lent);
+}
+
 // A sheet of which these bytes are read.
 fn answer_long(start: &[u8; 4096], lent: usize) {
     let mut sheet = io::large_buffer();
@@ -160,6 +136,10 @@ fn answer_long(start: &[u8; 4096], lent: usize) {
 fn answer(lent: usize) {
     let mut start = io::buffer();
     let n = io::read_full(STDIN_FILENO, &mut start);
+    if n < 64 {
+        answer_few(&start[..n], lent);
+        return;
+    }
     if n < 4096 {
         answer_sheet(&start[..n], lent);
         return;

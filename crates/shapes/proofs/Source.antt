@@ -6,13 +6,13 @@ use native.Mathlib.Omega.{arith}
 use lib.Dec.{eqb}
 use lib.ListN.{length, length-map}
 use Rattle.definitions.specs.declared.Refusal.{Refusal}
-use Rattle.definitions.specs.Lists.{Letters}
+use Rattle.definitions.specs.Lists.{join, Letters}
 use Rattle.definitions.specs.Tokens.{TagValue, words, codeOf}
 use Rattle.definitions.specs.Tree.{Sheet}
 use Rattle.definitions.specs.Reading.{Got}
 use Rattle.definitions.specs.Grammar.{sheet}
 use Rattle.definitions.specs.Refusals.{Answer, accepted}
-use Rattle.definitions.specs.Bytes.{mostNames, mostTokens, badName, Parts}
+use Rattle.definitions.specs.Bytes.{mostNames, mostLetters, mostTokens, badName, Parts}
 use Rattle.definitions.specs.Types.{firstCycle}
 use Rattle.definitions.specs.Output.{sheetTokens, sheetBytes, written}
 use Rattle.definitions.specs.Answer.{Input, input, answered}
@@ -26,9 +26,11 @@ use Rattle.shapes.specs.Shape.{Word, Bytes, ShapedBelow, ShapedSheet, Si
 
 -- what is known of a sheet that was read
 pub record InputFacts (bytes : List ℕ) (r : Input) : Type 0 where
-  -- its names are well formed and distinct, and few
+  -- its names are well formed and distinct, and few; its letters and tokens are few
   pub good-names : badName [] (r .names) ≡ length (r .names)
   pub few-names : length (r .names) ≤ mostNames
+  pub few-letters : length (join (r .names)) ≤ mostLetters
+  pub few-tokens : length (sheetTokens (r .sheet)) ≤ mostTokens
   -- its ids are its names' places
   pub below : ShapedBelow (length (r .names)) (r .sheet)
   pub shaped : ShapedSheet (r .sheet)
@@ -55,6 +57,8 @@ whole bytes h p f s b c e =
     record {
       good-names = f .good-names;
       few-names = f .few-names;
+      few-letters = f .few-letters;
+      few-tokens = n;
       below = b;
       shaped = c;
       sized = record { names-word = let q = f .few-names in omega arith; letters-word = let q = f .few-letters in omega arith; tokens-word = omega arith };

@@ -17,8 +17,8 @@ use Rattle.parts.specs.declared.Sizes.{Sizes}
 use Rattle.parts.specs.Answers.{sizesOf, partsOf, Accepted}
 use Rattle.parts.proofs.Laws.{accepted-parts}
 use Rattle.parts.proofs.Laws as parts-laws
-use Rattle.writing.specs.Bytes.{AllBelow, Within}
-use Rattle.writing.proofs.RoundTrip.{read-back, write-back}
+use Rattle.parts.specs.Bytes.{AllBelow, Within}
+use Rattle.parts.proofs.RoundTrip.{read-back, write-back}
 use Rattle.shapes.specs.Shape.{Bytes}
 use Rattle.shapes.proofs.Source.{read-written}
 use Rattle.sheet.specs.declared.SheetAnswer.{SheetAnswer}

@@ -27,7 +27,7 @@ use Rattle.parts.specs.declared.Sizes.{Sizes}
 use Rattle.parts.specs.declared.PartsAnswer.{PartsAnswer}
 use Rattle.parts.specs.Answers.{partsOf, partsAnswer, tagsAfter, valuesAfter, SizedParts}
 use Rattle.parts.proofs.Laws.{answer-refused, answer-sizes, answer-sized, answer-parts, names-told, tokens-told, lengths-long, tags-long, values-long}
-use Rattle.writing.proofs.Cuts.{cut-count}
+use Rattle.parts.proofs.Cuts.{cut-count}
 use Rattle.sheet.specs.declared.SheetAnswer.{SheetAnswer}
 use Rattle.sheet.specs.declared.Checked.{Checked}
 use Rattle.sheet.specs.Answers.{tokensAnswer, checkedTold, sheetAnswered, Stands, SheetRead}

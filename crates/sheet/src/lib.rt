@@ -99,5 +99,27 @@ pub fn node_uses_clocks(tags: &[u8], values: &[u32], names: u32, at: usize) -> b
 {
     let whole = layout::node_at(tags, values, names, at);
     let equations = whole.equations;
-    extents::equations_use_clocks(tags, values, equations.count, equations.at)
+    layout::equations_use_clocks(tags, values, equations.count, equations.at)
+}
+
+// Does a node of a sheet that was read use clocks?
+pub fn uses_clocks(tags: &[u8], values: &[u32], names: u32) -> bool
+    requires { ⌜ length (now values) ≡ length (now tags) ⌝ }
+    ensures { λ r. ⌜ ((s : Sheet) (q : ℕ) → sheet names (tokens (now (tags .entry)) (now (values .entry))) 0 ≡ got s q → r ≡ any usesClocks (s .nodes)) ⌝ }
+{
+    let whole = layout::sheet_at(tags, values, names);
+    let nodes = whole.nodes;
+    let count = nodes.count;
+    let mut place = nodes.at;
+    let mut i: u32 = 0;
+    while i < count {
+        let l = layout::node_at(tags, values, names, place);
+        let e = l.equations;
+        if layout::equations_use_clocks(tags, values, e.count, e.at) {
+            return true;
+        }
+        place = l.end;
+        i += 1;
+    }
+    false
 }

@@ -13,9 +13,9 @@ use Rattle.definitions.specs.declared.Condition.{Condition}
 use Rattle.definitions.specs.Tokens.{TagValue, tagValue}
 use Rattle.definitions.specs.Tree.{Expr, Exprs}
 use Rattle.definitions.specs.Clock.{Clock, _↓_, parent, isOn, isNot}
-use Rattle.extents.specs.Owed.{follows, Owed, paid, owes}
+use Rattle.layout.specs.Owed.{follows, Owed, paid, owes}
 use Rattle.operands.specs.Role.{one}
-use Rattle.needs.specs.Need.{isBare}
+use Rattle.stateless.specs.Need.{isBare}
 use Rattle.skeleton.specs.Lies.{Frame, hole, isPlain, codeAt, partsAt, Framed, Formed, Lies, LiesAt}
 
 -- parts, then others

@@ -28,12 +28,12 @@ use Rattle.grammar.proofs.Longer.{token-got, counted-grows, high-grows, name-gr
 use Rattle.grammar.proofs.Got.{limited-got, token-value, tagged-value, counted-value, expr-got}
 use Rattle.grammar.proofs.Got.{bool-got, int-got, float-got, char-got, var-got, unary-got, binary-got, if-got, field-got, index-got, pre-got, arrow-got, when-got, when-not-got, merge-got, call-got, tuple-got, array-got, struct-got, cast-got, map-got, fold-got}
 use Rattle.shapes.specs.Shape.{many}
-use Rattle.extents.specs.Owed.{follows}
-use Rattle.extents.specs.Marks.{nowhere, markOf}
-use Rattle.extents.proofs.Tags.{of-expr, of-type, mark-of, expr-tags, type-tags, said}
+use Rattle.layout.specs.Owed.{follows}
+use Rattle.layout.specs.Marks.{nowhere, markOf}
+use Rattle.layout.proofs.Tags.{of-expr, of-type, mark-of, expr-tags, type-tags, said}
 use Rattle.operands.specs.Spread.{tree}
 use Rattle.operands.proofs.Deeper.{expr-deeper}
-use Rattle.needs.specs.Need.{isBare}
+use Rattle.stateless.specs.Need.{isBare}
 use Rattle.skeleton.specs.Around.{around}
 use Rattle.skeleton.specs.Lies.{Frame, weave, isPlain, Computes, Lies, LiesAt}
 use Rattle.skeleton.proofs.Codes.{codes-append, codes-join, type-decoded, expr-decoded}

@@ -14,9 +14,9 @@ use Rattle.definitions.specs.Tokens.{TagValue, tagValue, codeOf}
 use Rattle.definitions.specs.Tree.{Head, Expr, Exprs}
 use Rattle.definitions.specs.Clock.{Clock, _↓_, parent, isOn, isNot}
 use Rattle.shapes.specs.Shape.{many}
-use Rattle.extents.specs.Owed.{follows}
+use Rattle.layout.specs.Owed.{follows}
 use Rattle.operands.specs.Role.{one}
-use Rattle.needs.specs.Need.{isBare}
+use Rattle.stateless.specs.Need.{isBare}
 use Rattle.skeleton.specs.Around.{around}
 
 -- what stands between expressions: a token that stays as it is, or the place of an expression

@@ -10,7 +10,7 @@ use Rattle.definitions.specs.Reading.{got}
 use Rattle.definitions.specs.Grammar.{equation}
 use Rattle.definitions.specs.Clock.{Clock}
 use Rattle.definitions.specs.InferClocks.{Clocked}
-use Rattle.flat.specs.Flat.{clockIn}
+use Rattle.clock_tables.specs.Flat.{clockIn}
 use Rattle.operands.specs.Spread.{tree}
 use Rattle.skeleton.specs.Lies.{LiesAt}
 

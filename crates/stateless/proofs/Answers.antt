@@ -1,12 +1,11 @@
 -- What rewriting a sheet and the text of a fault answer, by what is known of the sheet's nodes: one law for each outcome.
-use Prim.Native.Nat.{ℕ, zero, suc, _+_, _*_, _≤_, _<_}
+use Prim.Native.Nat.{ℕ, _+_, _*_, _≤_, _<_}
 use mathlib.Core.Path.{_≡_, refl, ap, _∙_}
 use mathlib.Core.List.{List, [], _∷_}
 use mathlib.Core.Bool.{Bool, true, false, _&&_}
-use mathlib.Core.Option.{some, Option·some-injective, Option·none-ne-some}
 use native.Mathlib.Omega.{arith}
 use lib.Dec.{eqb, leb}
-use lib.ListN.{length, getElem?}
+use lib.ListN.{length}
 use borrow.Author.Tests.{le-leb, lt-leb}
 use Rattle.definitions.specs.declared.Refusal.{Refusal}
 use Rattle.definitions.specs.declared.FaultRecord.{FaultRecord}
@@ -18,8 +17,8 @@ use Rattle.definitions.specs.Bytes.{mostNames, mostLetters, fewestTokens, mostT
 use Rattle.definitions.specs.Grammar.{sheet}
 use Rattle.definitions.specs.Types.{firstCycle}
 use Rattle.definitions.specs.Output.{ClockedNode, namesOut, sheetOut, withinLimits, written}
-use Rattle.definitions.specs.Answer.{Input, input, answered, clockings, unlessFaulty, rewriteAnswer, itemAt, nodeAt, textAnswer}
-use Rattle.stateless.specs.Sheets.{NodeHere, firstFaultsFrom}
+use Rattle.definitions.specs.Answer.{Input, input, answered, clockings, unlessFaulty, rewriteAnswer, textAnswer}
+use Rattle.stateless.specs.Sheets.{firstFaultsFrom}
 use Rattle.stateless.proofs.Nodes.{first-faults}
 
 -- ---- reading a sheet meets no fault: it accepts or refuses
@@ -135,18 +134,6 @@ module _ (bytes : List ℕ) (lent : ℕ) where
           -- none
           pub rewrite-accepted : length (written (allNames r ns) (outSheet r ns)) ≤ lent → rewriteAnswer bytes lent ≡ accepted (written (allNames r ns) (outSheet r ns))
           rewrite-accepted h = limited-answer ∙ lent-enough (length (written (allNames r ns) (outSheet r ns))) lent (written (allNames r ns) (outSheet r ns)) h
-
--- ---- an item of a list
-item-there : {A : Type 0} (l : List A) (k : ℕ) (a : A) → getElem? l k ≡ some a → itemAt l k ≡ accepted a
-item-there [] k a e = absurd (Option·none-ne-some a e)
-item-there (b ∷ l) zero a e = ap accepted (Option·some-injective b a e)
-item-there (b ∷ l) (suc k) a e = item-there l k a e
-
--- ---- node k, which the queries ask for
-module _ (r : Input) (k : ℕ) where
-  pub node-there : (ns : List ClockedNode) → clockings 0 (r .sheet .nodes) ≡ accepted ns → (u : NodeHere (r .sheet .nodes) ns k) → nodeAt r k ≡ accepted (u .clocked)
-  unfolding nodeAt
-  node-there ns e u = rw (item-there (r .sheet .nodes) k (u .clocked .node) (u .node-here), e, item-there ns k (u .clocked) (u .here))
 
 -- ---- the text of fault j of node k
 module _ (bytes : List ℕ) (k j lent : ℕ) where

@@ -24,7 +24,7 @@ use Rattle.shapes.proofs.Source.{read-facts}
 use Rattle.shapes.proofs.Inference.{Forms}
 use Rattle.shapes.proofs.ClockNames.{NamedEquation, clocking-named}
 use Rattle.shapes.proofs.Names.{goes-out}
-use Rattle.needs.specs.Need.{Needs, needed}
+use Rattle.stateless.specs.Need.{Needs, needed}
 use Rattle.stateless.specs.Yield.{gateOf, shapeAfter}
 use Rattle.stateless.specs.Faults.{faultIn, leftsFault, severalFault, flaggedFault, rightFault, oldFault}
 use Rattle.stateless.specs.Whole.{noNeeds, severalNeeds, flaggedNeeds, rightNeeds, oldNeeds}

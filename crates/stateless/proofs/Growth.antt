@@ -9,8 +9,8 @@ use Rattle.definitions.specs.declared.Condition.{Condition}
 use Rattle.definitions.specs.Lists.{choose, any}
 use Rattle.definitions.specs.Clock.{Clock, base, _↓_, parent, sameClock, isBase}
 use Rattle.definitions.specs.Declock.{clockPlace, add, addWithParents}
-use Rattle.clock.proofs.Laws.{same-clock, clock-same}
-use Rattle.needs.specs.Need.{Needs, withFirst}
+use Rattle.clock_tables.proofs.ClockLaws.{same-clock, clock-same}
+use Rattle.stateless.specs.Need.{Needs, withFirst}
 use Rattle.stateless.specs.Whole.{noNeeds}
 
 -- is a clock among clocks?

@@ -13,9 +13,9 @@ use Rattle.definitions.specs.Clock.{Clock, base, _↓_, sameClock, isBase, chai
 use Rattle.definitions.specs.InferClocks.{usesClocks}
 use Rattle.definitions.specs.Declock.{State, nothingNeeded, Hold, done, Stem, ck, first, hold, clockPlace, New, activation, firstTick, andOf, conditionExpr, newLocals, withNew}
 use Rattle.definitions.specs.Output.{lettersOf, newLetters, newId, condactId, ClockedNode, rewritten, withNewNames, outputNode}
-use Rattle.clock.proofs.Laws.{clock-same}
+use Rattle.clock_tables.proofs.ClockLaws.{clock-same}
 use Rattle.shapes.proofs.Facts.{All, all-cons, all-head, all-tail}
-use Rattle.needs.specs.Need.{Needs, needsOf}
+use Rattle.stateless.specs.Need.{Needs, needsOf}
 use Rattle.stateless.specs.Yield.{Ids, Yield, oldYield}
 use Rattle.stateless.specs.Locals.{Agree, Local, activationBy, flagLocals, firstLocals, holdLocals, localDeclared, localEquation, withLocals}
 use Rattle.stateless.specs.Rewritten.{localsBy, nodeBy, newNames, namesBy}

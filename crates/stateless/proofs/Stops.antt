@@ -12,7 +12,7 @@ use Rattle.definitions.specs.Types.{default}
 use Rattle.definitions.specs.InferClocks.{Fault, undeclared, noDefault, noOutputDefault, notSingleCall, preUntyped, NodeFault, Clocked}
 use Rattle.definitions.specs.Declock.{State, Rewritten, stopped, done, Rewriter, after, need, stop, Stem, flag, firstFlag, newHold, gated, outputDefaults, leftDefault, leftDefaults, callOn, heldPre, preOn, arrowOn, rewrite, rewrites, gateSeveral, underFlag, rightSide, oldEquations, Shape, bare, other, calls, shapeOf, operandType, lastType, declared, nothingNeeded}
 use Rattle.definitions.specs.Output.{condactId, newId, ClockedNode, rewritten, stoppedAt}
-use Rattle.needs.specs.Need.{isBare, preTurn}
+use Rattle.stateless.specs.Need.{isBare, preTurn}
 use Rattle.stateless.specs.Yield.{gateOf, shapeAfter}
 use Rattle.stateless.specs.Faults.{unless, preFault, outputsFault, gateFault, faultIn, faultAmong, leftTypeFault, leftFault, leftsFault, severalFault, flaggedFault, rightFault, atEquation, oldFault}
 

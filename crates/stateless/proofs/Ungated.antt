@@ -14,9 +14,9 @@ use Rattle.definitions.specs.InferClocks.{Clocked}
 use Rattle.definitions.specs.Declock.{Shape, bare, other, calls, shapeOf, ifOf, operatorOutputs, declared, operandType}
 use Rattle.shapes.specs.Shape.{Shaped, ShapedEquation}
 use Rattle.shapes.proofs.Facts.{All}
-use Rattle.callees.specs.Callees.{isThere}
-use Rattle.needs.specs.declared.Turn.{Turn}
-use Rattle.needs.specs.Need.{Needs, withFlag, withGate, settled, isBare, preTurn, arrowTurn, callTurn, needed, neededAll}
+use Rattle.index.specs.Callees.{isThere}
+use Rattle.stateless.specs.declared.Turn.{Turn}
+use Rattle.stateless.specs.Need.{Needs, withFlag, withGate, settled, isBare, preTurn, arrowTurn, callTurn, needed, neededAll}
 use Rattle.stateless.specs.Yield.{Ids, Yield, mapped, joined, typeOr, gateOf, shapeAfter, preYield, arrowTree, callTree, yield, yields, severalTree, flaggedTree, rightYield, oldYield}
 use Rattle.stateless.specs.Whole.{severalNeeds, flaggedNeeds, rightNeeds, oldNeeds}
 

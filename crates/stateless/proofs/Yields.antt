@@ -13,8 +13,8 @@ use Rattle.definitions.specs.Clock.{Clock, base, _↓_, parent, isOn, isNot, is
 use Rattle.definitions.specs.Types.{default}
 use Rattle.definitions.specs.InferClocks.{Fault, undeclared, noDefault, noOutputDefault, notSingleCall, preUntyped, Clocked}
 use Rattle.definitions.specs.Declock.{State, nothingNeeded, Hold, Rewritten, done, Rewriter, after, stop, need as require, clockPlace, add, addWithParents, Stem, ck, first, hold, flag, firstFlag, newHold, gated, outputDefaults, leftDefault, leftDefaults, operatorOutputs, callOn, heldPre, preOn, arrowOn, rewrite, rewrites, gateSeveral, underFlag, rightSide, oldEquations, Shape, bare, other, calls, shapeOf, lastType, operandType, declared, ifOf}
-use Rattle.needs.specs.Need.{Needs, needsOf, withFlag, withFirst, withGate, isBare, preTurn, needed}
-use Rattle.needs.proofs.Rewrite.{rewrite-needs}
+use Rattle.stateless.specs.Need.{Needs, needsOf, withFlag, withFirst, withGate, isBare, preTurn, needed}
+use Rattle.stateless.proofs.Rewrite.{rewrite-needs}
 use Rattle.stateless.specs.Yield.{Ids, Yield, still, mapped, joined, typeOr, exprOr, defaultOr, outputTrees, leftTree, leftTrees, gateOf, shapeAfter, held, preYield, arrowTree, callTree, yield, yields, severalTree, flaggedTree, rightYield, oldYield}
 use Rattle.stateless.specs.Whole.{noNeeds, severalNeeds, flaggedNeeds, rightNeeds, oldNeeds}
 use Rattle.stateless.specs.Locals.{Agree}

@@ -9,8 +9,8 @@ use Rattle.definitions.specs.Clock.{Clock, _↓_, parent, isOn, isNot, isBase}
 use Rattle.definitions.specs.Types.{default}
 use Rattle.definitions.specs.InferClocks.{Fault, undeclared, noDefault, noOutputDefault, notSingleCall, preUntyped, NodeFault, Clocked}
 use Rattle.definitions.specs.Declock.{Shape, bare, other, calls, declared, lastType, operandType, operatorOutputs}
-use Rattle.needs.specs.declared.Turn.{Turn}
-use Rattle.needs.specs.Need.{isBare, preTurn}
+use Rattle.stateless.specs.declared.Turn.{Turn}
+use Rattle.stateless.specs.Need.{isBare, preTurn}
 use Rattle.stateless.specs.Yield.{gateOf, shapeAfter}
 
 -- a fault where there is nothing

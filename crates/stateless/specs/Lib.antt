@@ -1,3 +1,4 @@
+pub mod Need
 pub mod Yield
 pub mod Faults
 pub mod Whole

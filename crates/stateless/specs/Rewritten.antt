@@ -5,7 +5,7 @@ use Rattle.definitions.specs.Tree.{Equation, Node}
 use Rattle.definitions.specs.Clock.{inChainOrder}
 use Rattle.definitions.specs.Declock.{Hold, ck, first, hold, clockPlace}
 use Rattle.definitions.specs.Output.{lettersOf, newLetters, addName, addNames}
-use Rattle.needs.specs.Need.{Needs}
+use Rattle.stateless.specs.Need.{Needs}
 use Rattle.stateless.specs.Yield.{Ids, Yield}
 use Rattle.stateless.specs.Locals.{Local, flagLocals, firstLocals, holdLocals, withLocals}
 

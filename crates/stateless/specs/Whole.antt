@@ -8,7 +8,7 @@ use Rattle.definitions.specs.Tree.{TypeDef, Expr, Equation, Node}
 use Rattle.definitions.specs.Clock.{Clock, isBase}
 use Rattle.definitions.specs.InferClocks.{Clocked}
 use Rattle.definitions.specs.Declock.{Shape, bare, other, calls}
-use Rattle.needs.specs.Need.{Needs, withFlag, withGate, needed}
+use Rattle.stateless.specs.Need.{Needs, withFlag, withGate, needed}
 use Rattle.stateless.specs.Yield.{shapeAfter}
 
 -- nothing is needed yet

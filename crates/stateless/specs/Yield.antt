@@ -12,8 +12,8 @@ use Rattle.definitions.specs.Clock.{Clock, base, _↓_, parent, isOn, isNot, is
 use Rattle.definitions.specs.Types.{default}
 use Rattle.definitions.specs.InferClocks.{Clocked}
 use Rattle.definitions.specs.Declock.{Hold, Shape, bare, other, calls, shapeOf, ifOf, declared, lastType, operandType, operatorOutputs}
-use Rattle.needs.specs.declared.Turn.{Turn}
-use Rattle.needs.specs.Need.{isBare, preTurn}
+use Rattle.stateless.specs.declared.Turn.{Turn}
+use Rattle.stateless.specs.Need.{isBare, preTurn}
 
 -- the ids of new names: of a clock's activation flag, of its first-tick flag, of a hold by its number; and of `condact`
 pub record Ids : Type 0 where

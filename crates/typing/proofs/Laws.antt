@@ -29,7 +29,7 @@ use Rattle.grammar.specs.declared.TypeHead.{TypeHead}
 use Rattle.grammar.specs.Outcome.{exprHead, typeHead}
 use Rattle.grammar.proofs.Laws.{wrap-got, tokens-length}
 use Rattle.grammar.proofs.Got.{tagged-value, times-nil}
-use Rattle.typedefs.proofs.Laws.{type-not-refused, type-is-basic, type-is-named, type-is-array, FirstField}
+use Rattle.layout.proofs.TypedefsLaws.{type-not-refused, type-is-basic, type-is-named, type-is-array, FirstField}
 use Rattle.layout.specs.declared.NodeLayout.{NodeLayout}
 use Rattle.layout.specs.Laid.{LaidNode}
 use Rattle.operands.specs.declared.Gap.{Gap}
@@ -42,7 +42,7 @@ use Rattle.operands.proofs.Laws.{spread-nil, name-place}
 use Rattle.operands.proofs.Deeper.{tree-head}
 use Rattle.operands.proofs.Forms.{formed}
 use Rattle.operands.proofs.Roles.{Among}
-use Rattle.natural.proofs.Low.{role-low}
+use Rattle.inference.proofs.Low.{role-low}
 use Rattle.operands.proofs.Apart.{apart}
 use Rattle.definitions.proofs.ExprToken.{the-type}
 use Rattle.typing.specs.declared.TypeFound.{TypeFound}

@@ -1,9 +1,9 @@
-// The types that a node declares, by name; and that of the operand of a held `pre` in an accepted sheet: declared names, constants,
-// and when, `pre`, `->` or index over such have one. `tags` and `values` are as long as each other; `names` is the number of names.
-// `types` has a word a name: 0, or the place of the type of its last declaration and one more.
+// The types of names and operands, and what an expression is after rewriting.
+use clock_tables::Clock;
 use definitions::ARRAY_LEVELS;
 use definitions::ExprToken;
 use definitions::Literal;
+use definitions::MOST_NODES;
 use definitions::Primitive;
 use definitions::TypeToken;
 use grammar::ExprHead;
@@ -17,13 +17,21 @@ ghost use mathlib.Core.Option.{Option};
 ghost use Prim.Native.Nat.{ℕ, suc, _≤_, _<_};
 ghost use lib.ListN.{length, getD, set};
 ghost use Rattle.definitions.specs.Bytes.{tokens};
-ghost use Rattle.definitions.specs.Tree.{Ty, Declared, Expr, Node};
+ghost use Rattle.definitions.specs.Tree.{Ty, Declared, Expr, Node, TypeDef, Exprs};
 ghost use Rattle.definitions.specs.Reading.{got, times};
 ghost use Rattle.definitions.specs.Grammar.{declaration};
 ghost use Rattle.definitions.specs.Declock.{declared, element, literalType, operandType};
 ghost use Rattle.operands.specs.Spread.{tree};
 ghost use Rattle.layout.specs.Laid.{LaidNode};
 ghost use Rattle.typing.specs.Found.{orFound, IsFound, foundBy, Declares};
+ghost use Rattle.clock_tables.specs.Value.{valueOf};
+ghost use Rattle.index.specs.Callees.{NodesStand};
+ghost use Rattle.stateless.specs.Yield.{shapeAfter};
+ghost use Rattle.typing.specs.After.{afterOf};
+
+// ---- The types that a node declares, by name; and that of the operand of a held `pre` in an accepted sheet: declared names, constants,
+// and when, `pre`, `->` or index over such have one. `tags` and `values` are as long as each other; `names` is the number of names.
+// `types` has a word a name: 0, or the place of the type of its last declaration and one more.
 
 // A type: by its place among the tokens; a literal's; or none.
 pub enum TypeFound {
@@ -130,7 +138,7 @@ fn declare(tags: &[u8], values: &[u32], names: u32, count: u32, at: usize, types
     let Read::Next(next) = read else {
         return;
     };
-    let x = typedefs::value_at(values, at);
+    let x = layout::value_at(values, at);
     let word = word_of(first);
     put_word(types, x, word);
     declare(tags, values, names, count - 1, next, types);
@@ -172,7 +180,7 @@ pub fn last_type(types: &[u32], x: u32) -> TypeFound
     ensures { λ r. ⌜ r ≡ foundBy (getD (now (types .entry)) x 0) ⌝ }
 {
     let i = x as usize;
-    let w = flat::word_at(types, i);
+    let w = clock_tables::word_at(types, i);
     if w == 0 {
         return TypeFound::Unknown;
     }
@@ -221,5 +229,76 @@ pub fn type_of(tags: &[u8], values: &[u32], names: u32, types: &[u32], at: usize
             element_of(tags, values, names, a)
         }
         _ => TypeFound::Unknown,
+    }
+}
+
+// ---- What an expression of an accepted sheet is after rewriting: a bare name, a call and of what, or anything else.
+// `places` has the places of the sheet's nodes, `nodes` is how many there are; `names` is the number of names; `condact` is
+// the id of `condact`.
+
+// A bare name; a call of this node; anything else.
+pub enum After {
+    Bare,
+    Other,
+    Calls(u32),
+}
+
+// What a call of f on this clock is: on a clock an operator's call is gated.
+fn call_after(
+    tags: &[u8],
+    values: &[u32],
+    names: u32,
+    places: &[usize; MOST_NODES],
+    nodes: usize,
+    condact: u32,
+    c: Clock,
+    f: u32,
+) -> After
+    requires { ⌜ length (now values) ≡ length (now tags) ⌝ }
+    requires { ⌜ nodes ≤ 16 ⌝ }
+    ensures { λ r. ⌜ ((es : Exprs) (types : List TypeDef) (l : List Node) (node : Node) → NodesStand names (now (tags .entry)) (now (values .entry)) (now (places .entry)) nodes l → afterOf r ≡ shapeAfter types l node condact (valueOf c) (Expr.call f es)) ⌝ }
+{
+    let plain = clock_tables::is_base(c);
+    if plain {
+        return After::Calls(f);
+    }
+    let gated = index::is_operator(tags, values, names, places, nodes, f);
+    if gated {
+        return After::Calls(condact);
+    }
+    After::Calls(f)
+}
+
+// What the expression that stands there is on this clock: a `when` goes, up to its operand.
+pub fn shape_after(
+    tags: &[u8],
+    values: &[u32],
+    names: u32,
+    places: &[usize; MOST_NODES],
+    nodes: usize,
+    condact: u32,
+    c: Clock,
+    at: usize,
+) -> After
+    requires { ⌜ length (now values) ≡ length (now tags) ⌝ }
+    requires { ⌜ nodes ≤ 16 ⌝ }
+    ensures { λ r. ⌜ ((e : Expr) (q : ℕ) (types : List TypeDef) (l : List Node) (node : Node) → tree names (tokens (now (tags .entry)) (now (values .entry))) at ≡ got e q → NodesStand names (now (tags .entry)) (now (values .entry)) (now (places .entry)) nodes l → afterOf r ≡ shapeAfter types l node condact (valueOf c) e) ⌝ }
+{
+    let v = operands::view_at(tags, values, names, at);
+    let first = v.first;
+    let gap = v.gap;
+    let role = v.role;
+    if first <= at {
+        return After::Other;
+    }
+    let place = operands::operand_at(tags, gap, first);
+    match role {
+        Role::Name(_) => After::Bare,
+        Role::Sample(_) => {
+            let up = clock_tables::parent(c);
+            shape_after(tags, values, names, places, nodes, condact, up, place)
+        }
+        Role::Call(f) => call_after(tags, values, names, places, nodes, condact, c, f),
+        _ => After::Other,
     }
 }

@@ -1,6 +1,7 @@
 // Replays the fixed list on standard input: `vectors/README.md` says how a line is made. Each sheet is read, and must be refused under 1 to 7
 // as listed or not at all; each answer is spelled as the list does and compared byte for byte. A line that is answered otherwise is told.
 use arguments::Word;
+use declock_project::RewriteAnswer;
 use definitions::CHAIN_TABLE;
 use definitions::FaultRecord;
 use definitions::MOST_NODES;
@@ -11,7 +12,6 @@ use libc::STDOUT_FILENO;
 use listings::ClocksAnswer;
 use listings::ListingAnswer;
 use query::NodeCounts;
-use rewriting::RewriteAnswer;
 use sheet::SheetAnswer;
 ghost use mathlib.Core.Path.{_≡_};
 ghost use Prim.Native.Nat.{_+_, _≤_, _<_, min};
@@ -210,7 +210,7 @@ fn put_clock_faults(
 }
 
 fn is_front(out: &[u8; 65536], n: usize, answer: &[u8]) -> bool {
-    names::same(arguments::front(out, n), answer)
+    parts::same(arguments::front(out, n), answer)
 }
 
 // Is the answer that these first n bytes are written?
@@ -334,8 +334,8 @@ fn put_equations(
     let mut place = at;
     let mut i: usize = 0;
     while i < n {
-        let c = rows::get(clocks, i);
-        place = texts::put_equation_line(out, place, starts, letters, i, c);
+        let c = clock_tables::get(clocks, i);
+        place = lines::put_equation_line(out, place, starts, letters, i, c);
         i += 1;
     }
     place
@@ -353,8 +353,8 @@ fn put_chains(
     let mut place = at;
     let mut i: usize = 0;
     while i < n {
-        let c = rows::get(clocks, i);
-        place = texts::put_chain_line(out, place, starts, letters, c);
+        let c = clock_tables::get(clocks, i);
+        place = lines::put_chain_line(out, place, starts, letters, c);
         i += 1;
     }
     place
@@ -369,7 +369,7 @@ fn put_listing(
     equations: &[u32],
     chains: &[u32],
 ) -> usize {
-    let a = texts::put_head(
+    let a = lines::put_head(
         out,
         0,
         starts,
@@ -426,7 +426,7 @@ fn is_listing(text: &[u8], listing: &[u8; 65536], m: usize, faults: u64) -> bool
     if text.len() < m {
         return false;
     }
-    if !names::same(arguments::front(text, m), arguments::front(listing, m)) {
+    if !parts::same(arguments::front(text, m), arguments::front(listing, m)) {
         return false;
     }
     lines_in(&text[m..]) == faults
@@ -608,7 +608,7 @@ fn reading_front(bytes: &[u8; 4096], n: usize) -> Told {
 fn from_sheet(line: &[u8]) -> &[u8] {
     let numbers = next(line);
     let one = next(numbers);
-    if names::same(field(line), b"text") {
+    if parts::same(field(line), b"text") {
         let two = next(one);
         return next(two);
     }
@@ -628,7 +628,7 @@ fn number(line: &[u8]) -> usize {
 fn listed(answer: &[u8]) -> Told {
     let numbers = next(answer);
     let refusal = number(numbers);
-    if names::same(field(answer), b"refused") {
+    if parts::same(field(answer), b"refused") {
         if refusal < 8 {
             return Told {
                 number: refusal,
@@ -664,7 +664,7 @@ fn check_reading(line: &[u8], refused: bool) -> Verdict {
 
 // Is a line a question of this name?
 fn asks(line: &[u8], name: &[u8]) -> bool {
-    names::same(field(line), name)
+    parts::same(field(line), name)
 }
 
 fn check_clocks_line(line: &[u8]) -> Verdict {

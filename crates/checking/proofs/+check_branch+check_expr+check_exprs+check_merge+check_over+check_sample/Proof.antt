@@ -5,7 +5,7 @@ use mathlib.Core.List.{List}
 use native.Mathlib.Omega.{arith}
 use denote.Ref.{now}
 use lib.ListN.{length}
-use Rattle.clock.specs.Value.{valueOf}
+use Rattle.clock_tables.specs.Value.{valueOf}
 use Rattle.checking.specs.declared.CheckedTo.{CheckedTo}
 use Rattle.checking.proofs.Walk.{WalksAll, walks-none, walks-token, walks-item, item-past, parts-there, walks-past, walks-other, walks-sample, walks-join, walks-free, walks-on, walks-deep, walks-down, sample-match, sample-other, merge-past, merge-both}
 use borrow.Author.Needs.{needs}
@@ -35,16 +35,16 @@ use Rattle.checking.proofs.is_not.Reads as is-not-reads
 use Rattle.checking.proofs.is_on.Reads as is-on-reads
 use Rattle.checking.proofs.sampled_by.Reads as sampled-by-reads
 use Rattle.checking.proofs.samples_on.Reads as samples-on-reads
-use Rattle.clock.proofs.base.Reads as base-reads
-use Rattle.clock.proofs.ends_in.Reads as ends-in-reads
-use Rattle.clock.proofs.parent.Reads as parent-reads
-use Rattle.clock.proofs.push.Reads as push-reads
-use Rattle.extents.proofs.expr_end.Reads as expr-end-reads
-use Rattle.extents.proofs.follow.Reads as follow-reads
-use Rattle.extents.proofs.is_sample.Reads as is-sample-reads
+use Rattle.clock_tables.proofs.base.Reads as base-reads
+use Rattle.clock_tables.proofs.ends_in.Reads as ends-in-reads
+use Rattle.clock_tables.proofs.parent.Reads as parent-reads
+use Rattle.clock_tables.proofs.push.Reads as push-reads
+use Rattle.layout.proofs.expr_end.Reads as expr-end-reads
+use Rattle.layout.proofs.follow.Reads as follow-reads
+use Rattle.layout.proofs.is_sample.Reads as is-sample-reads
 use Rattle.findings.proofs.push_deep.Reads as push-deep-reads
 use Rattle.findings.proofs.push_when.Reads as push-when-reads
-use Rattle.natural.proofs.natural_clock.Reads as natural-clock-reads
+use Rattle.inference.proofs.natural_clock.Reads as natural-clock-reads
 use Rattle.checking.proofs.+check_branch+check_expr+check_exprs+check_merge+check_over+check_sample.{
   statement,
 }

@@ -2,7 +2,7 @@
 -- Assumes nothing.
 use mathlib.Core.Path.{refl, _∙_}
 use denote.Ref.{now}
-use Rattle.clock.specs.Value.{valueOf}
+use Rattle.clock_tables.specs.Value.{valueOf}
 use Rattle.definitions.specs.Bytes.{tokens}
 use Rattle.grammar.proofs.Laws.{count-got, count-refused}
 use Rattle.checking.proofs.Left.{equation-parts, equation-none, equation-whole}

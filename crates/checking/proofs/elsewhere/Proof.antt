@@ -3,7 +3,7 @@
 use mathlib.Core.Path.{sym, ap, _∙_}
 use denote.Ref.{now}
 use Rattle.definitions.specs.Clock.{Clock, sameClock}
-use Rattle.clock.specs.Value.{valueOf}
+use Rattle.clock_tables.specs.Value.{valueOf}
 use Rattle.checking.proofs.Laws.{elsewhere-none, elsewhere-same, elsewhere-other}
 use borrow.Author.Needs.{needs}
 use Rattle.checking.proofs.elsewhere.Statement.{statement}

@@ -4,7 +4,7 @@ use mathlib.Core.Path.{refl}
 use mathlib.Core.Logic.{inl, inr}
 use native.Mathlib.Omega.{arith}
 use denote.Ref.{now}
-use Rattle.clock.specs.Value.{valueOf}
+use Rattle.clock_tables.specs.Value.{valueOf}
 use Rattle.checking.proofs.Laws.{holds-nil, holds-by, site-none, site-as, meets-name, meets-site, meets-none, no-site}
 use borrow.Author.Needs.{needs}
 use Rattle.checking.proofs.enter.Statement.{statement}

@@ -2,7 +2,7 @@
 -- Assumes nothing.
 use native.Mathlib.Omega.{arith}
 use denote.Ref.{now}
-use Rattle.clock.specs.Value.{valueOf}
+use Rattle.clock_tables.specs.Value.{valueOf}
 use Rattle.checking.proofs.Laws.{site-in, site-out}
 use borrow.Author.Needs.{needs}
 use Rattle.checking.proofs.put_site.Statement.{statement}

@@ -51,19 +51,19 @@ use Rattle.definitions.proofs.FaultRecord as T
 use Rattle.listings.specs.declared.ClocksAnswer.{ClocksAnswer}
 use Rattle.listings.proofs.ClocksAnswer as E
 use Rattle.listings.proofs.ClocksAnswer.Laws as E′
-use Rattle.fault_list.specs.Said.{said}
-use Rattle.fault_list.proofs.Lent.{lies-in, lies-out}
+use Rattle.clock_pass.specs.Said.{said}
+use Rattle.clock_pass.proofs.Lent.{lies-in, lies-out}
 use Rattle.definitions.specs.Answer.{clocksAnswer}
 use Rattle.clock_pass.specs.Given.{ClocksSaid, ClocksGiven}
 use Rattle.clock_pass.proofs.Given.{clocks-listed}
-use Rattle.fault_list.proofs.none_said as none-said
-use Rattle.fault_list.proofs.none_said.Symbol as none-said-def
-use Rattle.fault_list.proofs.none_said.Symbol.{name as #fault-list·none-said}
-use Rattle.fault_list.proofs.none_said.Met as none-said-thm
-use Rattle.fault_list.proofs.put_said as put-said
-use Rattle.fault_list.proofs.put_said.Symbol as put-said-def
-use Rattle.fault_list.proofs.put_said.Symbol.{name as #fault-list·put-said}
-use Rattle.fault_list.proofs.put_said.Met as put-said-thm
+use Rattle.clock_pass.proofs.none_said as none-said
+use Rattle.clock_pass.proofs.none_said.Symbol as none-said-def
+use Rattle.clock_pass.proofs.none_said.Symbol.{name as #fault-list·none-said}
+use Rattle.clock_pass.proofs.none_said.Met as none-said-thm
+use Rattle.clock_pass.proofs.put_said as put-said
+use Rattle.clock_pass.proofs.put_said.Symbol as put-said-def
+use Rattle.clock_pass.proofs.put_said.Symbol.{name as #fault-list·put-said}
+use Rattle.clock_pass.proofs.put_said.Met as put-said-thm
 use Rattle.clock_pass.proofs.clocks_words as clocks-words
 use Rattle.clock_pass.proofs.clocks_words.Symbol as clocks-words-def
 use Rattle.clock_pass.proofs.clocks_words.Symbol.{name as #clock-pass·clocks-words}
@@ -276,6 +276,6 @@ clocks-spec 𝓤 H 𝓜 𝓖 𝓡 =
     entered 𝓤 H (tripleOf 𝓤 H (𝓖 .A) clocks.signature (clocks.spec 𝓤 H (𝓖 .A) (𝓜 .mem) (𝓡 .run)))
     (tables 𝓤 H 𝓜 𝓡 code.env .C) (tables 𝓤 H 𝓜 𝓡 code.env .Λ) #clock-pass·clocks code.function (code.unfolded 𝓤 H 𝓜 𝓡)
     (clocks-meets 𝓤 H (𝓖 .A) (givenOf 𝓤 H 𝓜 𝓖) (𝓜 .mem) (𝓡 .run) (tablesOf 𝓤 H 𝓜 (tables 𝓤 H 𝓜 𝓡 code.env))
-    (cited 𝓤 H (NoneSaid 𝓤 H (𝓖 .A) (𝓜 .mem) (𝓡 .run)) 𝓜 𝓡 code.env #fault-list·none-said none-said-def.routine code.calls-fault-list·none-said (none-said-thm.met 𝓤 H 𝓜 𝓖 𝓡))
+    (cited 𝓤 H (NoneSaid 𝓤 H (𝓖 .A) (𝓜 .mem) (𝓡 .run)) 𝓜 𝓡 code.env #fault-list·none-said none-said-def.routine code.calls-clock-pass·none-said (none-said-thm.met 𝓤 H 𝓜 𝓖 𝓡))
     (cited 𝓤 H (ClocksWords 𝓤 H (𝓖 .A) (𝓜 .mem) (𝓡 .run)) 𝓜 𝓡 code.env #clock-pass·clocks-words clocks-words-def.routine code.calls-clock-pass·clocks-words (clocks-words-thm.met 𝓤 H 𝓜 𝓖 𝓡))
-    (cited 𝓤 H (PutSaid 𝓤 H (𝓖 .A) (𝓜 .mem) (𝓡 .run)) 𝓜 𝓡 code.env #fault-list·put-said put-said-def.routine code.calls-fault-list·put-said (put-said-thm.met 𝓤 H 𝓜 𝓖 𝓡)))
+    (cited 𝓤 H (PutSaid 𝓤 H (𝓖 .A) (𝓜 .mem) (𝓡 .run)) 𝓜 𝓡 code.env #fault-list·put-said put-said-def.routine code.calls-clock-pass·put-said (put-said-thm.met 𝓤 H 𝓜 𝓖 𝓡)))

@@ -59,7 +59,7 @@ use Rattle.listings.proofs.ClocksAnswer.Laws as E′
 use Rattle.clock_pass.specs.declared.ClocksTold.{ClocksTold}
 use Rattle.clock_pass.proofs.ClocksTold as S
 use Rattle.clock_pass.proofs.ClocksTold.Laws as S′
-use Rattle.fault_list.proofs.Lent.{lies-in, lies-out}
+use Rattle.clock_pass.proofs.Lent.{lies-in, lies-out}
 use Rattle.definitions.specs.Answer.{clocksAnswer}
 use Rattle.clock_pass.specs.Given.{ClocksGiven, blank}
 use Rattle.clock_pass.proofs.no_clock_records as no-clock-records

@@ -48,23 +48,23 @@ use denote.Signature.{Slot, plain, shrSliceOf}
 use Rattle.definitions.specs.declared.FaultRecord.{FaultRecord}
 use Rattle.definitions.specs.Lists.{over}
 use Rattle.definitions.proofs.FaultRecord as T
-use Rattle.rewriting.specs.declared.RewriteAnswer.{RewriteAnswer}
-use Rattle.rewriting.proofs.RewriteAnswer as E
-use Rattle.rewriting.proofs.RewriteAnswer.Laws as E′
-use Rattle.fault_list.specs.Said.{said}
-use Rattle.fault_list.proofs.Lent.{lies-in, lies-out, both-said}
+use Rattle.declock_project.specs.declared.RewriteAnswer.{RewriteAnswer}
+use Rattle.declock_project.proofs.RewriteAnswer as E
+use Rattle.declock_project.proofs.RewriteAnswer.Laws as E′
+use Rattle.clock_pass.specs.Said.{said}
+use Rattle.clock_pass.proofs.Lent.{lies-in, lies-out, both-said}
 use Rattle.definitions.specs.Answer.{rewriteAnswer}
 use Rattle.runs.specs.Demand.{DemandThreeAt}
 use Rattle.clock_pass.specs.Given.{RewriteSaid, RewriteGiven}
 use Rattle.clock_pass.proofs.Given.{rewrite-listed}
-use Rattle.fault_list.proofs.no_node_said as no-node-said
-use Rattle.fault_list.proofs.no_node_said.Symbol as no-node-said-def
-use Rattle.fault_list.proofs.no_node_said.Symbol.{name as #fault-list·no-node-said}
-use Rattle.fault_list.proofs.no_node_said.Met as no-node-said-thm
-use Rattle.fault_list.proofs.put_node_said as put-node-said
-use Rattle.fault_list.proofs.put_node_said.Symbol as put-node-said-def
-use Rattle.fault_list.proofs.put_node_said.Symbol.{name as #fault-list·put-node-said}
-use Rattle.fault_list.proofs.put_node_said.Met as put-node-said-thm
+use Rattle.clock_pass.proofs.no_node_said as no-node-said
+use Rattle.clock_pass.proofs.no_node_said.Symbol as no-node-said-def
+use Rattle.clock_pass.proofs.no_node_said.Symbol.{name as #fault-list·no-node-said}
+use Rattle.clock_pass.proofs.no_node_said.Met as no-node-said-thm
+use Rattle.clock_pass.proofs.put_node_said as put-node-said
+use Rattle.clock_pass.proofs.put_node_said.Symbol as put-node-said-def
+use Rattle.clock_pass.proofs.put_node_said.Symbol.{name as #fault-list·put-node-said}
+use Rattle.clock_pass.proofs.put_node_said.Met as put-node-said-thm
 use Rattle.clock_pass.proofs.rewrite_words as rewrite-words
 use Rattle.clock_pass.proofs.rewrite_words.Symbol as rewrite-words-def
 use Rattle.clock_pass.proofs.rewrite_words.Symbol.{name as #clock-pass·rewrite-words}
@@ -260,6 +260,6 @@ rewrite-spec 𝓤 H 𝓜 𝓖 𝓡 =
     entered 𝓤 H (tripleOf 𝓤 H (𝓖 .A) rewrite.signature (rewrite.spec 𝓤 H (𝓖 .A) (𝓜 .mem) (𝓡 .run)))
     (tables 𝓤 H 𝓜 𝓡 code.env .C) (tables 𝓤 H 𝓜 𝓡 code.env .Λ) #clock-pass·rewrite code.function (code.unfolded 𝓤 H 𝓜 𝓡)
     (rewrite-meets 𝓤 H (𝓖 .A) (givenOf 𝓤 H 𝓜 𝓖) (𝓜 .mem) (𝓡 .run) (tablesOf 𝓤 H 𝓜 (tables 𝓤 H 𝓜 𝓡 code.env))
-    (cited 𝓤 H (NoneSaid 𝓤 H (𝓖 .A) (𝓜 .mem) (𝓡 .run)) 𝓜 𝓡 code.env #fault-list·no-node-said no-node-said-def.routine code.calls-fault-list·no-node-said (no-node-said-thm.met 𝓤 H 𝓜 𝓖 𝓡))
+    (cited 𝓤 H (NoneSaid 𝓤 H (𝓖 .A) (𝓜 .mem) (𝓡 .run)) 𝓜 𝓡 code.env #fault-list·no-node-said no-node-said-def.routine code.calls-clock-pass·no-node-said (no-node-said-thm.met 𝓤 H 𝓜 𝓖 𝓡))
     (cited 𝓤 H (RewriteWords 𝓤 H (𝓖 .A) (𝓜 .mem) (𝓡 .run)) 𝓜 𝓡 code.env #clock-pass·rewrite-words rewrite-words-def.routine code.calls-clock-pass·rewrite-words (rewrite-words-thm.met 𝓤 H 𝓜 𝓖 𝓡))
-    (cited 𝓤 H (PutSaid 𝓤 H (𝓖 .A) (𝓜 .mem) (𝓡 .run)) 𝓜 𝓡 code.env #fault-list·put-node-said put-node-said-def.routine code.calls-fault-list·put-node-said (put-node-said-thm.met 𝓤 H 𝓜 𝓖 𝓡)))
+    (cited 𝓤 H (PutSaid 𝓤 H (𝓖 .A) (𝓜 .mem) (𝓡 .run)) 𝓜 𝓡 code.env #fault-list·put-node-said put-node-said-def.routine code.calls-clock-pass·put-node-said (put-node-said-thm.met 𝓤 H 𝓜 𝓖 𝓡)))

@@ -52,13 +52,13 @@ use denote.Signature.{Slot, plain, shrSliceOf}
 use Rattle.definitions.specs.declared.FaultRecord.{FaultRecord}
 use Rattle.definitions.proofs.FaultRecord as T
 use Rattle.definitions.proofs.FaultRecord.Laws as T′
-use Rattle.rewriting.specs.declared.RewriteAnswer.{RewriteAnswer}
-use Rattle.rewriting.proofs.RewriteAnswer as E
-use Rattle.rewriting.proofs.RewriteAnswer.Laws as E′
+use Rattle.declock_project.specs.declared.RewriteAnswer.{RewriteAnswer}
+use Rattle.declock_project.proofs.RewriteAnswer as E
+use Rattle.declock_project.proofs.RewriteAnswer.Laws as E′
 use Rattle.clock_pass.specs.declared.RewriteTold.{RewriteTold}
 use Rattle.clock_pass.proofs.RewriteTold as S
 use Rattle.clock_pass.proofs.RewriteTold.Laws as S′
-use Rattle.fault_list.proofs.Lent.{lies-in, lies-out, both-said}
+use Rattle.clock_pass.proofs.Lent.{lies-in, lies-out, both-said}
 use Rattle.definitions.specs.Answer.{rewriteAnswer}
 use Rattle.runs.specs.Demand.{DemandThreeAt}
 use Rattle.clock_pass.specs.Given.{RewriteGiven, blank}

@@ -2,7 +2,7 @@
 -- Assumes nothing.
 use mathlib.Core.List.{_++_}
 use Rattle.definitions.specs.Types.{target}
-use Rattle.typedefs.proofs.Laws.{FirstField, field-read, field-not-refused, field-next, field-typed}
+use Rattle.layout.proofs.TypedefsLaws.{FirstField, field-read, field-not-refused, field-next, field-typed}
 use Rattle.cycles.specs.Edges.{Marked}
 use Rattle.cycles.proofs.Laws.{marks-no-field, marks-fields}
 use borrow.Author.Needs.{needs}

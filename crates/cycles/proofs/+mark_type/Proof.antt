@@ -1,6 +1,6 @@
 -- `cycles::mark_type` meets its contract: the first token decides, and the depth falls at an element.
 -- Assumes nothing.
-use Rattle.typedefs.proofs.Laws.{type-not-refused, type-is-basic, type-is-named, type-is-array}
+use Rattle.layout.proofs.TypedefsLaws.{type-not-refused, type-is-basic, type-is-named, type-is-array}
 use Rattle.cycles.specs.Edges.{Marked}
 use Rattle.cycles.proofs.Laws.{marks-basic, marks-named, marks-array}
 use borrow.Author.Needs.{needs}

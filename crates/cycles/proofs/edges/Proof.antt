@@ -9,8 +9,8 @@ use Rattle.definitions.specs.Bytes.{tokens}
 use Rattle.definitions.specs.Lists.{among}
 use Rattle.definitions.specs.Tree.{TypeDef}
 use Rattle.definitions.specs.Types.{goesOn}
-use Rattle.typedefs.specs.Table.{Table, nameAt}
-use Rattle.typedefs.proofs.Laws.{filled-such}
+use Rattle.layout.specs.Table.{Table, nameAt}
+use Rattle.layout.proofs.TypedefsLaws.{filled-such}
 use Rattle.cycles.specs.Edges.{bit, ownName}
 use Rattle.cycles.proofs.Laws.{rows-more}
 use borrow.Author.Needs.{needs}

@@ -1,6 +1,6 @@
 -- `cycles::first_cycle` meets its contract: in an order where each goes on to earlier ones alone none reaches itself; else the search tells.
 -- Assumes nothing.
-use Rattle.typedefs.proofs.Laws.{named}
+use Rattle.layout.proofs.TypedefsLaws.{named}
 use borrow.Author.Needs.{needs}
 use Rattle.cycles.proofs.first_cycle.Statement.{statement}
 use Rattle.cycles.proofs.first_cycle.Tie as tie

@@ -1,7 +1,7 @@
 -- `cycles::goes_on` meets its contract: by the definition that is found.
 -- Assumes nothing.
 use mathlib.Core.Path.{_∙_}
-use Rattle.typedefs.proofs.Laws.{named}
+use Rattle.layout.proofs.TypedefsLaws.{named}
 use Rattle.cycles.proofs.Laws.{goes-nowhere, goes-by}
 use borrow.Author.Needs.{needs}
 use Rattle.cycles.proofs.goes_on.Statement.{statement}

@@ -6,7 +6,7 @@ use native.Mathlib.Omega.{arith}
 use lib.Dec.{eqb}
 use lib.ListN.{length, getD, length-set}
 use Rattle.definitions.specs.Lists.{choose}
-use Rattle.typedefs.proofs.Laws.{filled-more}
+use Rattle.layout.proofs.TypedefsLaws.{filled-more}
 use borrow.Author.Needs.{needs}
 use Rattle.cycles.proofs.mark_name.Statement.{statement}
 use Rattle.cycles.proofs.mark_name.Tie as tie

@@ -9,7 +9,7 @@ use lib.ListN.{length}
 use Rattle.definitions.specs.Lists.{among}
 use Rattle.definitions.specs.Tree.{TypeDef}
 use Rattle.definitions.specs.Types.{goesOn, oneStep, reached}
-use Rattle.typedefs.specs.Table.{nameAt}
+use Rattle.layout.specs.Table.{nameAt}
 use Rattle.cycles.specs.Edges.{NamesInSet, Edges}
 use Rattle.cycles.proofs.Laws.{holds-step, reached-step, reached-end, bit-test}
 use borrow.Author.Needs.{needs}

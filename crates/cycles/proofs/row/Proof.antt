@@ -4,7 +4,7 @@ use mathlib.Core.Path.{_≡_, refl, _∙_}
 use Prim.Native.Nat.{ℕ, _+_, _-_, _*_, _≤_, _<_}
 use native.Mathlib.Omega.{arith}
 use lib.ListN.{length, getD, length-set}
-use Rattle.typedefs.proofs.Laws.{filled-more}
+use Rattle.layout.proofs.TypedefsLaws.{filled-more}
 use borrow.Author.Needs.{needs}
 use Rattle.cycles.proofs.row.Statement.{statement}
 use Rattle.cycles.proofs.row.Tie as tie

@@ -6,7 +6,7 @@ use mathlib.Core.Logic.{⊎-elim}
 use Prim.Native.Nat.{ℕ, _-_, _≤_}
 use native.Mathlib.Omega.{arith}
 use Rattle.definitions.specs.Tree.{TypeDef}
-use Rattle.typedefs.specs.Table.{Named, firstOf}
+use Rattle.layout.specs.Table.{Named, firstOf}
 use Rattle.cycles.specs.Edges.{Edges}
 use Rattle.cycles.proofs.Laws.{Passed, passed-none, passed-all, passed-here, passed-on, passed-over}
 use borrow.Author.Needs.{needs}

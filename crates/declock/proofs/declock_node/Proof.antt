@@ -9,7 +9,7 @@ use Rattle.declock.proofs.declock_node.Reads as reads
 use Rattle.declock.proofs.declock_node.Lts as lts
 use Rattle.declock.proofs.put_body.Reads as put-body-reads
 use Rattle.declock.proofs.put_declared.Reads as put-declared-reads
-use Rattle.node_parts.proofs.put_probes.Reads as put-probes-reads
+use Rattle.emit.proofs.put_probes.Reads as put-probes-reads
 
 put-declared-requires : tie.Need-put-declared-requires
 put-declared-requires c κs = search needs

@@ -9,10 +9,10 @@ use Rattle.declock.proofs.put_body.Reads as reads
 use Rattle.declock.proofs.put_body.Lts as lts
 use Rattle.declock.proofs.count_of.Reads as count-of-reads
 use Rattle.emit.proofs.emit.Reads as emit-reads
-use Rattle.equations.proofs.old_equations.Reads as old-equations-reads
-use Rattle.flags.proofs.put_first_equations.Reads as put-first-equations-reads
-use Rattle.flags.proofs.put_flag_equations.Reads as put-flag-equations-reads
-use Rattle.holds.proofs.put_hold_equations.Reads as put-hold-equations-reads
+use Rattle.planned.proofs.old_equations.Reads as old-equations-reads
+use Rattle.declock.proofs.put_first_equations.Reads as put-first-equations-reads
+use Rattle.declock.proofs.put_flag_equations.Reads as put-flag-equations-reads
+use Rattle.planned.proofs.put_hold_equations.Reads as put-hold-equations-reads
 
 count-of-requires : tie.Need-count-of-requires
 count-of-requires c κs = search needs

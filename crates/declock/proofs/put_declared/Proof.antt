@@ -7,10 +7,10 @@ use Rattle.declock.proofs.put_declared.Tie as tie
 use Rattle.declock.proofs.put_declared.Reads as reads
 use Rattle.declock.proofs.put_declared.Lts as lts
 use Rattle.declock.proofs.count_of.Reads as count-of-reads
-use Rattle.flags.proofs.put_declarations.Reads as put-declarations-reads
-use Rattle.holds.proofs.put_hold_declarations.Reads as put-hold-declarations-reads
-use Rattle.node_parts.proofs.put_front.Reads as put-front-reads
-use Rattle.node_parts.proofs.put_locals.Reads as put-locals-reads
+use Rattle.declock.proofs.put_declarations.Reads as put-declarations-reads
+use Rattle.planned.proofs.put_hold_declarations.Reads as put-hold-declarations-reads
+use Rattle.emit.proofs.put_front.Reads as put-front-reads
+use Rattle.emit.proofs.put_locals.Reads as put-locals-reads
 
 count-of-requires : tie.Need-count-of-requires
 count-of-requires c κs = search needs

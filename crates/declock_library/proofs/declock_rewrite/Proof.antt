@@ -41,10 +41,10 @@ use denote.Exit.{yes}
 use denote.Signature.{Slot, plain, shrSliceOf}
 use Rattle.definitions.specs.declared.FaultRecord.{FaultRecord}
 use Rattle.definitions.proofs.FaultRecord as T
-use Rattle.rewriting.specs.declared.RewriteAnswer.{RewriteAnswer}
-use Rattle.rewriting.proofs.RewriteAnswer as E
-use Rattle.rewriting.proofs.RewriteAnswer.Laws as E′
-use Rattle.fault_list.proofs.Lent.{both-said}
+use Rattle.declock_project.specs.declared.RewriteAnswer.{RewriteAnswer}
+use Rattle.declock_project.proofs.RewriteAnswer as E
+use Rattle.declock_project.proofs.RewriteAnswer.Laws as E′
+use Rattle.clock_pass.proofs.Lent.{both-said}
 use Rattle.definitions.specs.Answer.{rewriteAnswer}
 use Rattle.runs.specs.Demand.{DemandThreeAt}
 use Rattle.clock_pass.specs.Given.{RewriteGiven}

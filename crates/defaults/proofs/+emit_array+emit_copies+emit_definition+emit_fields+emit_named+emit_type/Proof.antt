@@ -7,8 +7,8 @@ use native.Mathlib.Omega.{arith}
 use Prim.Native.Nat.{_+_, _*_, _^_}
 use Rattle.definitions.specs.Tree.{Declared}
 use Rattle.definitions.specs.Types.{defaultNamed}
-use Rattle.typedefs.specs.Table.{defAt}
-use Rattle.typedefs.proofs.Laws.{named, name-value, type-not-refused, type-is-basic, type-is-named, type-is-array, FirstField, field-read, field-not-refused, field-next, field-typed}
+use Rattle.layout.specs.Table.{defAt}
+use Rattle.layout.proofs.TypedefsLaws.{named, name-value, type-not-refused, type-is-basic, type-is-named, type-is-array, FirstField, field-read, field-not-refused, field-next, field-typed}
 use Rattle.emit.proofs.Laws.{emits-stuck}
 use Rattle.cycles.proofs.Laws.{nothing-described}
 use Rattle.defaults.proofs.Written.{wrote-basic, element-default, wrote-array, wrote-plain, wrote-same, plain-default, wrote-none, wrote-one, wrote-halves, named-default, not-unnamed, definition-default, wrote-variant, fields-default, alias-default, field-default, wrote-no-field, wrote-record, wrote-field}
@@ -43,9 +43,9 @@ use Rattle.emit.proofs.emit.Reads as emit-reads
 use Rattle.grammar.proofs.read_name.Reads as read-name-reads
 use Rattle.grammar.proofs.read_type.Reads as read-type-reads
 use Rattle.grammar.proofs.type_head.Reads as type-head-reads
-use Rattle.typedefs.proofs.describe.Reads as describe-reads
-use Rattle.typedefs.proofs.find_definition.Reads as find-definition-reads
-use Rattle.typedefs.proofs.value_at.Reads as value-at-reads
+use Rattle.layout.proofs.describe.Reads as describe-reads
+use Rattle.layout.proofs.find_definition.Reads as find-definition-reads
+use Rattle.layout.proofs.value_at.Reads as value-at-reads
 use Rattle.defaults.proofs.+emit_array+emit_copies+emit_definition+emit_fields+emit_named+emit_type.{
   statement,
 }

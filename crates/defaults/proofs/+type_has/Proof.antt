@@ -1,7 +1,7 @@
 -- `defaults::type_has` meets its contract: the first token decides, and the depth falls at an element.
 -- Assumes nothing.
 use Rattle.definitions.specs.Types.{defaultNamed}
-use Rattle.typedefs.proofs.Laws.{named, type-not-refused, type-is-basic, type-is-named, type-is-array}
+use Rattle.layout.proofs.TypedefsLaws.{named, type-not-refused, type-is-basic, type-is-named, type-is-array}
 use Rattle.defaults.proofs.Laws.{has-basic, has-named, has-array}
 use borrow.Author.Needs.{needs}
 use Prim.Native.Nat.{ℕ, _<_}

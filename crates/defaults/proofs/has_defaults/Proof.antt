@@ -7,7 +7,7 @@ use native.Mathlib.Omega.{arith}
 use native.Mathlib.Numerals.{add-one}
 use Rattle.definitions.specs.Bytes.{tokens}
 use Rattle.definitions.specs.Tree.{TypeDef}
-use Rattle.typedefs.specs.Table.{Table}
+use Rattle.layout.specs.Table.{Table}
 use Rattle.defaults.specs.Has.{DefaultsKnown}
 use Rattle.defaults.proofs.Laws.{has-start, has-end}
 use Rattle.defaults.proofs.Rounds.{has-more, has-settled}

@@ -6,7 +6,7 @@ use Prim.Native.Nat.{ℕ, _-_, _≤_, _<_}
 use native.Mathlib.Omega.{arith}
 use lib.Dec.{eqb}
 use lib.ListN.{length, getD, length-set}
-use Rattle.typedefs.proofs.Laws.{filled-more}
+use Rattle.layout.proofs.TypedefsLaws.{filled-more}
 use Rattle.cycles.specs.Edges.{bit, inside}
 use borrow.Author.Needs.{needs}
 use Rattle.defaults.proofs.has_round.Statement.{statement}

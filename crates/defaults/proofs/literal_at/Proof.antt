@@ -4,7 +4,7 @@ use mathlib.Core.Path.{_≡_, sym, _∙_}
 use Prim.Native.Nat.{ℕ}
 use native.Mathlib.Omega.{arith}
 use Rattle.definitions.specs.declared.Literal.{Literal}
-use Rattle.typedefs.proofs.Laws.{type-is-basic}
+use Rattle.layout.proofs.TypedefsLaws.{type-is-basic}
 use borrow.Author.Needs.{needs}
 use borrow.Author.Needs.{needs}
 use Rattle.defaults.proofs.literal_at.Statement.{statement}

@@ -3,7 +3,7 @@
 use mathlib.Core.Path.{refl}
 use native.Mathlib.Omega.{arith}
 use denote.Ref.{now}
-use Rattle.clock.specs.Value.{valueOf}
+use Rattle.clock_tables.specs.Value.{valueOf}
 use Rattle.findings.proofs.Laws.{last-over, last-full, last-stored}
 use borrow.Author.Needs.{needs}
 use Rattle.findings.proofs.append.Statement.{statement}

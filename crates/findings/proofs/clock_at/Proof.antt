@@ -3,7 +3,7 @@
 use mathlib.Core.Path.{sym, _∙_}
 use native.Mathlib.Omega.{arith}
 use denote.Ref.{now}
-use Rattle.flat.proofs.Laws.{clock-past}
+use Rattle.clock_tables.proofs.FlatLaws.{clock-past}
 use Prim.Native.Nat.{_*_, _+_}
 use borrow.Author.Needs.{needs}
 use Rattle.findings.proofs.clock_at.Statement.{statement}

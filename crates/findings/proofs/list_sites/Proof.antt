@@ -8,7 +8,7 @@ use lib.ListN.{length}
 use mathlib.Core.List.{List, _++_}
 use Rattle.definitions.specs.Clock.{Clock}
 use Rattle.definitions.specs.InferClocks.{sites}
-use Rattle.rows.specs.Rows.{RowsHold}
+use Rattle.clock_tables.specs.Rows.{RowsHold}
 use Rattle.findings.specs.Findings.{findingsIn}
 use Rattle.findings.proofs.Laws.{sites-same, sites-base, sites-more, listed-none, listed-same, listed-more, listed-all, base-of}
 use borrow.Author.Needs.{needs}

@@ -3,7 +3,7 @@
 use mathlib.Core.Path.{_∙_}
 use native.Mathlib.Omega.{arith}
 use denote.Ref.{now}
-use Rattle.clock.specs.Value.{valueOf}
+use Rattle.clock_tables.specs.Value.{valueOf}
 use lib.ListN.{length-set}
 use Rattle.findings.proofs.Laws.{row-stored}
 use borrow.Author.Needs.{needs}

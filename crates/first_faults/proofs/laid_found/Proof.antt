@@ -43,10 +43,10 @@ returns c =
     (λ node q d r. c .nothing-found .ensures .0 ∙ deep-told _ node _ _ _ (clocks node q d (r .clocks) (r .few) (r .few) (r .found)) deep, λ i node q k h d u f r. absurd (none-deep _ _ _ node k _ f (clocks node q d (r .clocks) (r .few) (r .few) (r .found)) deep))
 
 same-length-4 : tie.Need-same-length-4
-same-length-4 c = c .before .before .before .before .before .before .before .before .before .before .before .before .before .before .before .before .before .before .before .before .before .before .before .before .before .before .before .before .before .clock-laid .kept .1 .1 .1 .1 .0
+same-length-4 c = c .before .before .before .before .before .before .before .before .before .before .clocked-found .kept .1 .1 .1 .1 .1 .1 .0 ∙ c .before .before .before .before .before .before .before .before .before .before .before .before .before .before .before .before .before .before .before .before .before .before .before .before .before .before .before .before .clock-laid .kept .1 .1 .1 .1 .0
 
 same-length-5 : tie.Need-same-length-5
-same-length-5 c = c .before .before .before .before .before .before .before .before .before .before .before .before .before .before .before .before .before .before .before .before .before .before .before .before .before .before .before .before .before .clock-laid .kept .1 .1 .1 .1 .1 .1 .1 .0
+same-length-5 c = c .before .before .before .before .before .before .before .before .before .before .clocked-found .kept .1 .1 .1 .1 .1 .1 .1 .0 ∙ c .before .before .before .before .before .before .before .before .before .before .before .before .before .before .before .before .before .before .before .before .before .before .before .before .before .before .before .before .clock-laid .kept .1 .1 .1 .1 .1 .1 .1 .0
 
 same-length-6 : tie.Need-same-length-6
 same-length-6 c = search needs
@@ -60,17 +60,11 @@ same-length-8 c = search needs
 same-length-9 : tie.Need-same-length-9
 same-length-9 c = search needs
 
-same-length-10 : tie.Need-same-length-10
-same-length-10 c = search needs
-
-same-length-11 : tie.Need-same-length-11
-same-length-11 c = search needs
-
 returns-2 : tie.Need-returns-2
 returns-2 c =
-    let clocks = c .before .before .before .before .before .before .before .before .before .before .before .before .before .before .before .before .before .before .before .before .before .before .before .before .before .before .before .before .before .clock-laid .ensures .0 in
-    let sites = c .before .before .before .before .before .before .before .before .before .before .before .before .before .before .before .before .before .before .before .before .before .before .before .before .before .before .before .before .before .clock-laid .ensures .1 in
-    let clocked = c .before .before .before .before .before .before .before .before .before .before .before .before .before .before .before .before .before .before .before .clocked .given .1 in
+    let clocks = c .before .before .before .before .before .before .before .before .before .before .before .before .before .before .before .before .before .before .before .before .before .before .before .before .before .before .before .before .clock-laid .ensures .0 in
+    let sites = c .before .before .before .before .before .before .before .before .before .before .before .before .before .before .before .before .before .before .before .before .before .before .before .before .before .before .before .before .clock-laid .ensures .1 in
+    let clocked = c .before .before .before .before .before .before .before .before .before .before .before .before .before .before .before .before .before .before .clocked .given .1 in
     (λ node q d r. c .before .before .before .before .before .before .before .before .before .before .clocked-found .ensures .0 ∙ deep-not-told _ node _ _ _ (clocks node q d (r .clocks) (r .few) (r .few) (r .found)) _ _ clocked, λ i node q k h d u f r. c .before .before .before .before .before .before .before .before .before .before .clocked-found .ensures .1 i node q k _ _ h d u f (tells _ _ _ node k _ f (clocks node q d (r .clocks) (r .few) (r .few) (r .found)) _ _ clocked) (sites node q k d f (r .clocks) (r .few) (r .few) (r .found) (r .sited)) (r .typed) (r .planned) (r .few-tokens))
 
 pub laid-found-spec : {M : Type 1} → statement M
@@ -94,6 +88,4 @@ laid-found-spec =
     same-length-7
     same-length-8
     same-length-9
-    same-length-10
-    same-length-11
     returns-2)

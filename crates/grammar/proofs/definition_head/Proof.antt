@@ -2,7 +2,7 @@
 -- Assumes nothing.
 use mathlib.Core.Path.{sym, _∙_, ap}
 use Rattle.definitions.specs.Tokens.{definitionTokenOf}
-use Rattle.tokens.specs.Found.{definitionOption}
+use Rattle.grammar.specs.Found.{definitionOption}
 use Rattle.grammar.specs.Outcome.{definitionHead}
 use Rattle.grammar.proofs.Laws.{step-got, step-refused, step-end}
 use borrow.Author.Needs.{needs}

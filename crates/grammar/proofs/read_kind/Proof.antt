@@ -2,7 +2,7 @@
 -- Assumes nothing.
 use mathlib.Core.Path.{sym, _∙_, ap}
 use Rattle.definitions.specs.Grammar.{kindAt}
-use Rattle.tokens.specs.Found.{kindOption}
+use Rattle.grammar.specs.Found.{kindOption}
 use Rattle.grammar.specs.Outcome.{outcome}
 use Rattle.grammar.proofs.Laws.{step-got, step-refused, step-end, kind-of, kind-other}
 use borrow.Author.Needs.{needs}

@@ -11,7 +11,7 @@ use Rattle.definitions.specs.Reading.{got, times}
 use Rattle.definitions.specs.Grammar.{equation, node}
 use Rattle.definitions.specs.InferClocks.{Clocks, Clocked, formed, clockedBy}
 use Rattle.grammar.proofs.Longer.{equation-grows}
-use Rattle.environment.specs.Environment.{Agrees}
+use Rattle.clock_tables.specs.Environment.{Agrees}
 use Rattle.checking.specs.Walk.{PortMarks}
 use Rattle.infer_clocks.specs.Clocked.{foundFrom}
 use Rattle.infer_clocks.proofs.Laws.{Going, going-start, going-end, going-step, going-deep}

@@ -9,8 +9,8 @@ use Rattle.definitions.specs.Bytes.{tokens}
 use Rattle.definitions.specs.Tree.{TypeDef}
 use Rattle.definitions.specs.Reading.{got, times}
 use Rattle.definitions.specs.Grammar.{typeDef}
-use Rattle.typedefs.specs.Table.{nowhere}
-use Rattle.typedefs.proofs.Laws.{placeAt, placed-next, placed}
+use Rattle.layout.specs.Table.{nowhere}
+use Rattle.layout.proofs.TypedefsLaws.{placeAt, placed-next, placed}
 use borrow.Author.Needs.{needs}
 use Rattle.layout.proofs.definition_places.Statement.{statement}
 use Rattle.layout.proofs.definition_places.Tie as tie

@@ -1,7 +1,7 @@
 -- `layout::kind_of` meets its contract.
 -- Assumes nothing.
 use mathlib.Core.Path.{sym, _∙_, ap}
-use Rattle.tokens.specs.Found.{kindOption}
+use Rattle.grammar.specs.Found.{kindOption}
 use Rattle.layout.specs.Spans.{kindOr}
 use borrow.Author.Needs.{needs}
 use Rattle.layout.proofs.kind_of.Statement.{statement}

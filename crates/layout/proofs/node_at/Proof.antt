@@ -5,11 +5,11 @@ use borrow.Author.Needs.{needs}
 use Rattle.layout.proofs.node_at.Statement.{statement}
 use Rattle.layout.proofs.node_at.Tie as tie
 
-past-requires : tie.Need-past-requires
-past-requires c κs = search needs
+behind-requires : tie.Need-behind-requires
+behind-requires c κs = search needs
 
-past-requires-2 : tie.Need-past-requires-2
-past-requires-2 c κs = search needs
+behind-requires-2 : tie.Need-behind-requires-2
+behind-requires-2 c κs = search needs
 
 declared-at-requires : tie.Need-declared-at-requires
 declared-at-requires c κs = search needs
@@ -36,14 +36,14 @@ kind-of-requires : tie.Need-kind-of-requires
 kind-of-requires c κs = search needs
 
 returns : tie.Need-returns
-returns c = laid _ _ (c .before .before .before .before .before .before .before .before .before .before .before .before .pre) _ _ _ _ (c .before .before .before .before .before .before .before .before .before .past .ensures) (c .before .before .before .before .before .before .before .before .past2 .ensures) _ _ _ _ _ (c .before .before .before .before .before .before .before .declared-at .ensures) (c .before .before .before .before .before .before .declared-at2 .ensures) (c .before .before .before .before .before .declared-at3 .ensures) (c .before .before .before .before .equations-at .ensures) (c .before .before .before .probes-at .ensures) _ _ _ (c .before .before .value-at .ensures) (c .before .value-at2 .ensures) (c .kind-of .ensures)
+returns c = laid _ _ (c .before .before .before .before .before .before .before .before .before .before .before .before .pre) _ _ _ _ (c .before .before .before .before .before .before .before .before .before .behind .ensures) (c .before .before .before .before .before .before .before .before .behind2 .ensures) _ _ _ _ _ (c .before .before .before .before .before .before .before .declared-at .ensures) (c .before .before .before .before .before .before .declared-at2 .ensures) (c .before .before .before .before .before .declared-at3 .ensures) (c .before .before .before .before .equations-at .ensures) (c .before .before .before .probes-at .ensures) _ _ _ (c .before .before .value-at .ensures) (c .before .value-at2 .ensures) (c .kind-of .ensures)
 
 pub node-at-spec : {M : Type 1} → statement M
 node-at-spec =
     tie.close
     (tie.spec
-    past-requires
-    past-requires-2
+    behind-requires
+    behind-requires-2
     declared-at-requires
     declared-at-requires-2
     declared-at-requires-3

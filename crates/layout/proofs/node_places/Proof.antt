@@ -9,7 +9,7 @@ use Rattle.definitions.specs.Bytes.{tokens}
 use Rattle.definitions.specs.Tree.{Node}
 use Rattle.definitions.specs.Reading.{got, times}
 use Rattle.definitions.specs.Grammar.{node}
-use Rattle.typedefs.proofs.Laws.{placeAt, placed-next}
+use Rattle.layout.proofs.TypedefsLaws.{placeAt, placed-next}
 use Rattle.layout.proofs.Laws.{nowhere, places}
 use borrow.Author.Needs.{needs}
 use Rattle.layout.proofs.node_places.Statement.{statement}

@@ -2,7 +2,7 @@
 use mathlib.Core.Path.{refl}
 use denote.Ref.{now}
 use Rattle.definitions.specs.Answer.{nodeListing}
-use Rattle.fresh.specs.Places.{lettersAt}
+use Rattle.spelling.specs.Places.{lettersAt}
 use Rattle.query.proofs.Listings.{ample-room}
 use Rattle.listings.proofs.Given.{given-written, given-lent}
 use borrow.Author.Needs.{needs}

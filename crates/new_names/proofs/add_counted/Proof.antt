@@ -8,7 +8,7 @@ use lib.ListN.{length}
 use Rattle.definitions.specs.Lists.{Letters, decimal}
 use Rattle.definitions.specs.Output.{addName, addNames, stemLetters}
 use Rattle.spelling.specs.Stems.{stemOf}
-use Rattle.fresh.specs.Table.{Sound, NamesHeld}
+use Rattle.spelling.specs.Table.{Sound, NamesHeld}
 use Rattle.new_names.specs.Names.{numberedName, countedNames}
 use Rattle.new_names.proofs.Added.{still-sound, adding-more, adding-end}
 use borrow.Author.Needs.{needs}

@@ -1,8 +1,8 @@
 -- `new_names::condact_id` meets its contract. Assumes nothing.
 use mathlib.Core.Path.{_∙_}
 use Rattle.definitions.specs.Lists.{bytes}
-use Rattle.fresh.specs.Table.{namesOf}
-use Rattle.fresh.proofs.Table.{used-names, used-letters, used-within}
+use Rattle.spelling.specs.Table.{namesOf}
+use Rattle.spelling.proofs.Table.{used-names, used-letters, used-within}
 use Rattle.new_names.proofs.Added.{id-fits}
 use Rattle.new_names.proofs.condact_id.Statement.{statement}
 use Rattle.new_names.proofs.condact_id.Tie as tie

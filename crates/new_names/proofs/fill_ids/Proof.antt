@@ -9,7 +9,7 @@ use Rattle.definitions.specs.Lists.{decimal}
 use Rattle.definitions.specs.Output.{stemLetters, idOf}
 use Rattle.spelling.specs.Writing.{overAt}
 use Rattle.spelling.specs.Stems.{stemOf}
-use Rattle.fresh.specs.Table.{namesOf}
+use Rattle.spelling.specs.Table.{namesOf}
 use Rattle.new_names.specs.Names.{numberedName, idsOf}
 use Rattle.new_names.proofs.Added.{filled-none, filled-more, filled-short, filled-end, filled-same}
 use borrow.Author.Needs.{needs}

@@ -4,8 +4,8 @@ use mathlib.Core.List.{_++_}
 use Rattle.definitions.specs.Lists.{decimal}
 use Rattle.definitions.specs.Output.{stemLetters}
 use Rattle.spelling.specs.Stems.{stemOf}
-use Rattle.fresh.specs.Table.{namesOf}
-use Rattle.fresh.proofs.Table.{used-names, used-letters, used-within}
+use Rattle.spelling.specs.Table.{namesOf}
+use Rattle.spelling.proofs.Table.{used-names, used-letters, used-within}
 use Rattle.new_names.proofs.Added.{id-fits}
 use Rattle.new_names.proofs.id_of.Statement.{statement}
 use Rattle.new_names.proofs.id_of.Tie as tie

@@ -10,10 +10,10 @@ use borrow.Fn.PlainCycle.{Measures, is, falls, and}
 use Rattle.node_plan.proofs.lefts_fault.Reads as lefts-fault
 use Rattle.node_plan.proofs.lefts_fault.Kinds as lefts-fault-kinds
 use Rattle.node_plan.proofs.+lefts_fault.Lts-lefts_fault as lefts-fault-lts
-use Rattle.layout.proofs.past.Reads as past-reads
+use Rattle.layout.proofs.behind.Reads as past-reads
 use Rattle.node_plan.proofs.left_fault.Reads as left-fault-reads
 use Rattle.node_plan.proofs.or_met.Reads as or-met-reads
-use Rattle.typedefs.proofs.value_at.Reads as value-at-reads
+use Rattle.layout.proofs.value_at.Reads as value-at-reads
 use Rattle.node_plan.proofs.+lefts_fault.{statement}
 use Rattle.node_plan.proofs.+lefts_fault.Tie.{close}
 
@@ -40,7 +40,7 @@ lefts-fault-value-at-requires t c κs = search needs
 lefts-fault-left-fault-requires : (t : ℕ) → lefts-fault-lts.Need-left-fault-requires (lefts-fault-uses t) (lefts-fault-at t) lefts-fault.Post
 lefts-fault-left-fault-requires t c κs = search needs
 
-lefts-fault-past-requires : (t : ℕ) → lefts-fault-lts.Need-past-requires (lefts-fault-uses t) (lefts-fault-at t) lefts-fault.Post
+lefts-fault-past-requires : (t : ℕ) → lefts-fault-lts.Need-behind-requires (lefts-fault-uses t) (lefts-fault-at t) lefts-fault.Post
 lefts-fault-past-requires t c κs = search needs
 
 lefts-fault-sub-lefts-fault : (t : ℕ) → lefts-fault-lts.Need-sub-lefts-fault (lefts-fault-uses t) (lefts-fault-at t) lefts-fault.Post
@@ -53,7 +53,7 @@ lefts-fault-or-met-requires : (t : ℕ) → lefts-fault-lts.Need-or-met-requires
 lefts-fault-or-met-requires t c κs = search needs
 
 lefts-fault-returns-2 : (t : ℕ) → lefts-fault-lts.Need-returns-2 (lefts-fault-uses t) (lefts-fault-at t) lefts-fault.Post
-lefts-fault-returns-2 t c = λ xs q types l node g k. lefts-step types l node (c .before .before .before .before .before .before .before .before .before .args .k .names) (now (c .before .before .before .before .before .before .before .before .before .args .tags)) (now (c .before .before .before .before .before .before .before .before .before .args .values)) (c .before .before .before .before .before .before .before .before .before .pre .1 .0) (c .before .before .before .before .before .before .before .before .before .args .count) (c .before .before .before .before .before .before .before .before .before .args .at) xs q (c .before .before .before .before .before .if1 .left) g _ _ (c .before .before .before .before .value-at .ensures) (c .before .before .past .ensures) _ _ _ (c .before .before .before .left-fault .ensures types l node k) (λ rest h. c .before .lefts-fault .ensures rest q types l node h k) (c .or-met .ensures)
+lefts-fault-returns-2 t c = λ xs q types l node g k. lefts-step types l node (c .before .before .before .before .before .before .before .before .before .args .k .names) (now (c .before .before .before .before .before .before .before .before .before .args .tags)) (now (c .before .before .before .before .before .before .before .before .before .args .values)) (c .before .before .before .before .before .before .before .before .before .pre .1 .0) (c .before .before .before .before .before .before .before .before .before .args .count) (c .before .before .before .before .before .before .before .before .before .args .at) xs q (c .before .before .before .before .before .if1 .left) g _ _ (c .before .before .before .before .value-at .ensures) (c .before .before .behind .ensures) _ _ _ (c .before .before .before .left-fault .ensures types l node k) (λ rest h. c .before .lefts-fault .ensures rest q types l node h k) (c .or-met .ensures)
 
 pub +lefts-fault-spec : {M : Type 1} → statement M
 +lefts-fault-spec = close μ-lefts-fault λ t. lefts-fault-lts.spec (lefts-fault-uses t)

@@ -1,6 +1,6 @@
 -- `node_plan::gates_right` meets its contract.
 -- Assumes nothing.
-use Rattle.rewritten_shape.specs.After.{afterOf}
+use Rattle.typing.specs.After.{afterOf}
 use Rattle.node_plan.proofs.Lefts.{gates-one, gates-bare, gates-other, gates-same, gates-call}
 use borrow.Author.Needs.{needs}
 use Rattle.node_plan.proofs.gates_right.Statement.{statement}

@@ -19,7 +19,7 @@ use Rattle.plan.proofs.+both+expr+exprs.Lts-expr as expr-lts
 use Rattle.plan.proofs.exprs.Reads as exprs
 use Rattle.plan.proofs.exprs.Kinds as exprs-kinds
 use Rattle.plan.proofs.+both+expr+exprs.Lts-exprs as exprs-lts
-use Rattle.extents.proofs.follow.Reads as follow-reads
+use Rattle.layout.proofs.follow.Reads as follow-reads
 use Rattle.plan.proofs.close_follow.Reads as close-follow-reads
 use Rattle.plan.proofs.close_call.Reads as close-call-reads
 use Rattle.plan.proofs.close_previous.Reads as close-previous-reads

@@ -3,7 +3,7 @@
 use mathlib.Core.Path.{_∙_, sym}
 use denote.Ref.{now}
 use Rattle.grammar.proofs.Got.{times-nil}
-use Rattle.typedefs.proofs.Laws.{field-read, field-not-refused, field-next, field-typed}
+use Rattle.layout.proofs.TypedefsLaws.{field-read, field-not-refused, field-next, field-typed}
 use Rattle.typing.proofs.Laws.{label-is}
 use Rattle.plan.proofs.Sites.{outputs-none, outputs-lack, outputs-more}
 use borrow.Author.Needs.{needs}
@@ -16,7 +16,7 @@ use Rattle.plan.proofs.+output_lack.Lts-output_lack as output-lack-lts
 use Rattle.defaults.proofs.type_has_default.Reads as type-has-default-reads
 use Rattle.grammar.proofs.read_name.Reads as read-name-reads
 use Rattle.grammar.proofs.read_type.Reads as read-type-reads
-use Rattle.typedefs.proofs.value_at.Reads as value-at-reads
+use Rattle.layout.proofs.value_at.Reads as value-at-reads
 use Rattle.plan.proofs.+output_lack.{statement}
 use Rattle.plan.proofs.+output_lack.Tie.{close}
 

@@ -5,7 +5,7 @@ use mathlib.Core.List.{[]}
 use lib.ListN.{length, getD}
 use denote.Ref.{now}
 use Prim.Native.Nat.{_*_}
-use Rattle.flat.specs.Flat.{clockIn}
+use Rattle.clock_tables.specs.Flat.{clockIn}
 use Rattle.definitions.specs.Declock.{operatorOutputs}
 use Rattle.plan.proofs.Calls.{close-plain, close-function, close-gated, close-lacks}
 use borrow.Author.Needs.{needs}

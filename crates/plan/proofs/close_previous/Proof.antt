@@ -3,9 +3,9 @@
 use mathlib.Core.Path.{refl, sym, _∙_}
 use Prim.Native.Nat.{_*_}
 use denote.Ref.{now}
-use Rattle.flat.specs.Flat.{clockIn}
+use Rattle.clock_tables.specs.Flat.{clockIn}
 use Rattle.definitions.specs.Declock.{operandType}
-use Rattle.needs.specs.Need.{isBare}
+use Rattle.stateless.specs.Need.{isBare}
 use Rattle.plan.proofs.Closing.{previous-base, previous-bare, previous-held, previous-untyped}
 use borrow.Author.Needs.{needs}
 use Rattle.plan.proofs.close_previous.Statement.{statement}

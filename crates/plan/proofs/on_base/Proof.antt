@@ -6,7 +6,7 @@ use native.Mathlib.Omega.{arith}
 use lib.ListN.{length}
 use denote.Ref.{now}
 use Rattle.definitions.specs.Clock.{isBase}
-use Rattle.flat.proofs.Laws.{clock-past}
+use Rattle.clock_tables.proofs.FlatLaws.{clock-past}
 use Rattle.plan.proofs.Sites.{base-depth}
 use borrow.Author.Needs.{needs}
 use Rattle.plan.proofs.on_base.Statement.{statement}

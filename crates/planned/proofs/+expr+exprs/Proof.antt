@@ -21,7 +21,7 @@ use Rattle.planned.proofs.+expr+exprs.Lts-exprs as exprs-lts
 use Rattle.planned.proofs.opening.Reads as opening-reads
 use Rattle.planned.proofs.plan_of.Reads as plan-of-reads
 use Rattle.planned.proofs.put_defaults.Reads as put-defaults-reads
-use Rattle.flat.proofs.word_at.Reads as word-at-reads
+use Rattle.clock_tables.proofs.word_at.Reads as word-at-reads
 use Rattle.planned.proofs.+expr+exprs.{statement}
 use Rattle.planned.proofs.+expr+exprs.Tie.{close}
 

@@ -1,7 +1,7 @@
 -- `planned::put_defaults` meets its contract: the first output's default, then those of the others.
 -- Assumes nothing.
 use native.Mathlib.Omega.{arith}
-use Rattle.typedefs.proofs.Laws.{field-read, field-not-refused, field-next, field-typed}
+use Rattle.layout.proofs.TypedefsLaws.{field-read, field-not-refused, field-next, field-typed}
 use Rattle.planned.proofs.Defaults.{first-default, no-defaults, more-defaults}
 use borrow.Author.Needs.{needs}
 use Prim.Native.Nat.{ℕ, _<_}

@@ -10,7 +10,7 @@ use Rattle.planned.proofs.id_of.Statement.{statement}
 use Rattle.planned.proofs.id_of.Tie as tie
 use Rattle.planned.proofs.id_of.Reads as reads
 use Rattle.planned.proofs.id_of.Lts as lts
-use Rattle.flat.proofs.word_at.Reads as word-at-reads
+use Rattle.clock_tables.proofs.word_at.Reads as word-at-reads
 
 word-at-requires : tie.Need-word-at-requires
 word-at-requires c κs = search needs

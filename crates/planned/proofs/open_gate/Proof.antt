@@ -9,7 +9,7 @@ use Rattle.planned.proofs.open_gate.Statement.{statement}
 use Rattle.planned.proofs.open_gate.Tie as tie
 use Rattle.planned.proofs.open_gate.Reads as reads
 use Rattle.planned.proofs.open_gate.Lts as lts
-use Rattle.callees.proofs.operator_of.Reads as operator-of-reads
+use Rattle.index.proofs.operator_of.Reads as operator-of-reads
 use Rattle.emit.proofs.put.Reads as put-reads
 use Rattle.planned.proofs.put_gate.Reads as put-gate-reads
 

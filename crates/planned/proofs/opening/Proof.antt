@@ -9,7 +9,7 @@ use Rattle.planned.proofs.opening.Statement.{statement}
 use Rattle.planned.proofs.opening.Tie as tie
 use Rattle.planned.proofs.opening.Reads as reads
 use Rattle.planned.proofs.opening.Lts as lts
-use Rattle.extents.proofs.follow.Reads as follow-reads
+use Rattle.layout.proofs.follow.Reads as follow-reads
 use Rattle.planned.proofs.open_gate.Reads as open-gate-reads
 use Rattle.planned.proofs.part_end.Reads as part-end-reads
 use Rattle.emit.proofs.put.Reads as put-reads

@@ -1,13 +1,13 @@
 -- `planned::part_end` meets its contract: the end that was found lies behind the token.
 -- Assumes nothing.
 use native.Mathlib.Omega.{arith}
-use Rattle.extents.proofs.Owed.{owed-on}
+use Rattle.layout.proofs.Owed.{owed-on}
 use borrow.Author.Needs.{needs}
 use Rattle.planned.proofs.part_end.Statement.{statement}
 use Rattle.planned.proofs.part_end.Tie as tie
 use Rattle.planned.proofs.part_end.Reads as reads
 use Rattle.planned.proofs.part_end.Lts as lts
-use Rattle.extents.proofs.past.Reads as past-reads
+use Rattle.layout.proofs.past.Reads as past-reads
 
 add-past : tie.Need-add-past
 add-past c = search needs

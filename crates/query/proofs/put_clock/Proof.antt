@@ -3,7 +3,7 @@ use mathlib.Core.Path.{_≡_, refl}
 use Prim.Native.Nat.{_-_, _≤_}
 use native.Mathlib.Omega.{arith}
 use lib.ListN.{length, take, length-set}
-use Rattle.clock.specs.Value.{valueOf}
+use Rattle.clock_tables.specs.Value.{valueOf}
 use Rattle.spelling.specs.Writing.{overAt}
 use Rattle.spelling.proofs.Writing.{length-over}
 use Rattle.query.specs.Words.{clockWords}

@@ -1,6 +1,6 @@
 -- `query::write_clocks` meets its contract. Assumes nothing.
 use mathlib.Core.Path.{refl}
-use Rattle.listing.proofs.Lengths.{few}
+use Rattle.lines.proofs.ListingLengths.{few}
 use Rattle.query.proofs.Entries.{node-written}
 use Rattle.query.proofs.Listings.{ample-room}
 use borrow.Author.Needs.{needs}

@@ -4,7 +4,7 @@ use Prim.Native.Nat.{_-_, _*_, _≤_}
 use native.Mathlib.Omega.{arith}
 use denote.Ref.{now}
 use lib.ListN.{length}
-use Rattle.order.specs.Order.{rowOf, picked}
+use Rattle.chain_order.specs.Order.{rowOf, picked}
 use Rattle.query.specs.Words.{clockWords}
 use Rattle.query.proofs.Entries.{Entered, entered-none, row-entered, rows-entered}
 use borrow.Author.Needs.{needs}

@@ -1,6 +1,6 @@
 -- `questions::ask_in` meets its contract. Assumes nothing.
 use denote.Ref.{now}
-use Rattle.questions.proofs.Asked.{rewrite-asked, clocks-asked, listing-asked, listings-asked, text-asked, to-plan}
+use Rattle.questions.proofs.Asked.{rewrite-asked, clocks-asked, listing-asked, listings-asked, text-asked, lines-asked, to-plan}
 use borrow.Author.Needs.{needs}
 use Rattle.questions.proofs.ask_in.Statement.{statement}
 use Rattle.questions.proofs.ask_in.Tie as tie
@@ -49,6 +49,15 @@ text-in-requires c κs = search needs
 
 listing-reply-requires-3 : tie.Need-listing-reply-requires-3
 listing-reply-requires-3 c κs = search needs
+
+enum-told-3 : tie.Need-enum-told-3
+enum-told-3 c = search needs
+
+lines-in-requires : tie.Need-lines-in-requires
+lines-in-requires c κs = search needs
+
+listing-reply-requires-4 : tie.Need-listing-reply-requires-4
+listing-reply-requires-4 c κs = search needs
 
 same-length : tie.Need-same-length
 same-length c = search needs
@@ -174,6 +183,29 @@ returns-5 c = λ bytes i h room.
     let s = c .before .before .before .before .before .before .before .before .before .before .before .before .before .before .before .before .before .before .before .before .before .before .before .before .before .before .before .before .before .before .before .before .before .before .before .before .before .args in
     text-asked (s .q) bytes (now (s .out)) (now (s .equations)) (now (s .chains)) (now (s .faults)) _ _ _ _ _ i (h .reading) _ _ _ (c .before .before .before .before .before .before .before .before .before .before .before .before .before .before .before .before .before .before .before .before .before .q3 .given .1) (c .listing-reply3 .ensures) (c .before .before .before .before .before .before .before .before .before .before .before .before .before .text-in .ensures i (h .standing) (h .lengths) (to-plan room (h .standing .few-tokens)))
 
+same-length-34 : tie.Need-same-length-34
+same-length-34 c = search needs
+
+same-length-35 : tie.Need-same-length-35
+same-length-35 c = search needs
+
+same-length-36 : tie.Need-same-length-36
+same-length-36 c = search needs
+
+same-length-37 : tie.Need-same-length-37
+same-length-37 c = search needs
+
+same-length-38 : tie.Need-same-length-38
+same-length-38 c = search needs
+
+same-length-39 : tie.Need-same-length-39
+same-length-39 c = search needs
+
+returns-6 : tie.Need-returns-6
+returns-6 c = λ bytes i h room.
+    let s = c .before .before .before .before .before .before .before .before .before .before .before .before .before .before .before .before .before .before .before .before .before .before .before .before .before .before .before .before .before .before .before .before .before .before .before .before .args in
+    lines-asked (s .q) bytes (now (s .out)) (now (s .equations)) (now (s .chains)) (now (s .faults)) _ _ _ _ _ i (h .reading) _ (c .before .before .before .before .before .before .before .before .before .before .before .before .before .before .before .before .before .before .before .before .enum-told3 .given .1) (c .listing-reply4 .ensures) (c .before .before .before .before .before .before .before .before .before .before .before .before .before .lines-in .ensures i (h .standing) (h .lengths) (to-plan room (h .standing .few-tokens)))
+
 pub ask-in-spec : {M : Type 1} → statement M
 ask-in-spec =
     tie.close
@@ -193,6 +225,9 @@ ask-in-spec =
     enum-known-q-3
     text-in-requires
     listing-reply-requires-3
+    enum-told-3
+    lines-in-requires
+    listing-reply-requires-4
     same-length
     same-length-2
     same-length-3
@@ -230,4 +265,11 @@ ask-in-spec =
     same-length-31
     same-length-32
     same-length-33
-    returns-5)
+    returns-5
+    same-length-34
+    same-length-35
+    same-length-36
+    same-length-37
+    same-length-38
+    same-length-39
+    returns-6)

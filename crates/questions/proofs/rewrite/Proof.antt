@@ -1,7 +1,7 @@
 -- `questions::rewrite` meets its contract. Assumes nothing.
 use mathlib.Core.Path.{subst⁻¹}
 use native.Mathlib.Omega.{arith}
-use Rattle.rewriting.specs.Given.{RewriteInWords}
+use Rattle.declock_project.specs.Given.{RewriteInWords}
 use Rattle.questions.proofs.Demand.{bytes-below, written-demand}
 use borrow.Author.Needs.{needs}
 use Rattle.questions.proofs.rewrite.Statement.{statement}

@@ -4,7 +4,7 @@ use mathlib.Core.Path.{_≡_, refl, sym, _∙_, ap}
 use native.Mathlib.Omega.{arith}
 use lib.ListN.{length}
 use denote.Ref.{now}
-use Rattle.typedefs.proofs.Laws.{field-read, field-not-refused, field-next, field-typed}
+use Rattle.layout.proofs.TypedefsLaws.{field-read, field-not-refused, field-next, field-typed}
 use Rattle.typing.proofs.Laws.{label-is, declares-none, declares-stored, declares-rest}
 use borrow.Author.Needs.{needs}
 use Prim.Native.Nat.{ℕ, _<_}
@@ -15,7 +15,7 @@ use Rattle.typing.proofs.declare.Kinds as declare-kinds
 use Rattle.typing.proofs.+declare.Lts-declare as declare-lts
 use Rattle.grammar.proofs.read_name.Reads as read-name-reads
 use Rattle.grammar.proofs.read_type.Reads as read-type-reads
-use Rattle.typedefs.proofs.value_at.Reads as value-at-reads
+use Rattle.layout.proofs.value_at.Reads as value-at-reads
 use Rattle.typing.proofs.put_word.Reads as put-word-reads
 use Rattle.typing.proofs.word_of.Reads as word-of-reads
 use Rattle.typing.proofs.+declare.{statement}

@@ -6,7 +6,7 @@ use Rattle.typing.proofs.last_type.Statement.{statement}
 use Rattle.typing.proofs.last_type.Tie as tie
 use Rattle.typing.proofs.last_type.Reads as reads
 use Rattle.typing.proofs.last_type.Lts as lts
-use Rattle.flat.proofs.word_at.Reads as word-at-reads
+use Rattle.clock_tables.proofs.word_at.Reads as word-at-reads
 
 word-at-requires : tie.Need-word-at-requires
 word-at-requires c κs = search needs

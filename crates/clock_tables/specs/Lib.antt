@@ -1,0 +1,4 @@
+pub mod Value
+pub mod Flat
+pub mod Environment
+pub mod Rows

@@ -1,4 +1,0 @@
-pub mod Tags
-pub mod Owed
-pub mod Ends
-pub mod Marks

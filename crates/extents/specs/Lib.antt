@@ -1,2 +1,0 @@
-pub mod Owed
-pub mod Marks

@@ -1,2 +1,0 @@
--- Fault records in words.
-pub mod Said

@@ -1,0 +1,3 @@
+pub mod Natural
+pub mod Passes
+pub mod Settled

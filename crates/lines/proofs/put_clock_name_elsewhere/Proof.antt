@@ -1,0 +1,38 @@
+-- `lines::put_clock_name_elsewhere` meets its contract. Assumes nothing.
+use Rattle.lines.proofs.Joining.{also}
+use Rattle.definitions.specs.Lists.{bytes}
+use Rattle.definitions.specs.Texts.{faultText}
+use Rattle.lines.specs.Pieces.{onAnother}
+use borrow.Author.Needs.{needs}
+use Rattle.lines.proofs.put_clock_name_elsewhere.Statement.{statement}
+use Rattle.lines.proofs.put_clock_name_elsewhere.Tie as tie
+
+slice-aggregate-put-all : tie.Need-slice-aggregate-put-all
+slice-aggregate-put-all c = search needs
+
+put-all-requires : tie.Need-put-all-requires
+put-all-requires c κs = search needs
+
+slice-aggregate-put-on-another : tie.Need-slice-aggregate-put-on-another
+slice-aggregate-put-on-another c = search needs
+
+put-on-another-requires : tie.Need-put-on-another-requires
+put-on-another-requires c κs = search needs
+
+same-length : tie.Need-same-length
+same-length c = search needs
+
+returns : tie.Need-returns
+unfolding bytes faultText onAnother
+returns c = also (c .before .before .before .before .before .before .before .before .before .before .before .before .before .pre) (c .before .before .before .before .before .before .before .put-all .ensures) λ _. c .before .before .put-on-another .ensures
+
+pub put-clock-name-elsewhere-spec : {M : Type 1} → statement M
+put-clock-name-elsewhere-spec =
+    tie.close
+    (tie.spec
+    slice-aggregate-put-all
+    put-all-requires
+    slice-aggregate-put-on-another
+    put-on-another-requires
+    same-length
+    returns)

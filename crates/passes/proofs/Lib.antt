@@ -1,4 +1,0 @@
--- What the proofs of several functions use, and those of other crates.
-pub mod Naming
-pub mod Calm
-pub mod Laws

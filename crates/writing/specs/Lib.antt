@@ -1,2 +1,0 @@
--- What is written.
-pub mod Bytes

@@ -1,4 +1,6 @@
 // What the programs share: what a word of a command line says, the front of lent bytes, the rest of a sheet that is read.
+#![tactic(auto)]
+
 ghost use Rattle.std.specs.Prelude.{◌≡◌, ◌+◌, ◌*◌, ◌-◌, ◌≤◌, ◌<◌, min, length, take};
 ghost use Rattle.definitions.specs.Bytes.{is_digit};
 ghost use Rattle.io.specs.Counts.{IsPrefixLen};
@@ -7,7 +9,7 @@ ghost use Rattle.arguments.specs.Words.{most, number_of, meaning_of};
 use libc::STDIN_FILENO;
 
 // What a word of a command line says: it asks for help, or is a number in decimal, or is neither.
-#[derive(Drop)]
+#[derive(Clone, Copy)]
 pub enum Word {
     Help,
     Number(usize),

@@ -1,5 +1,7 @@
 // The order of chains, and rows of clocks put into it.
 // The letters of name i are those from starts[i] to starts[i + 1].
+#![tactic(auto)]
+
 ghost use Rattle.std.specs.Prelude.{◌≡◌, length};
 ghost use Prim.Native.Nat.{ℕ, ◌+◌, ◌≤◌, ◌<◌, compare};
 ghost use Rattle.definitions.specs.Clock.{lexical, test_order, condition_order, chain_order, insert, in_chain_order};
@@ -9,7 +11,7 @@ ghost use Rattle.chain_order.specs.Order.{order_of, is_same, row_of, picked, Fir
 
 use definitions::{Condition, Test};
 
-#[derive(Drop)]
+#[derive(Clone, Copy)]
 pub enum Order {
     Less,
     Same,
@@ -17,7 +19,7 @@ pub enum Order {
 }
 
 // Where a row goes among others: before one of them or at the end, or it is there.
-#[derive(Drop)]
+#[derive(Clone, Copy)]
 pub enum Place {
     Before(usize),
     There,

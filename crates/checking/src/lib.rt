@@ -1,6 +1,8 @@
 // Checking of clocks in an accepted sheet, from an equation's clock down: what it meets goes into a table of findings, the clock
 // of each `pre`, `->`, call and equation into its token's row of `sites`, seventeen words each.
 // `tags` and `values` are as long as each other; `names` is the number of names; `env` has the names' clocks.
+#![tactic(auto)]
+
 ghost use Rattle.std.specs.Prelude.{◌≡◌, true, List, ◌++◌, ℕ, ◌<◌, length, get_or, eqb};
 ghost use Rattle.std.proofs.Math.Option.{some};
 ghost use Rattle.definitions.specs.Lists.{choose};
@@ -25,7 +27,7 @@ use definitions::{Condition, MOST_LEFT, Test};
 use grammar::Counted;
 
 // Where a walk ended, and how many findings there are then.
-#[derive(Drop)]
+#[derive(Clone, Copy)]
 pub struct CheckedTo {
     pub end: usize,
     pub count: usize,

@@ -1,4 +1,6 @@
 // The entry points with fault records, and the lent list of these.
+#![tactic(auto)]
+
 ghost use Rattle.std.specs.Prelude.{◌≡◌, ◌≤◌, ◌<◌, ℕ, length, replicate, get_or, take};
 ghost use Rattle.definitions.specs.Lists.{over};
 ghost use Rattle.clock_pass.specs.Said.{least, record_at, count, said};

@@ -1,4 +1,6 @@
 // Clocks: by value, as words of a table, and in tables of names' clocks and of distinct clocks.
+#![tactic(auto)]
+
 ghost use Rattle.std.specs.Prelude.{◌≡◌, ◌≤◌, ℕ, ◌+◌, ◌-◌, ◌<◌, ◌*◌, ◌⊎◌, length, get_or, set, List, true, false};
 ghost use Rattle.std.proofs.Math.Option.{none, some};
 ghost use Rattle.definitions.specs.Clock.{base, depth, parent, same_test, same_condition, same_clock, is_base, ends_in};
@@ -18,21 +20,21 @@ use definitions::{Condition, Test};
 pub const DEEPEST: usize = 8;
 
 // The first `depth` conditions, from base outward; a depth past eight counts as eight.
-#[derive(Drop)]
+#[derive(Clone, Copy)]
 pub struct Clock {
     pub depth: usize,
     pub conditions: [Condition; DEEPEST],
 }
 
 // Whether there is a clock: none, the one beside, or one of more than eight conditions.
-#[derive(Drop)]
+#[derive(Clone, Copy)]
 pub enum Presence {
     Free,
     On,
     Deep,
 }
 
-#[derive(Drop)]
+#[derive(Clone, Copy)]
 pub struct Natural {
     pub presence: Presence,
     pub clock: Clock,

@@ -1,11 +1,13 @@
 // Prints the clocks of each node of the sheet on standard input, or of one node; or what the sheet is refused for.
+#![tactic(auto)]
+
 use arguments::Word;
 use definitions::Refusal;
 use libc::{STDERR_FILENO, STDIN_FILENO, STDOUT_FILENO};
 use listings::ListingAnswer;
 
 // What is asked for: the listing of every node, or of one.
-#[derive(Drop)]
+#[derive(Clone, Copy)]
 enum Asked {
     Every,
     Node(usize),

@@ -1,6 +1,8 @@
 // Refusal 7, a type that reaches itself: document 01, "Checking".
 // At most 32 definitions; a set of them is a byte for each, 1 for those in it. Byte 32 * i + j of the table `go` is 1 where
 // the name of definition i goes on to that of definition j.
+#![tactic(auto)]
+
 ghost use Rattle.std.specs.Prelude.{◌≡◌, List, [], ◌∷◌, ◌++◌, map, true, ◌||◌, ℕ, ◌+◌, ◌*◌, ◌≤◌, ◌<◌, eqb, length, get_or};
 ghost use Rattle.definitions.specs.Bytes.{tokens};
 ghost use Rattle.definitions.specs.Lists.{choose, among, join};
@@ -19,7 +21,7 @@ use layout::Defined;
 pub const TYPE_PAIRS: usize = MOST_TYPES * MOST_TYPES;
 
 // A set of definitions, and whether each name that was marked is that of one.
-#[derive(Drop)]
+#[derive(Clone, Copy)]
 struct Marks {
     set: [u8; MOST_TYPES],
     known: bool,

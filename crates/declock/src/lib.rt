@@ -1,4 +1,6 @@
 // A rewritten node: its flags, its parts, and its names and tokens behind those so far.
+#![tactic(auto)]
+
 ghost use Rattle.std.specs.Prelude.{◌≡◌, [], ◌∷◌, map, List, ℕ, ◌+◌, ◌≤◌, get_or, length, false};
 ghost use Rattle.definitions.specs.Lists.{choose, join, Letters};
 ghost use Rattle.definitions.specs.Clock.{parent, is_base};
@@ -289,7 +291,7 @@ fn put_first_equations(
 // tokens and where holds stand, `types` the declared types of names. `otags` and `ovalues` are the output's tokens, of which w are written.
 
 // How many clocks have an activation flag, and how many a first-tick flag.
-#[derive(Drop)]
+#[derive(Clone, Copy)]
 pub struct Rows {
     pub flags: usize,
     pub firsts: usize,
@@ -522,7 +524,7 @@ fn declock_node(
 // declared types of its names. `otags` and `ovalues` are the output's tokens.
 
 // Where the output's names and its tokens have got to.
-#[derive(Drop)]
+#[derive(Clone, Copy)]
 pub struct Progress {
     pub names: Counts,
     pub next: usize,

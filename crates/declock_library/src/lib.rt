@@ -1,5 +1,7 @@
 // The entry points for programs in C and Rust, under their plain names; include/declock.h says what each number means.
 // Each answers 0 where the sheet is accepted, else the refusal's number, and stores the number of bytes written, or the refusal's place.
+#![tactic(auto)]
+
 ghost use Rattle.std.specs.Prelude.{◌≡◌, length, take};
 ghost use Rattle.definitions.specs.Refusals.{fault_count};
 ghost use Rattle.definitions.specs.Answer.{rewrite_answer, clocks_answer, text_answer, listing_answer, listings_answer};

@@ -3,6 +3,8 @@
 // `given` has the lengths of the sheet's names and `letters` their letters, `starts` where each name's letters start, `names` is how
 // many there are; `tags` and `values` are the sheet's tokens, as long as each other. `lengths` and `text`, with counts, are a table of
 // the output's names, `otags` and `ovalues` its tokens. The working tables are those of crate `first_faults`.
+#![tactic(auto)]
+
 ghost use Rattle.std.specs.Prelude.{◌≡◌, List, true, false, ℕ, ◌*◌, ◌≤◌, ◌<◌, length};
 ghost use Rattle.std.proofs.Math.ListN.{get_elem?};
 ghost use Rattle.definitions.specs.Lists.{sum};
@@ -43,21 +45,21 @@ const RECORDS: usize = 3 * MOST_NODES;
 const HOLD_TABLE: usize = 2 * MOST_NAMES;
 
 // How many bytes were written, or turned down.
-#[derive(Drop)]
+#[derive(Clone, Copy)]
 pub enum RewriteAnswer {
     Written(usize),
     Refused(Refusal),
 }
 
 // A node walked over: what was found in it, and where the output has got to.
-#[derive(Drop)]
+#[derive(Clone, Copy)]
 struct Step {
     found: NodeFound,
     progress: Progress,
 }
 
 // A sheet: the first node in which too deep a clock is formed; or how many nodes are faulty, and where the output has got to.
-#[derive(Drop)]
+#[derive(Clone, Copy)]
 pub enum NodesWalked {
     Deep(usize),
     Faulty(usize, Progress),

@@ -1,6 +1,8 @@
 // Defaults of types: document 01, "A default is built by going down the type." Whether a type has one is found once for each definition; then it is written.
 // `tags` and `values` are a sheet's tokens, `names` the number of its names; `places` are those of its n definitions;
 // byte i of `has` says whether definition i has a default; `go` and `own` are the tables of crate `cycles`.
+#![tactic(auto)]
+
 ghost use Rattle.std.specs.Prelude.{◌≡◌, List, [], ◌∷◌, map, ◌&&◌, ℕ, suc, ◌≤◌, ◌<◌, eqb, length, get_or};
 ghost use Rattle.std.proofs.Math.Option.{some};
 ghost use Rattle.definitions.specs.Bytes.{tokens};
@@ -28,7 +30,7 @@ use layout::Defined;
 const DEEPEST: u32 = 9 * 32 + 9;
 
 // A primitive type's default, or another type: many of the former are written without going down the type again.
-#[derive(Drop)]
+#[derive(Clone, Copy)]
 enum Plain {
     Constant(Literal),
     Other,

@@ -1,5 +1,6 @@
 // Document 01 as definitions: they stand in specs/, in the order in which a person reads them.
 // Here are the types that definitions and code share. A number in brackets is a word of the sheet; "id" is a name's place.
+#![tactic(auto)]
 
 // Limits of document 01, and the sizes of the tables that follow from them.
 // "Limits: M 1,024"
@@ -46,14 +47,14 @@ pub const SMALL_CLOCK_TABLE: usize = 4352;
 pub const SMALL_FINDING_TABLE: usize = 9728;
 
 // "55 unary(0, 1)": the Rust's order.
-#[derive(Drop)]
+#[derive(Clone, Copy)]
 pub enum UnaryOp {
     Not,
     Neg,
 }
 
 // "56 binary(0 to 19, the Rust's order)".
-#[derive(Drop)]
+#[derive(Clone, Copy)]
 pub enum BinOp {
     And,
     Or,
@@ -78,7 +79,7 @@ pub enum BinOp {
 }
 
 // "20 to 31 the types Bool to Char in the Rust's order".
-#[derive(Drop)]
+#[derive(Clone, Copy)]
 pub enum Primitive {
     Bool,
     Int8,
@@ -95,7 +96,7 @@ pub enum Primitive {
 }
 
 // "50 bool(0/1), 51 int(low), 52 float(low), 53 char(0 to 255)": of an int and a float, the high word is the next token.
-#[derive(Drop)]
+#[derive(Clone, Copy)]
 pub enum Literal {
     Bool(u32),
     Int(u32),
@@ -104,7 +105,7 @@ pub enum Literal {
 }
 
 // "41 kind(0 function, 1 operator, 2 imported)".
-#[derive(Drop)]
+#[derive(Clone, Copy)]
 pub enum NodeKind {
     Function,
     Operator,
@@ -112,7 +113,7 @@ pub enum NodeKind {
 }
 
 // The first token of a type: "20 to 31 the types Bool to Char .. 32 array(length), 33 named(id)".
-#[derive(Drop)]
+#[derive(Clone, Copy)]
 pub enum TypeToken {
     Basic(Primitive),
     Array(u32),
@@ -120,7 +121,7 @@ pub enum TypeToken {
 }
 
 // The first token of a type's definition: "10 enum(id), 11 record(id), 12 alias(id)".
-#[derive(Drop)]
+#[derive(Clone, Copy)]
 pub enum DefinitionToken {
     Enum(u32),
     Record(u32),
@@ -128,7 +129,7 @@ pub enum DefinitionToken {
 }
 
 // The first token of an expression: tags 50 to 71.
-#[derive(Drop)]
+#[derive(Clone, Copy)]
 pub enum ExprToken {
     Const(Literal),
     Var(u32),
@@ -152,7 +153,7 @@ pub enum ExprToken {
 }
 
 // A token of a sheet.
-#[derive(Drop)]
+#[derive(Clone, Copy)]
 pub enum Token {
     Types(u32),
     Nodes(u32),
@@ -167,14 +168,14 @@ pub enum Token {
 }
 
 // The test of a condition: its name is true, or is not.
-#[derive(Drop)]
+#[derive(Clone, Copy)]
 pub enum Test {
     On,
     Not,
 }
 
 // "a condition (name, on or not)".
-#[derive(Drop)]
+#[derive(Clone, Copy)]
 pub struct Condition {
     pub name: u32,
     pub test: Test,
@@ -182,7 +183,7 @@ pub struct Condition {
 
 // "A fault record holds node, fault and equation." Its layout is C's, for callers in C.
 #[repr(C)]
-#[derive(Drop)]
+#[derive(Clone, Copy)]
 pub struct FaultRecord {
     pub node: u32,
     pub fault: u32,
@@ -190,7 +191,7 @@ pub struct FaultRecord {
 }
 
 // Why a sheet is turned down, in checking order, with its place; `Faulty` with the count of all faulty nodes.
-#[derive(Drop)]
+#[derive(Clone, Copy)]
 pub enum Refusal {
     Short,
     Size(usize),

@@ -1,4 +1,6 @@
 // The output's tokens: one written, and what stays of a sheet copied.
+#![tactic(auto)]
+
 ghost use Rattle.std.specs.Prelude.{◌≡◌, [], ◌∷◌, List, ◌++◌, map, ◌-◌, ◌≤◌, ℕ, ◌+◌, ◌<◌, length, take, drop};
 ghost use Rattle.definitions.specs.Bytes.{tokens};
 ghost use Rattle.definitions.specs.Tokens.{tag_value};

@@ -1,6 +1,8 @@
 // The text of a fault, and the lines of all nodes' first faults, of a sheet that stands in the working tables: `given` has the lengths of
 // the sheet's names and `letters` their letters, `starts` where each name's letters start, `names` is how many there are; `tags` and
 // `values` are the sheet's tokens, as long as each other. The working tables are those of crate `first_faults`.
+#![tactic(auto)]
+
 ghost use Rattle.std.specs.Prelude.{◌≡◌, List, ◌∷◌, ℕ, ◌≤◌, ◌+◌, ◌<◌, length};
 ghost use Rattle.definitions.specs.Lists.{sum, Letters};
 ghost use Rattle.definitions.specs.Bytes.{cut, tokens};
@@ -133,7 +135,7 @@ pub fn text_in(
 const LINES: usize = 16384;
 
 // The first node in which too deep a clock is formed; or where the lines end.
-#[derive(Drop)]
+#[derive(Clone, Copy)]
 enum LinesPut {
     Deep(usize),
     Next(usize),

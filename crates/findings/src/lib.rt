@@ -1,4 +1,6 @@
 // Faults by value, and what checking meets in a table.
+#![tactic(auto)]
+
 ghost use Rattle.std.specs.Prelude.{◌≡◌, false, ◌⊎◌, List, [], ◌∷◌, ◌++◌, ℕ, ◌+◌, ◌*◌, ◌≤◌, ◌<◌, length, get_or};
 ghost use Rattle.definitions.specs.InferClocks.{left_elsewhere, used_elsewhere, when_elsewhere, clock_name_elsewhere, undeclared, no_default, no_output_default, not_single_call, pre_untyped, fault_number, Finding, found, site, too_deep, is_too_deep, clock_faults, sites};
 ghost use Rattle.clock_tables.specs.Value.{value_of};
@@ -15,7 +17,7 @@ use definitions::{Condition, Test};
 // ---- A fault by value: which of the nine it is, and what its text says.
 
 // The nine faults, in the order of their numbers.
-#[derive(Drop)]
+#[derive(Clone, Copy)]
 pub enum FaultKind {
     LeftElsewhere,
     UsedElsewhere,
@@ -29,7 +31,7 @@ pub enum FaultKind {
 }
 
 // What a fault says; of the fields, those that its kind has are read.
-#[derive(Drop)]
+#[derive(Clone, Copy)]
 pub struct Fault {
     pub kind: FaultKind,
     pub name: u32,
@@ -171,7 +173,7 @@ const EXPECTED: usize = ON + clock_tables::WORDS;
 const ROW: usize = EXPECTED + clock_tables::WORDS;
 
 // A row's first words: 1 to 4 a fault, 5 a site, 6 too deep a clock; a name; a flag; the equation.
-#[derive(Drop)]
+#[derive(Clone, Copy)]
 pub struct Words {
     pub kind: u32,
     pub name: u32,
@@ -180,7 +182,7 @@ pub struct Words {
 }
 
 // A fault, and its equation.
-#[derive(Drop)]
+#[derive(Clone, Copy)]
 pub struct Found {
     pub fault: Fault,
     pub equation: u32,

@@ -2,6 +2,8 @@
 // `tags` and `values` are as long as each other. `env`, `table` and `sites` are the tables that clocks, findings and sites stand in;
 // `types`, `plan` and `holds` are those that a node is planned in. Planning needs sites alone, so that the clocks with a flag go into
 // `table` then, and those with a first-tick flag into `env`.
+#![tactic(auto)]
+
 ghost use Rattle.std.specs.Prelude.{◌≡◌, List, [], ◌∷◌, ◌++◌, true, false, ℕ, ◌+◌, ◌≤◌, ◌<◌, length, take};
 ghost use Rattle.std.proofs.Math.Option.{none};
 ghost use Rattle.std.proofs.Math.ListN.{get_elem?};
@@ -30,7 +32,7 @@ use plan::Extent;
 use stateless::Counts;
 
 // Whether there is such a fault, in which equation, and which it is.
-#[derive(Drop)]
+#[derive(Clone, Copy)]
 pub struct FaultFound {
     pub found: bool,
     pub equation: u32,
@@ -38,7 +40,7 @@ pub struct FaultFound {
 }
 
 // A node: whether too deep a clock is formed in it, and else a fault of it; and how much is needed, where it was planned without one.
-#[derive(Drop)]
+#[derive(Clone, Copy)]
 pub struct NodeFound {
     pub deep: bool,
     pub fault: FaultFound,

@@ -1,4 +1,6 @@
 // Reading a sheet's tokens: what a tag and a value are, one token at a place, all of them in their order.
+#![tactic(auto)]
+
 ghost use Rattle.std.specs.Prelude.{◌≡◌, ℕ, ◌+◌, ◌≤◌, ◌<◌, eqb, ltb, length};
 ghost use Rattle.std.proofs.Math.Option.{some};
 ghost use Rattle.definitions.specs.declared.ExprToken.{ExprToken};
@@ -21,28 +23,28 @@ use definitions::{
 // ---- The token that a tag and a value are, and the tag and the value that a token has: document 01, "Tags".
 
 // An expression's first token, if there is one.
-#[derive(Drop)]
+#[derive(Clone, Copy)]
 pub enum FoundExpr {
     Token(ExprToken),
     Nothing,
 }
 
 // A type's first token, if there is one.
-#[derive(Drop)]
+#[derive(Clone, Copy)]
 pub enum FoundType {
     Token(TypeToken),
     Nothing,
 }
 
 // A definition's first token, if there is one.
-#[derive(Drop)]
+#[derive(Clone, Copy)]
 pub enum FoundDefinition {
     Token(DefinitionToken),
     Nothing,
 }
 
 // A node's kind, if there is one.
-#[derive(Drop)]
+#[derive(Clone, Copy)]
 pub enum FoundKind {
     Kind(NodeKind),
     Nothing,
@@ -463,7 +465,7 @@ pub fn value_of(t: Token) -> u32
 // No function over a struct that holds references is covered, so `new`, `next` and `token_at` are proved by hand; the work is `step_at`'s.
 
 // The sheet's two arrays, and a place in both.
-#[derive(Drop)]
+#[derive(Clone, Copy)]
 pub struct Reader<'a, 'b> {
     pub tags: &'a [u8],
     pub values: &'b [u32],
@@ -471,7 +473,7 @@ pub struct Reader<'a, 'b> {
 }
 
 // What stands at a place: a token's tag and value, and the next place; or the tokens have ended.
-#[derive(Drop)]
+#[derive(Clone, Copy)]
 pub enum Step {
     Token(u8, u32, usize),
     End,
@@ -525,35 +527,35 @@ const EQUATIONS: u32 = MOST_EQUATIONS as u32;
 const DECLARED: u32 = MOST_DECLARED as u32;
 
 // What a reading says: the next place, or a refusal.
-#[derive(Drop)]
+#[derive(Clone, Copy)]
 pub enum Read {
     Next(usize),
     Refused(Refusal),
 }
 
 // A count and the next place, or a refusal.
-#[derive(Drop)]
+#[derive(Clone, Copy)]
 pub enum Counted {
     Count(u32, usize),
     Refused(Refusal),
 }
 
 // An expression's first token and the next place, or a refusal.
-#[derive(Drop)]
+#[derive(Clone, Copy)]
 pub enum ExprHead {
     Token(ExprToken, usize),
     Refused(Refusal),
 }
 
 // A type's first token and the next place, or a refusal.
-#[derive(Drop)]
+#[derive(Clone, Copy)]
 pub enum TypeHead {
     Token(TypeToken, usize),
     Refused(Refusal),
 }
 
 // A definition's first token and the next place, or a refusal.
-#[derive(Drop)]
+#[derive(Clone, Copy)]
 pub enum DefinitionHead {
     Token(DefinitionToken, usize),
     Refused(Refusal),
@@ -561,7 +563,7 @@ pub enum DefinitionHead {
 
 // What follows an expression's first token: a high word; so many operands; a count and operands; a count and fields;
 // a type and an operand; a count of start values with them, then a count and operands.
-#[derive(Drop)]
+#[derive(Clone, Copy)]
 pub enum Shape {
     Wide,
     Operands(u32),
@@ -572,7 +574,7 @@ pub enum Shape {
 }
 
 // What stands in a list: names, names with their types, labels with their names.
-#[derive(Drop)]
+#[derive(Clone, Copy)]
 enum Item {
     Name,
     Declaration,

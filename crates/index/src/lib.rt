@@ -1,4 +1,6 @@
 // The index of an accepted sheet, and what a called name is by it.
+#![tactic(auto)]
+
 ghost use Rattle.std.specs.Prelude.{◌≡◌, List, ◌≤◌, ℕ, length, get_or};
 ghost use Rattle.definitions.specs.Bytes.{tokens};
 ghost use Rattle.definitions.specs.Tree.{Node};
@@ -18,7 +20,7 @@ use layout::SheetLayout;
 // `places` has the places of the sheet's nodes, `nodes` is how many there are; `names` is the number of names.
 
 // What is called: an operator, with the place of its first output and how many it has; or anything else.
-#[derive(Drop)]
+#[derive(Clone, Copy)]
 pub enum Callee {
     Operator(usize, u32),
     Other,
@@ -119,7 +121,7 @@ pub fn operator_of(
 
 // A sheet: how many names it has and the id of `condact` among them, how many nodes and types' definitions; its layout, where each of
 // these stands, and for each definition 1 if it has a default.
-#[derive(Drop)]
+#[derive(Clone, Copy)]
 pub struct Index {
     pub names: u32,
     pub condact: u32,

@@ -1,6 +1,8 @@
 // What clock inference and checking say of a node, and the first node in which too deep a clock is formed.
 // `tags` and `values` are as long as each other; `names` is the number of names. `env` has seventeen words a name, `marks` a byte
 // and `ports` a word a name, `table` thirty-eight words a token, `sites` seventeen words a token.
+#![tactic(auto)]
+
 ghost use Rattle.std.specs.Prelude.{◌≡◌, List, true, ℕ, ◌*◌, ◌≤◌, ◌<◌, length, get_or};
 ghost use Rattle.std.proofs.Math.Option.{Option};
 ghost use Rattle.definitions.specs.Bytes.{tokens};
@@ -28,21 +30,21 @@ use inference::Inference;
 use layout::NodeLayout;
 
 // Checking so far: too deep a natural clock was formed, or the number of findings.
-#[derive(Drop)]
+#[derive(Clone, Copy)]
 pub enum Tally {
     Deep,
     Count(usize),
 }
 
 // A node: too deep a clock was formed, or the number of passes and that of findings.
-#[derive(Drop)]
+#[derive(Clone, Copy)]
 pub enum NodeClocked {
     Deep,
     Clocked(usize, usize),
 }
 
 // The first of some nodes in which too deep a clock is formed; or where they end.
-#[derive(Drop)]
+#[derive(Clone, Copy)]
 pub enum Deepest {
     Nowhere(usize),
     At(u32),

@@ -1,4 +1,6 @@
 // Natural clocks, and the clocks of a node's names, found in passes.
+#![tactic(auto)]
+
 ghost use Rattle.std.specs.Prelude.{◌≡◌, ℕ, ◌<◌, suc, ◌+◌, ◌*◌, ◌≤◌, length, get_or, set, List, [], ◌∷◌, map, false, true, eqb};
 ghost use Rattle.std.proofs.Math.Option.{none, some};
 ghost use Rattle.definitions.specs.Bytes.{tokens};
@@ -27,14 +29,14 @@ use operands::{Gap, Leaf, Role};
 // `tags` and `values` are as long as each other; `names` is the number of names; `env` has the names' clocks.
 
 // A natural clock, and where what has none ends.
-#[derive(Drop)]
+#[derive(Clone, Copy)]
 struct Found {
     natural: Natural,
     end: usize,
 }
 
 // What tokens tell of a natural clock: there is none; it is a name's; or no more.
-#[derive(Drop)]
+#[derive(Clone, Copy)]
 enum Told {
     Free,
     Name(u32),
@@ -286,14 +288,14 @@ pub fn natural_clock(tags: &[u8], values: &[u32], names: u32, env: &[u32], at: u
 // counts as changed.
 
 // A pass, or an equation in one: too deep a clock was formed, or whether something has changed so far.
-#[derive(Drop)]
+#[derive(Clone, Copy)]
 pub enum Passing {
     Deep,
     Made(bool),
 }
 
 // A node: too deep a clock was formed, or the number of passes made.
-#[derive(Drop)]
+#[derive(Clone, Copy)]
 pub enum Inference {
     Deep,
     Passes(usize),

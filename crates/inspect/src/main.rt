@@ -1,4 +1,6 @@
 // Says what a sheet on standard input has: its sizes, its types and its nodes; or what it is refused for.
+#![tactic(auto)]
+
 ghost use Rattle.std.specs.Prelude.{◌≡◌, ℕ, ◌≤◌, length};
 ghost use Rattle.definitions.specs.Lists.{sum};
 ghost use Rattle.definitions.specs.Bytes.{tokens};
@@ -15,14 +17,14 @@ use parts::Sizes;
 use sheet::SheetAnswer;
 
 // A type's definition in short: its name, what it is, and how many variants or fields it has, 1 for an alias.
-#[derive(Drop)]
+#[derive(Clone, Copy)]
 enum TypeKind {
     Enum,
     Record,
     Alias,
 }
 
-#[derive(Drop)]
+#[derive(Clone, Copy)]
 struct TypeSummary {
     name: u32,
     kind: TypeKind,

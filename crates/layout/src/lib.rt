@@ -1,4 +1,6 @@
 // Where the parts of an accepted sheet stand: its types' definitions, ends, nodes and what these have.
+#![tactic(auto)]
+
 ghost use Rattle.std.specs.Prelude.{◌≡◌, List, ℕ, ◌≤◌, ◌+◌, ◌-◌, length, get_or};
 ghost use Rattle.definitions.specs.Bytes.{tokens};
 ghost use Rattle.definitions.specs.Tree.{TypeDef, Expr, Declared, Equation, Probe, Node, Sheet};
@@ -20,7 +22,7 @@ use grammar::{Counted, DefinitionHead, FoundKind};
 // `tags` and `values` are a sheet's tokens, `names` the number of its names; a table of places holds at most 32.
 
 // A definition: its name, how many variants or fields it has and the first's place; or its name and its type's place.
-#[derive(Drop)]
+#[derive(Clone, Copy)]
 pub enum Defined {
     Enum(u32, u32, usize),
     Record(u32, u32, usize),
@@ -276,7 +278,7 @@ pub fn equations_use_clocks(tags: &[u8], values: &[u32], n: u32, at: usize) -> b
 // `tags` and `values` are as long as each other; `names` is the number of names. Where nothing was read, an answer says nothing.
 
 // A list behind its count: where its first item stands, how many there are, and the place after the last.
-#[derive(Drop)]
+#[derive(Clone, Copy)]
 pub struct Span {
     pub at: usize,
     pub count: u32,
@@ -284,7 +286,7 @@ pub struct Span {
 }
 
 // A node: its name and kind, its lists, and the place after it.
-#[derive(Drop)]
+#[derive(Clone, Copy)]
 pub struct NodeLayout {
     pub name: u32,
     pub kind: NodeKind,
@@ -297,7 +299,7 @@ pub struct NodeLayout {
 }
 
 // An equation: its left names, where its right side stands, and the place after it.
-#[derive(Drop)]
+#[derive(Clone, Copy)]
 pub struct EquationLayout {
     pub left: Span,
     pub right: usize,
@@ -305,7 +307,7 @@ pub struct EquationLayout {
 }
 
 // A sheet: its types' definitions, and its nodes.
-#[derive(Drop)]
+#[derive(Clone, Copy)]
 pub struct SheetLayout {
     pub types: Span,
     pub nodes: Span,

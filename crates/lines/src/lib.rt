@@ -1,4 +1,6 @@
 // Texts of faults and lines of a listing, and a node's listing.
+#![tactic(auto)]
+
 ghost use Rattle.std.specs.Prelude.{◌∷◌, ◌++◌, List, map, ◌≤◌, ◌<◌, ℕ, ◌+◌, ◌*◌, min, length, ◌≡◌};
 ghost use Rattle.definitions.specs.Lists.{bytes, decimal, join, numbered};
 ghost use Rattle.definitions.specs.Texts.{when_text, test_sign, quoted, condition_text, clock_text, fault_text, clock_key, fault_line};
@@ -27,7 +29,7 @@ use layout::{NodeLayout, Span};
 // ---- The texts of faults, and the lines of a listing, put at a place of lent bytes.
 
 // Whether a text was written, or so many bytes are needed.
-#[derive(Drop)]
+#[derive(Clone, Copy)]
 pub enum Lending {
     Written(usize),
     Lent(usize),
@@ -398,7 +400,7 @@ pub fn text_into(out: &mut [u8], starts: &[u32], letters: &[u8], f: Fault) -> Le
 // equation in the row of its first token.
 
 // A node: its layout and its number, how many names its sheet has, and how many passes and findings clock inference told.
-#[derive(Drop)]
+#[derive(Clone, Copy)]
 pub struct Told {
     pub layout: NodeLayout,
     pub number: usize,

@@ -2,6 +2,8 @@
 // `letters`, `names` how many there are; `tags` and `values` are the sheet's tokens, as long as each other. The tables are lent from
 // above: `env` for the clocks of names, `table` for what is found in equations, `rows` and `chain` for chains and their order, `sites` for
 // the clocks of equations.
+#![tactic(auto)]
+
 ghost use Rattle.std.specs.Prelude.{◌≡◌, List, ℕ, ◌≤◌, length};
 ghost use Rattle.definitions.specs.Bytes.{tokens};
 ghost use Rattle.definitions.specs.Tree.{Node};
@@ -23,14 +25,14 @@ use query::{ListingsPut, NodeAnswer, NodeCounts};
 const ASIDE: usize = 65536;
 
 // A node's name, passes and counts, or turned down.
-#[derive(Drop)]
+#[derive(Clone, Copy)]
 pub enum ClocksAnswer {
     Clocks(NodeCounts),
     Refused(Refusal),
 }
 
 // The number of bytes written, or turned down.
-#[derive(Drop)]
+#[derive(Clone, Copy)]
 pub enum ListingAnswer {
     Written(usize),
     Refused(Refusal),

@@ -1,4 +1,6 @@
 // A node's new names: their numbers and ids, the node's working tables, and the output's names with them.
+#![tactic(auto)]
+
 ghost use Rattle.std.specs.Prelude.{◌≡◌, List, ◌++◌, map, ℕ, ◌+◌, ◌≤◌, ◌<◌, length, take, true, false};
 ghost use Rattle.definitions.specs.Lists.{Letters, decimal};
 ghost use Rattle.definitions.specs.Bytes.{tokens};
@@ -32,7 +34,7 @@ use spelling::{Counts, StemName};
 // full stays full: there are then no places for the names that it is to hold (`Holds`).
 
 // How many flags and first-tick flags stand in chain order, how many holds there are, and whether `condact` is needed.
-#[derive(Drop)]
+#[derive(Clone, Copy)]
 pub struct Locals {
     pub flags: usize,
     pub firsts: usize,
@@ -264,7 +266,7 @@ pub fn fill_ids(
 const NAMES: u32 = MOST_NAMES as u32;
 
 // How many rows the tables have, how many names of each kind the node adds; full, where that is too many.
-#[derive(Drop)]
+#[derive(Clone, Copy)]
 pub struct Tables {
     pub rows: stateless::Counts,
     pub locals: Locals,

@@ -1,5 +1,7 @@
 // The plan of a node's equations, in order: of each its right side, then what the flag of its clock needs, and its own word at its count
 // token: 0, or the row of its flag and one more. The arrays are those of crate `plan`; `condact` is the id of `condact`.
+#![tactic(auto)]
+
 ghost use Rattle.std.specs.Prelude.{◌≡◌, List, false, ℕ, ◌*◌, ◌≤◌, ◌<◌, length, get_or};
 ghost use Rattle.definitions.specs.Bytes.{tokens};
 ghost use Rattle.definitions.specs.Lists.{or_else};
@@ -33,7 +35,7 @@ use stateless::Counts;
 use typing::{After, TypeFound};
 
 // What left names and a right side meet under a flag: nothing, or one of the faults 5, 6 and 8.
-#[derive(Drop)]
+#[derive(Clone, Copy)]
 pub enum Met {
     Nothing,
     Undeclared(u32),
@@ -42,14 +44,14 @@ pub enum Met {
 }
 
 // Whether a fault was met, and which.
-#[derive(Drop)]
+#[derive(Clone, Copy)]
 pub struct Told {
     pub found: bool,
     pub fault: Fault,
 }
 
 // What planning a node met, in which equation, and how much is needed.
-#[derive(Drop)]
+#[derive(Clone, Copy)]
 pub struct Outcome {
     pub met: Told,
     pub equation: u32,

@@ -1,6 +1,8 @@
 // The uniform view of an expression of an accepted sheet: what it does, and where its operands stand.
 // `tags` and `values` are as long as each other; `names` is the number of names. Answers for tokens that no expression
 // was read from say nothing.
+#![tactic(auto)]
+
 ghost use Rattle.std.specs.Prelude.{◌≡◌, ℕ, length, get_or};
 ghost use Rattle.definitions.specs.Bytes.{tokens};
 ghost use Rattle.definitions.specs.Tree.{Expr, Exprs};
@@ -17,7 +19,7 @@ use definitions::{ARRAY_LEVELS, Condition, ExprToken, MOST_ITEMS, Test};
 use grammar::{Counted, ExprHead, Read, Shape};
 
 // What an expression does.
-#[derive(Drop)]
+#[derive(Clone, Copy)]
 pub enum Role {
     Constant,
     Name(u32),
@@ -31,7 +33,7 @@ pub enum Role {
 }
 
 // What stands among operands besides themselves: nothing; a name before each; a count behind the first.
-#[derive(Drop)]
+#[derive(Clone, Copy)]
 pub enum Gap {
     Nothing,
     Names,
@@ -39,7 +41,7 @@ pub enum Gap {
 }
 
 // Where operands begin, with what stands before the first of them, and how many there are.
-#[derive(Drop)]
+#[derive(Clone, Copy)]
 pub struct Operands {
     pub first: usize,
     pub count: u32,
@@ -47,7 +49,7 @@ pub struct Operands {
 }
 
 // An expression: what it does, and its operands.
-#[derive(Drop)]
+#[derive(Clone, Copy)]
 pub struct View {
     pub role: Role,
     pub first: usize,
@@ -56,14 +58,14 @@ pub struct View {
 }
 
 // Where the operands after one begin, with their gap.
-#[derive(Drop)]
+#[derive(Clone, Copy)]
 pub struct Rest {
     pub next: usize,
     pub gap: Gap,
 }
 
 // An operand's place, and where the operands after it begin, with their gap.
-#[derive(Drop)]
+#[derive(Clone, Copy)]
 pub struct Operand {
     pub at: usize,
     pub next: usize,
@@ -71,7 +73,7 @@ pub struct Operand {
 }
 
 // A leaf, with where it ends: a name; a constant; or an expression that is none.
-#[derive(Drop)]
+#[derive(Clone, Copy)]
 pub enum Leaf {
     Name(u32, usize),
     Constant(usize),

@@ -1,4 +1,6 @@
 // A sheet's bytes: its names checked, its parts read into working arrays, and names and tokens back to bytes.
+#![tactic(auto)]
+
 ghost use Rattle.std.specs.Prelude.{◌≡◌, [], map, ◌&&◌, ◌||◌, not, leb, ◌+◌, ◌*◌, ◌/◌, ◌%◌, ◌≤◌, ◌<◌, ◌^◌, length, take, drop};
 ghost use Rattle.definitions.specs.Lists.{sum, any, same_letters, over, join};
 ghost use Rattle.definitions.specs.Bytes.{is_letter, is_digit, well_formed, bad_name, cut, four_byte_words, parts, tokens};
@@ -258,7 +260,7 @@ fn first_bad(lengths: &[u8], letters: &[u8]) -> usize
 // ---- A sheet's sizes, length and names are checked, and its tokens go into working arrays.
 
 // The three sizes: "names M, letters L, tokens T".
-#[derive(Drop)]
+#[derive(Clone, Copy)]
 pub struct Sizes {
     pub names: usize,
     pub letters: usize,
@@ -266,7 +268,7 @@ pub struct Sizes {
 }
 
 // Accepted, with the sizes, or turned down.
-#[derive(Drop)]
+#[derive(Clone, Copy)]
 pub enum PartsAnswer {
     Parts(Sizes),
     Refused(Refusal),
@@ -421,7 +423,7 @@ pub fn read_parts(
 // ---- Names and tokens back to the bytes of a sheet.
 
 // The bytes are written, so many of them; or the caller's are too few, and so many are needed.
-#[derive(Drop)]
+#[derive(Clone, Copy)]
 pub enum Written {
     Done(usize),
     Lent(usize),

@@ -3,6 +3,8 @@
 // the row of its token; `places` has the places of the sheet's nodes, `defs` those of its types' definitions; byte i of `has` says whether
 // definition i has a default; `types` has the types of the node's names. `plan` gets a word a token, `flags` and `firsts` the clocks with
 // flags, `holds` two words a hold: where its operand stands, and the row of its flag. `tally` counts, and has the fault.
+#![tactic(auto)]
+
 ghost use Rattle.std.specs.Prelude.{◌≡◌, List, true, false, ℕ, suc, ◌+◌, ◌*◌, ◌≤◌, ◌<◌, eqb, length, get_or, set};
 ghost use Rattle.definitions.specs.Bytes.{tokens};
 ghost use Rattle.definitions.specs.Tree.{Declared, TypeDef, Expr, Node};
@@ -30,7 +32,7 @@ use index::Callee;
 use typing::TypeFound;
 
 // How many names, nodes and types' definitions a sheet has.
-#[derive(Drop)]
+#[derive(Clone, Copy)]
 pub struct Extent {
     pub names: u32,
     pub nodes: usize,
@@ -38,7 +40,7 @@ pub struct Extent {
 }
 
 // Whether an output lacks a default, and which.
-#[derive(Drop)]
+#[derive(Clone, Copy)]
 enum Lack {
     Nothing,
     Output(u32),

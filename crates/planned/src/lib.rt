@@ -1,4 +1,6 @@
 // A planned node as tokens: its expressions, holds, left names, what stands around a right side, its equations.
+#![tactic(auto)]
+
 ghost use Rattle.std.specs.Prelude.{◌≡◌, List, [], ◌∷◌, map, ℕ, ◌+◌, ◌-◌, ◌≤◌, ◌<◌, ◌*◌, length, get_or};
 ghost use Rattle.std.proofs.Math.Option.{none, some};
 ghost use Rattle.definitions.specs.Bytes.{tokens};
@@ -45,7 +47,7 @@ use typing::TypeFound;
 // written.
 
 // How many names, nodes and type definitions there are; the id of `condact`.
-#[derive(Drop)]
+#[derive(Clone, Copy)]
 pub struct Sizes {
     pub names: u32,
     pub nodes: usize,
@@ -55,7 +57,7 @@ pub struct Sizes {
 
 // What becomes of a token and its parts: it stays; its part alone does; a choice by a name between its two parts; the `pre` of a name,
 // its part being written elsewhere; a call that is gated under a flag.
-#[derive(Drop)]
+#[derive(Clone, Copy)]
 pub enum Plan {
     Stay,
     Drop,
@@ -65,7 +67,7 @@ pub enum Plan {
 }
 
 // Where the next token goes, and where what was walked ends.
-#[derive(Drop)]
+#[derive(Clone, Copy)]
 pub struct Walked {
     pub next: usize,
     pub end: usize,
@@ -73,7 +75,7 @@ pub struct Walked {
 
 // Where the next token goes, how many parts are to be written and from where on, and where the outputs are declared whose defaults stand
 // behind them, and how many.
-#[derive(Drop)]
+#[derive(Clone, Copy)]
 pub struct Opened {
     pub next: usize,
     pub many: u32,
@@ -814,7 +816,7 @@ fn put_left(
 // names; `flag_ids` has the ids of flags by row. `otags` and `ovalues` are the output's tokens, of which w are written.
 
 // What stands around a right side: nothing; a choice by this flag between it and the left name's last value; a gate under this flag.
-#[derive(Drop)]
+#[derive(Clone, Copy)]
 pub enum Frame {
     Plain,
     Choose(u32),

@@ -1,6 +1,8 @@
 // What the questions on a sheet's nodes are answered from, over the working tables: a node found and clocked, its clocks and faults
 // as words, the listings of all nodes. `tags` and `values` are as long as each other; `names` is the number of names. `sites` has seventeen
 // words for each token: clocking puts the clock of each equation in the row of its first token.
+#![tactic(auto)]
+
 ghost use Rattle.std.specs.Prelude.{◌≡◌, List, [], ◌∷◌, map, ℕ, ◌+◌, ◌*◌, ◌/◌, ◌≤◌, ◌<◌, length, get_or, ltb};
 ghost use Rattle.definitions.specs.Bytes.{tokens};
 ghost use Rattle.definitions.specs.Lists.{choose};
@@ -29,14 +31,14 @@ use layout::{NodeLayout, Span};
 use lines::Told;
 
 // A node laid out and clocked, or turned down.
-#[derive(Drop)]
+#[derive(Clone, Copy)]
 pub enum NodeAnswer {
     Node(Told),
     Refused(Refusal),
 }
 
 // A node's name and passes, and how many equations, chains and clock faults it has.
-#[derive(Drop)]
+#[derive(Clone, Copy)]
 pub struct NodeCounts {
     pub name: u32,
     pub passes: usize,
@@ -46,7 +48,7 @@ pub struct NodeCounts {
 }
 
 // Listings put: how long they are; or the first node in which too deep a clock is formed.
-#[derive(Drop)]
+#[derive(Clone, Copy)]
 pub enum ListingsPut {
     Deep(usize),
     Size(usize),

@@ -1,6 +1,8 @@
 // The questions that are asked of a sheet, and the one way down to their answers: the sheet's bytes are read, its names, letters and tokens
 // cut, the working tables made, and the question's own arm answers from these; a sheet without clocks that is to be rewritten is copied.
 // Each question has an entry point, which lends what its question needs. What is answered and written is said for all inputs.
+#![tactic(auto)]
+
 ghost use Rattle.std.specs.Prelude.{◌≡◌, false, List, ℕ, ◌≤◌, ◌<◌, ◌^◌, length, take};
 ghost use Rattle.definitions.specs.Lists.{sum, any};
 ghost use Rattle.definitions.specs.Bytes.{lengths, letters, cut, tokens};
@@ -34,7 +36,7 @@ const SMALL_NAMES: u32 = SMALL_TOKENS as u32;
 
 // A question: the sheet on one base tick; the clocks of a node; the listing of a node; the listings of all nodes; the text of a fault, by
 // its node and its place among the node's faults; the lines of all nodes' first faults.
-#[derive(Drop)]
+#[derive(Clone, Copy)]
 pub enum Question {
     Rewrite,
     Clocks(usize),
@@ -45,7 +47,7 @@ pub enum Question {
 }
 
 // The number of bytes written; or a node's name, passes and counts; or turned down.
-#[derive(Drop)]
+#[derive(Clone, Copy)]
 pub enum Reply {
     Written(usize),
     Clocks(NodeCounts),

@@ -1,4 +1,6 @@
 // The refusals of document 01: each one's number, place and count, and the lines that tell it with its reason.
+#![tactic(auto)]
+
 ghost use Rattle.std.specs.Prelude.{◌≡◌, ◌∷◌, ◌≤◌, ◌<◌, length};
 ghost use Rattle.definitions.specs.Lists.{decimal};
 ghost use Rattle.definitions.specs.Refusals.{number, place, fault_count};

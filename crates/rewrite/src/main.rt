@@ -1,4 +1,6 @@
 // Rewrites the sheet on standard input to run on one base tick; or says what it is refused for.
+#![tactic(auto)]
+
 use arguments::Word;
 use declock_project::RewriteAnswer;
 use definitions::Refusal;

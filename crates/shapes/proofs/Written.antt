@@ -364,9 +364,9 @@ abbrev sizes_of : {A : Type 0} → (A → ℕ) → List A → ℕ
 sizes_of f [] = 0
 sizes_of f (a ∷ l) = f a + sizes_of f l
 
-size_in : {A : Type 0} (f : A → ℕ) (l : List A) (a : A) → Memᴰ a l → f a ≤ sizes_of f l
-size_in f l a (Memᴰ.head {x = b} {xs = r} e) = let p : f a ≡ f b = ap f e in omega arith
-size_in f l a (Memᴰ.tail {x = b} {xs = r} m) = let p = size_in f r a m in omega arith
+size_in : {A : Type 0} (f : A → ℕ) (a : A) (l : List A) → Memᴰ a l → f a ≤ sizes_of f l
+size_in f a l (Memᴰ.head {x = b} {xs = r} e) = let p : f a ≡ f b = ap f e in omega arith
+size_in f a l (Memᴰ.tail {x = b} {xs = r} m) = let p = size_in f a r m in omega arith
 
 abbrev types_size : List Declared → ℕ
 types_size ds = sizes_of (λ d. depth_ty d.type) ds
@@ -375,10 +375,10 @@ abbrev node_size : Node → ℕ
 node_size n = types_size n.inputs + types_size n.outputs + types_size n.locals + sizes_of (λ e. size e.right) n.equations
 
 declareds-back : (d : ℕ) (ds : List Declared) → All (ShapedDeclared words) ds → types_size ds ≤ d → Back (counted_tokens declared_tokens) (counted_by (read_declared d)) ds
-declareds-back d ds s l = counted_back declared_tokens (read_declared d) ds (λ x m. let p = size_in (λ d. depth_ty d.type) ds x m in declared-back d x (s x m).0 (omega arith))
+declareds-back d ds s l = counted_back declared_tokens (read_declared d) ds (λ x m. let p = size_in (λ d. depth_ty d.type) x ds m in declared-back d x (s x m).0 (omega arith))
 
 equations-back : (d : ℕ) (es : List Equation) → All (ShapedEquation words) es → sizes_of (λ e. size e.right) es ≤ d → Back (counted_tokens equation_tokens) (counted_by (read_equation d)) es
-equations-back d es s l = counted_back equation_tokens (read_equation d) es (λ e m. let p = size_in (λ e. size e.right) es e m in equation-back d e (s e m).0 (omega arith))
+equations-back d es s l = counted_back equation_tokens (read_equation d) es (λ e m. let p = size_in (λ e. size e.right) e es m in equation-back d e (s e m).0 (omega arith))
 
 probes-back : (ps : List Probe) → Back (counted_tokens probe_tokens) (counted_by read_probe) ps
 probes-back ps = counted_back probe_tokens read_probe ps (λ p m r. refl)
@@ -439,10 +439,10 @@ sheet-back d s h l r =
     let k : List TypeDef → Read Sheet = λ tys ts. counted_by (read_node d) ts then λ ns ts. some (record { types = tys; nodes = ns }, ts) in
     let rest : List Token = Token.Nodes (length s.nodes) ∷ join (map node_tokens s.nodes) in
     let a : ◌≡◌ {A = Option (List Node × List Token)} (times (length s.nodes) (read_node d) (join (map node_tokens s.nodes) ++ r)) (some (s.nodes, r))
-    = times-back node_tokens (read_node d) s.nodes (λ n m. let p = size_in node_size s.nodes n m in node-back d n (h.nodes n m) (omega arith)) r in
+    = times-back node_tokens (read_node d) s.nodes (λ n m. let p = size_in node_size n s.nodes m in node-back d n (h.nodes n m) (omega arith)) r in
     let b : ◌≡◌ {A = Option (Sheet × List Token)} (k s.types (rest ++ r)) (some (s, r)) = ap (λ (z : Option (List Node × List Token)). z then λ ns ts. some (record { types = s.types; nodes = ns }, ts)) a in
     part-back (λ l. join (map f l)) (times (length s.types) (read_definition d)) s.types
-    (times-back f (read_definition d) s.types (λ x m. let p = size_in (λ d. body_size d.body) s.types x m in definition-back d x (h.types x m).0 (omega arith))) rest r k s b
+    (times-back f (read_definition d) s.types (λ x m. let p = size_in (λ d. body_size d.body) x s.types m in definition-back d x (h.types x m).0 (omega arith))) rest r k s b
 
 -- two sheets with the same tokens are the same
 pub tokens-once : (s s' : Sheet) → ShapedSheet s → ShapedSheet s' → sheet_tokens s ≡ sheet_tokens s' → s ≡ s'

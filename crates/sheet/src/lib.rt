@@ -1,4 +1,6 @@
 // A sheet's bytes are read: refusals 1 to 7, in checking order, of document 01, or its tokens stand in the working arrays.
+#![tactic(auto)]
+
 ghost use Rattle.std.specs.Prelude.{◌≡◌, List, ℕ, ◌≤◌, ◌<◌, ◌^◌, length, take};
 ghost use Rattle.definitions.specs.Bytes.{tokens};
 ghost use Rattle.definitions.specs.Lists.{any};
@@ -14,14 +16,14 @@ use grammar::Read;
 use parts::{PartsAnswer, Sizes};
 
 // Accepted, with the sizes, or turned down.
-#[derive(Drop)]
+#[derive(Clone, Copy)]
 pub enum SheetAnswer {
     Sheet(Sizes),
     Refused(Refusal),
 }
 
 // Refusals 5 to 7 do not apply, or one does.
-#[derive(Drop)]
+#[derive(Clone, Copy)]
 pub enum Checked {
     Fine,
     Refused(Refusal),

@@ -1,4 +1,6 @@
 // Letters put at a place of lent bytes, and tables of names.
+#![tactic(auto)]
+
 ghost use Rattle.std.specs.Prelude.{◌≡◌, [], ◌∷◌, ◌++◌, List, map, ◌+◌, ◌≤◌, min, ◌^◌, ◌<◌, length, get_or};
 ghost use Rattle.definitions.specs.Lists.{decimal, sum, any, same_letters, Letters, bytes};
 ghost use Rattle.definitions.specs.Output.{stem_letters, id_of, condact_id, add_name};
@@ -14,7 +16,7 @@ use definitions::NAME_LETTERS;
 // ---- The letters of new names and of texts, put at a place of lent bytes.
 
 // The three stems of new names.
-#[derive(Drop)]
+#[derive(Clone, Copy)]
 pub enum StemName {
     Ck,
     First,
@@ -109,14 +111,14 @@ fn put_new_name(out: &mut [u8], at: usize, stem: StemName, number: u32) -> usize
 // ---- Tables of names: where a name's letters stand, its id, a name added, the next number free for a new name.
 
 // Where a name's letters stand.
-#[derive(Drop)]
+#[derive(Clone, Copy)]
 pub struct Span {
     pub from: usize,
     pub to: usize,
 }
 
 // How many names and letters a table has; full, where a name had no place.
-#[derive(Drop)]
+#[derive(Clone, Copy)]
 pub struct Counts {
     pub names: usize,
     pub letters: usize,

@@ -1,4 +1,6 @@
 // What rewriting needs, meets and yields, without a state.
+#![tactic(auto)]
+
 ghost use Rattle.std.specs.Prelude.{◌≡◌, ◌*◌, ◌≤◌, length, get_or};
 ghost use Rattle.definitions.specs.Declock.{clock_place};
 ghost use Rattle.clock_tables.specs.Value.{value_of};
@@ -10,7 +12,7 @@ use clock_tables::Clock;
 // with a first-tick flag, in two tables; how many holds; whether `condact`.
 
 // How many clocks each table has, how many holds there are, whether `condact` is needed.
-#[derive(Drop)]
+#[derive(Clone, Copy)]
 pub struct Counts {
     pub flags: usize,
     pub firsts: usize,
@@ -19,7 +21,7 @@ pub struct Counts {
 }
 
 // What an expression needs for itself, its operands apart: nothing; a flag and a hold; both flags; a flag and `condact`.
-#[derive(Drop)]
+#[derive(Clone, Copy)]
 pub enum Turn {
     Keep,
     Hold,

@@ -1,4 +1,6 @@
 // Prints the text of one fault of a node of the sheet on standard input; or what it is refused for.
+#![tactic(auto)]
+
 use arguments::Word;
 use definitions::Refusal;
 use libc::{STDERR_FILENO, STDIN_FILENO, STDOUT_FILENO};

@@ -1,4 +1,6 @@
 // The types of names and operands, and what an expression is after rewriting.
+#![tactic(auto)]
+
 ghost use Rattle.std.specs.Prelude.{◌≡◌, List, ◌++◌, ℕ, suc, ◌≤◌, ◌<◌, length, get_or, set};
 ghost use Rattle.std.proofs.Math.Option.{Option};
 ghost use Rattle.definitions.specs.Bytes.{tokens};
@@ -25,7 +27,7 @@ use operands::Role;
 // `types` has a word a name: 0, or the place of the type of its last declaration and one more.
 
 // A type: by its place among the tokens; a literal's; or none.
-#[derive(Drop)]
+#[derive(Clone, Copy)]
 pub enum TypeFound {
     At(usize),
     Basic(Primitive),
@@ -229,7 +231,7 @@ pub fn type_of(tags: &[u8], values: &[u32], names: u32, types: &[u32], at: usize
 // the id of `condact`.
 
 // A bare name; a call of this node; anything else.
-#[derive(Drop)]
+#[derive(Clone, Copy)]
 pub enum After {
     Bare,
     Other,

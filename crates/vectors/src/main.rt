@@ -1,5 +1,7 @@
 // Replays the fixed list on standard input: `vectors/README.md` says how a line is made. Each sheet is read, and must be refused under 1 to 7
 // as listed or not at all; each answer is spelled as the list does and compared byte for byte. A line that is answered otherwise is told.
+#![tactic(auto)]
+
 ghost use Rattle.std.specs.Prelude.{◌≡◌, ◌+◌, ◌≤◌, ◌<◌, min, length};
 ghost use Rattle.arguments.specs.Words.{meaning_of};
 ghost use Rattle.spelling.specs.Writing.{Put, farthest};
@@ -14,7 +16,7 @@ use query::NodeCounts;
 use sheet::SheetAnswer;
 
 // What is replayed: sheets that the list refuses under 1 to 7, the other sheets, and the three questions.
-#[derive(Drop)]
+#[derive(Clone, Copy)]
 enum Kind {
     Refusals,
     Sheets,
@@ -24,7 +26,7 @@ enum Kind {
 }
 
 // What is said of a line: of another kind, answered as listed, or otherwise.
-#[derive(Drop)]
+#[derive(Clone, Copy)]
 enum Verdict {
     Passed,
     Same,
@@ -32,14 +34,14 @@ enum Verdict {
 }
 
 // How many lines of a kind there are, and how many are answered otherwise.
-#[derive(Drop)]
+#[derive(Clone, Copy)]
 struct Tally {
     all: u64,
     other: u64,
 }
 
 // A refusal's number and place; 0 and 0 for none.
-#[derive(Drop)]
+#[derive(Clone, Copy)]
 struct Told {
     number: usize,
     place: usize,

@@ -1,4 +1,6 @@
 // Numbers of one width as numbers of another, and the lesser of two.
+#![tactic(auto)]
+
 ghost use Rattle.std.specs.Prelude.{◌≡◌, ◌<◌, ◌^◌, min};
 
 // A word as a place or a count.

@@ -13,16 +13,16 @@ use borrow.Fn.Kinds.{In}
 use borrow.Fn.PlainCycle.{Measures, is, falls, and}
 use Rattle.planned.proofs.expr.Reads as expr
 use Rattle.planned.proofs.expr.Kinds as expr-kinds
-use Rattle.planned.proofs.+expr_exprs.Lts-expr as expr-lts
+use Rattle.planned.proofs.+walk.Lts-expr as expr-lts
 use Rattle.planned.proofs.exprs.Reads as exprs
 use Rattle.planned.proofs.exprs.Kinds as exprs-kinds
-use Rattle.planned.proofs.+expr_exprs.Lts-exprs as exprs-lts
+use Rattle.planned.proofs.+walk.Lts-exprs as exprs-lts
 use Rattle.planned.proofs.opening.Reads as opening-reads
 use Rattle.planned.proofs.plan_of.Reads as plan-of-reads
 use Rattle.planned.proofs.put_defaults.Reads as put-defaults-reads
 use Rattle.clock_tables.proofs.word_at.Reads as word-at-reads
-use Rattle.planned.proofs.+expr_exprs.{statement}
-use Rattle.planned.proofs.+expr_exprs.Tie.{close}
+use Rattle.planned.proofs.+walk.{statement}
+use Rattle.planned.proofs.+walk.Tie.{close}
 
 abbrev μ-expr : Measures 11 expr-kinds.ps ℕ
 μ-expr κs a = 2 * (2 ^ 64 - a.1.1.1.1.1.1.1.1.1.1.1.1.1.0)

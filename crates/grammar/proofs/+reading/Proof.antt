@@ -11,28 +11,28 @@ use borrow.Fn.Kinds.{In}
 use borrow.Fn.PlainCycle.{Measures, is, falls, and}
 use Rattle.grammar.proofs.read_cast.Reads as read-cast
 use Rattle.grammar.proofs.read_cast.Kinds as read-cast-kinds
-use Rattle.grammar.proofs.+read_cast_read_expr_read_exprs_read_fields_read_following_read_items_read_iteration_read_record.Lts-read_cast as read-cast-lts
+use Rattle.grammar.proofs.+reading.Lts-read_cast as read-cast-lts
 use Rattle.grammar.proofs.read_expr.Reads as read-expr
 use Rattle.grammar.proofs.read_expr.Kinds as read-expr-kinds
-use Rattle.grammar.proofs.+read_cast_read_expr_read_exprs_read_fields_read_following_read_items_read_iteration_read_record.Lts-read_expr as read-expr-lts
+use Rattle.grammar.proofs.+reading.Lts-read_expr as read-expr-lts
 use Rattle.grammar.proofs.read_exprs.Reads as read-exprs
 use Rattle.grammar.proofs.read_exprs.Kinds as read-exprs-kinds
-use Rattle.grammar.proofs.+read_cast_read_expr_read_exprs_read_fields_read_following_read_items_read_iteration_read_record.Lts-read_exprs as read-exprs-lts
+use Rattle.grammar.proofs.+reading.Lts-read_exprs as read-exprs-lts
 use Rattle.grammar.proofs.read_fields.Reads as read-fields
 use Rattle.grammar.proofs.read_fields.Kinds as read-fields-kinds
-use Rattle.grammar.proofs.+read_cast_read_expr_read_exprs_read_fields_read_following_read_items_read_iteration_read_record.Lts-read_fields as read-fields-lts
+use Rattle.grammar.proofs.+reading.Lts-read_fields as read-fields-lts
 use Rattle.grammar.proofs.read_following.Reads as read-following
 use Rattle.grammar.proofs.read_following.Kinds as read-following-kinds
-use Rattle.grammar.proofs.+read_cast_read_expr_read_exprs_read_fields_read_following_read_items_read_iteration_read_record.Lts-read_following as read-following-lts
+use Rattle.grammar.proofs.+reading.Lts-read_following as read-following-lts
 use Rattle.grammar.proofs.read_items.Reads as read-items
 use Rattle.grammar.proofs.read_items.Kinds as read-items-kinds
-use Rattle.grammar.proofs.+read_cast_read_expr_read_exprs_read_fields_read_following_read_items_read_iteration_read_record.Lts-read_items as read-items-lts
+use Rattle.grammar.proofs.+reading.Lts-read_items as read-items-lts
 use Rattle.grammar.proofs.read_iteration.Reads as read-iteration
 use Rattle.grammar.proofs.read_iteration.Kinds as read-iteration-kinds
-use Rattle.grammar.proofs.+read_cast_read_expr_read_exprs_read_fields_read_following_read_items_read_iteration_read_record.Lts-read_iteration as read-iteration-lts
+use Rattle.grammar.proofs.+reading.Lts-read_iteration as read-iteration-lts
 use Rattle.grammar.proofs.read_record.Reads as read-record
 use Rattle.grammar.proofs.read_record.Kinds as read-record-kinds
-use Rattle.grammar.proofs.+read_cast_read_expr_read_exprs_read_fields_read_following_read_items_read_iteration_read_record.Lts-read_record as read-record-lts
+use Rattle.grammar.proofs.+reading.Lts-read_record as read-record-lts
 use Rattle.grammar.proofs.var_end.Reads as var-end-reads
 use Rattle.grammar.proofs.expr_head.Reads as expr-head-reads
 use Rattle.grammar.proofs.read_count.Reads as read-count-reads
@@ -40,10 +40,10 @@ use Rattle.grammar.proofs.read_high.Reads as read-high-reads
 use Rattle.grammar.proofs.read_name.Reads as read-name-reads
 use Rattle.grammar.proofs.read_type.Reads as read-type-reads
 use Rattle.grammar.proofs.shape_of.Reads as shape-of-reads
-use Rattle.grammar.proofs.+read_cast_read_expr_read_exprs_read_fields_read_following_read_items_read_iteration_read_record.{
+use Rattle.grammar.proofs.+reading.{
   statement,
 }
-use Rattle.grammar.proofs.+read_cast_read_expr_read_exprs_read_fields_read_following_read_items_read_iteration_read_record.Tie.{
+use Rattle.grammar.proofs.+reading.Tie.{
   close,
 }
 

@@ -13,22 +13,22 @@ use borrow.Fn.Kinds.{In}
 use borrow.Fn.PlainCycle.{Measures, is, falls, and}
 use Rattle.checking.proofs.check_branch.Reads as check-branch
 use Rattle.checking.proofs.check_branch.Kinds as check-branch-kinds
-use Rattle.checking.proofs.+check_branch_check_expr_check_exprs_check_merge_check_over_check_sample.Lts-check_branch as check-branch-lts
+use Rattle.checking.proofs.+checks.Lts-check_branch as check-branch-lts
 use Rattle.checking.proofs.check_expr.Reads as check-expr
 use Rattle.checking.proofs.check_expr.Kinds as check-expr-kinds
-use Rattle.checking.proofs.+check_branch_check_expr_check_exprs_check_merge_check_over_check_sample.Lts-check_expr as check-expr-lts
+use Rattle.checking.proofs.+checks.Lts-check_expr as check-expr-lts
 use Rattle.checking.proofs.check_exprs.Reads as check-exprs
 use Rattle.checking.proofs.check_exprs.Kinds as check-exprs-kinds
-use Rattle.checking.proofs.+check_branch_check_expr_check_exprs_check_merge_check_over_check_sample.Lts-check_exprs as check-exprs-lts
+use Rattle.checking.proofs.+checks.Lts-check_exprs as check-exprs-lts
 use Rattle.checking.proofs.check_merge.Reads as check-merge
 use Rattle.checking.proofs.check_merge.Kinds as check-merge-kinds
-use Rattle.checking.proofs.+check_branch_check_expr_check_exprs_check_merge_check_over_check_sample.Lts-check_merge as check-merge-lts
+use Rattle.checking.proofs.+checks.Lts-check_merge as check-merge-lts
 use Rattle.checking.proofs.check_over.Reads as check-over
 use Rattle.checking.proofs.check_over.Kinds as check-over-kinds
-use Rattle.checking.proofs.+check_branch_check_expr_check_exprs_check_merge_check_over_check_sample.Lts-check_over as check-over-lts
+use Rattle.checking.proofs.+checks.Lts-check_over as check-over-lts
 use Rattle.checking.proofs.check_sample.Reads as check-sample
 use Rattle.checking.proofs.check_sample.Kinds as check-sample-kinds
-use Rattle.checking.proofs.+check_branch_check_expr_check_exprs_check_merge_check_over_check_sample.Lts-check_sample as check-sample-lts
+use Rattle.checking.proofs.+checks.Lts-check_sample as check-sample-lts
 use Rattle.checking.proofs.enter.Reads as enter-reads
 use Rattle.checking.proofs.is_not.Reads as is-not-reads
 use Rattle.checking.proofs.is_on.Reads as is-on-reads
@@ -44,10 +44,10 @@ use Rattle.layout.proofs.is_sample.Reads as is-sample-reads
 use Rattle.findings.proofs.push_deep.Reads as push-deep-reads
 use Rattle.findings.proofs.push_when.Reads as push-when-reads
 use Rattle.inference.proofs.natural_clock.Reads as natural-clock-reads
-use Rattle.checking.proofs.+check_branch_check_expr_check_exprs_check_merge_check_over_check_sample.{
+use Rattle.checking.proofs.+checks.{
   statement,
 }
-use Rattle.checking.proofs.+check_branch_check_expr_check_exprs_check_merge_check_over_check_sample.Tie.{
+use Rattle.checking.proofs.+checks.Tie.{
   close,
 }
 

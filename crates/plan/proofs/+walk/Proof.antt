@@ -12,19 +12,19 @@ use borrow.Fn.Kinds.{In}
 use borrow.Fn.PlainCycle.{Measures, is, falls, and}
 use Rattle.plan.proofs.both.Reads as both
 use Rattle.plan.proofs.both.Kinds as both-kinds
-use Rattle.plan.proofs.+both_expr_exprs.Lts-both as both-lts
+use Rattle.plan.proofs.+walk.Lts-both as both-lts
 use Rattle.plan.proofs.expr.Reads as expr
 use Rattle.plan.proofs.expr.Kinds as expr-kinds
-use Rattle.plan.proofs.+both_expr_exprs.Lts-expr as expr-lts
+use Rattle.plan.proofs.+walk.Lts-expr as expr-lts
 use Rattle.plan.proofs.exprs.Reads as exprs
 use Rattle.plan.proofs.exprs.Kinds as exprs-kinds
-use Rattle.plan.proofs.+both_expr_exprs.Lts-exprs as exprs-lts
+use Rattle.plan.proofs.+walk.Lts-exprs as exprs-lts
 use Rattle.layout.proofs.follow.Reads as follow-reads
 use Rattle.plan.proofs.close_follow.Reads as close-follow-reads
 use Rattle.plan.proofs.close_call.Reads as close-call-reads
 use Rattle.plan.proofs.close_previous.Reads as close-previous-reads
-use Rattle.plan.proofs.+both_expr_exprs.{statement}
-use Rattle.plan.proofs.+both_expr_exprs.Tie.{close}
+use Rattle.plan.proofs.+walk.{statement}
+use Rattle.plan.proofs.+walk.Tie.{close}
 
 abbrev μ-both : Measures 13 both-kinds.ps ℕ
 μ-both κs a = 3 * (2 ^ 64 - a.1.1.1.1.1.1.1.1.1.1.1.1.1.1.0) + 1

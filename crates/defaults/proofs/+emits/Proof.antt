@@ -18,22 +18,22 @@ use borrow.Fn.Kinds.{In}
 use borrow.Fn.PlainCycle.{Measures, is, falls, and}
 use Rattle.defaults.proofs.emit_array.Reads as emit-array
 use Rattle.defaults.proofs.emit_array.Kinds as emit-array-kinds
-use Rattle.defaults.proofs.+emit_array_emit_copies_emit_definition_emit_fields_emit_named_emit_type.Lts-emit_array as emit-array-lts
+use Rattle.defaults.proofs.+emits.Lts-emit_array as emit-array-lts
 use Rattle.defaults.proofs.emit_copies.Reads as emit-copies
 use Rattle.defaults.proofs.emit_copies.Kinds as emit-copies-kinds
-use Rattle.defaults.proofs.+emit_array_emit_copies_emit_definition_emit_fields_emit_named_emit_type.Lts-emit_copies as emit-copies-lts
+use Rattle.defaults.proofs.+emits.Lts-emit_copies as emit-copies-lts
 use Rattle.defaults.proofs.emit_definition.Reads as emit-definition
 use Rattle.defaults.proofs.emit_definition.Kinds as emit-definition-kinds
-use Rattle.defaults.proofs.+emit_array_emit_copies_emit_definition_emit_fields_emit_named_emit_type.Lts-emit_definition as emit-definition-lts
+use Rattle.defaults.proofs.+emits.Lts-emit_definition as emit-definition-lts
 use Rattle.defaults.proofs.emit_fields.Reads as emit-fields
 use Rattle.defaults.proofs.emit_fields.Kinds as emit-fields-kinds
-use Rattle.defaults.proofs.+emit_array_emit_copies_emit_definition_emit_fields_emit_named_emit_type.Lts-emit_fields as emit-fields-lts
+use Rattle.defaults.proofs.+emits.Lts-emit_fields as emit-fields-lts
 use Rattle.defaults.proofs.emit_named.Reads as emit-named
 use Rattle.defaults.proofs.emit_named.Kinds as emit-named-kinds
-use Rattle.defaults.proofs.+emit_array_emit_copies_emit_definition_emit_fields_emit_named_emit_type.Lts-emit_named as emit-named-lts
+use Rattle.defaults.proofs.+emits.Lts-emit_named as emit-named-lts
 use Rattle.defaults.proofs.emit_type.Reads as emit-type
 use Rattle.defaults.proofs.emit_type.Kinds as emit-type-kinds
-use Rattle.defaults.proofs.+emit_array_emit_copies_emit_definition_emit_fields_emit_named_emit_type.Lts-emit_type as emit-type-lts
+use Rattle.defaults.proofs.+emits.Lts-emit_type as emit-type-lts
 use Rattle.defaults.proofs.default_literal.Reads as default-literal-reads
 use Rattle.defaults.proofs.emit_literal.Reads as emit-literal-reads
 use Rattle.defaults.proofs.emit_literals.Reads as emit-literals-reads
@@ -46,10 +46,10 @@ use Rattle.grammar.proofs.type_head.Reads as type-head-reads
 use Rattle.layout.proofs.describe.Reads as describe-reads
 use Rattle.layout.proofs.find_definition.Reads as find-definition-reads
 use Rattle.layout.proofs.value_at.Reads as value-at-reads
-use Rattle.defaults.proofs.+emit_array_emit_copies_emit_definition_emit_fields_emit_named_emit_type.{
+use Rattle.defaults.proofs.+emits.{
   statement,
 }
-use Rattle.defaults.proofs.+emit_array_emit_copies_emit_definition_emit_fields_emit_named_emit_type.Tie.{
+use Rattle.defaults.proofs.+emits.Tie.{
   close,
 }
 

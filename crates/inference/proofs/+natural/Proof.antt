@@ -22,13 +22,13 @@ use borrow.Fn.Kinds.{In}
 use borrow.Fn.PlainCycle.{Measures, is, falls, and}
 use Rattle.inference.proofs.first_found.Reads as first_found
 use Rattle.inference.proofs.first_found.Kinds as first-found-kinds
-use Rattle.inference.proofs.+first_found_found_at_operand_clock.Lts-first_found as first-found-lts
+use Rattle.inference.proofs.+natural.Lts-first_found as first-found-lts
 use Rattle.inference.proofs.found_at.Reads as found_at
 use Rattle.inference.proofs.found_at.Kinds as found-at-kinds
-use Rattle.inference.proofs.+first_found_found_at_operand_clock.Lts-found_at as found-at-lts
+use Rattle.inference.proofs.+natural.Lts-found_at as found-at-lts
 use Rattle.inference.proofs.operand_clock.Reads as operand-clock
 use Rattle.inference.proofs.operand_clock.Kinds as operand-clock-kinds
-use Rattle.inference.proofs.+first_found_found_at_operand_clock.Lts-operand_clock as operand-clock-lts
+use Rattle.inference.proofs.+natural.Lts-operand_clock as operand-clock-lts
 use Rattle.clock_tables.proofs.lookup.Reads as lookup-reads
 use Rattle.inference.proofs.above.Reads as above-reads
 use Rattle.inference.proofs.free_leaf.Reads as free-leaf-reads
@@ -38,8 +38,8 @@ use Rattle.inference.proofs.sampled.Reads as sampled-reads
 use Rattle.operands.proofs.after_operand.Reads as after-operand-reads
 use Rattle.operands.proofs.operand_at.Reads as operand-at-reads
 use Rattle.operands.proofs.view_at.Reads as view-at-reads
-use Rattle.inference.proofs.+first_found_found_at_operand_clock.{statement}
-use Rattle.inference.proofs.+first_found_found_at_operand_clock.Tie.{close}
+use Rattle.inference.proofs.+natural.{statement}
+use Rattle.inference.proofs.+natural.Tie.{close}
 
 abbrev μ-first-found : Measures 3 first-found-kinds.ps ℕ
 μ-first-found κs a = 3 * (length a.0.now - a.1.1.1.1.1.1.1.0) + 2

@@ -22,7 +22,7 @@ use Rattle.runs.proofs.Growth.{has, Leads, leads-trans, leads-flag, with_flag, f
 use Rattle.runs.proofs.Checked.{OkName, Ok, OldParts, Fits}
 use Rattle.runs.proofs.Inferred.{OnNaturals, formed-eq}
 use Rattle.runs.proofs.Expressions.{one, Callable, Flags, Firsts, under-flag, Same, flag_true, call_gated, main, mains}
-use Rattle.runs.proofs.Settling.{Settled, undeclared, defined, SettledExpr, SettledExprs, settled-natural}
+use Rattle.runs.proofs.Settling.{Settled, SettledExpr, SettledExprs, settled-natural}
 use Rattle.runs.proofs.Holding.{on_base, OneHolds, EachHolds, each_from, takes_at, takes_moved}
 use Rattle.runs.proofs.Several.{CallIfSeveral, gate-keeps, GatedCall, several-gated}
 

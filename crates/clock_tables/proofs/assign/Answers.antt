@@ -7,4 +7,4 @@ pub returns-then-table-b : goal.returns-then-table-b
 returns-then-table-b c = assign-out c.args.table.now c.args.x (value_of c.args.c) c.if-table-b.true
 
 pub returns : goal.returns
-returns c = let e = (c.store.ensures.t_len_unchanged, (c.store.ensures.nonzero, (c.store.ensures.b_after, (c.store.ensures.by_index, c.store.ensures.by_index_2)))) in assign-in c.args.table.now _ c.args.x (value_of c.args.c) e.0 e.1.0 e.1.1.0 e.1.1.1.0
+returns c = assign-in c.args.table.now _ c.args.x (value_of c.args.c) c.store.ensures.t_len_unchanged c.store.ensures.nonzero c.store.ensures.b_after c.store.ensures.by_index

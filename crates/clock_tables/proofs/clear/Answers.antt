@@ -1,14 +1,9 @@
 use Prim.Native.Nat.{◌-◌}
 use mathlib.Core.Path.{refl}
 use native.Mathlib.Omega.{arith}
-use borrow.Author.Rules.{rules}
 use lib.ListN.{length-set}
 use Rattle.clock_tables.proofs.EnvironmentLaws.{zero_more, cleared-out, cleared-in}
 use Rattle.clock_tables.proofs.clear.Goals as goal
-
--- TODO need gone: overflow-mul-table-2
--- mul-table-2 : tie.Need-overflow-mul-table-2 invariant-loop decreases-loop
--- mul-table-2 c = search rules
 
 pub returns-then-table-n : goal.returns-then-table-n
 returns-then-table-n c = cleared-out _ _ c.if-table-n.true

@@ -8,16 +8,12 @@ use Rattle.clock_tables.proofs.ClockLaws.{base-at}
 use Rattle.clock_tables.proofs.FlatLaws.{clock-past, load-more, loaded}
 use Rattle.clock_tables.proofs.load.Goals as goal
 
--- TODO need gone: overflow-mul-k
--- mul-k : tie.Need-overflow-mul-k invariant-loop decreases-loop
--- mul-k c = search rules
-
 pub returns-then-t-b : goal.returns-then-t-b
 returns-then-t-b c = c.base-out.ensures ∙ sym (clock-past c.args.t.now c.args.b c.if-t-b.true)
 
 pub loop-i-init : goal.loop-i-init
 loop-i-init c =
-    let n : length c.base-out.result.conditions ≡ 8 = simp length-map at c.base-out.type-inv.1.1.1.0.1.0.1 in
+    let n : length c.base-out.result.conditions ≡ 8 = search rules in
     (omega arith, n, base-at _ 0 refl ∙ sym (base-at _ 0 refl))
 
 pub loop-i-preserved : goal.loop-i-preserved

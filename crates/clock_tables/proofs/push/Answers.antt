@@ -1,7 +1,6 @@
 use Prim.Native.Nat.{◌≤◌, ◌-◌}
 use mathlib.Core.Path.{◌≡◌, ◌∙◌}
 use native.Mathlib.Omega.{arith}
-use borrow.Author.Rules.{rules}
 use borrow.Author.Tests.{le-ltb}
 use lib.ListN.{length, length-map}
 use Rattle.definitions.specs.Clock.{depth}
@@ -9,13 +8,9 @@ use Rattle.clock_tables.specs.Value.{capped}
 use Rattle.clock_tables.proofs.ClockLaws.{depth-at, value-push}
 use Rattle.clock_tables.proofs.push.Goals as goal
 
--- TODO need gone: overflow-mul-k
--- mul-k : tie.Need-overflow-mul-k
--- mul-k c = search rules
-
 pub returns-then-d-lt-DEEPEST : goal.returns-then-d-lt-DEEPEST
 returns-then-d-lt-DEEPEST c =
-    let n : length c.args.c.conditions ≡ 8 = simp length-map at c.well-formed.0.1.1.1.0.1.0.1 in
+    let n : length c.args.c.conditions ≡ 8 = c.well_formed.0.1.1.1.0.1.0.1 in
     value-push _ _ _ n c.if-d-lt-DEEPEST.true
 
 pub returns-else-d-lt-DEEPEST : goal.returns-else-d-lt-DEEPEST

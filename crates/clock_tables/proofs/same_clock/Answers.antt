@@ -1,27 +1,18 @@
 use Prim.Native.Nat.{◌-◌}
 use mathlib.Core.Path.{◌≡◌, sym, ◌∙◌}
 use native.Mathlib.Omega.{arith}
-use borrow.Author.Rules.{rules}
 use Rattle.definitions.specs.Clock.{depth}
 use Rattle.clock_tables.specs.Value.{capped, value_of}
 use Rattle.clock_tables.proofs.ClockLaws.{other-depth, same_base, same-last, other_last}
 use Rattle.clock_tables.proofs.same_clock.Goals as goal
 
--- TODO need gone: overflow-mul-x
--- mul-x : tie.Need-overflow-mul-x invariant-loop decreases-loop
--- mul-x c = search rules
-
--- TODO need gone: overflow-mul-y
--- mul-y : tie.Need-overflow-mul-y invariant-loop decreases-loop
--- mul-y c = search rules
-
 pub returns-then-d-e : goal.returns-then-d-e
-returns-then-d-e c = sym (other-depth (value_of c.args.t1) (value_of c.args.t2) (λ e. c.if-d-e.true (c.depth_of-d.ensures.value_2 ∙ (e ∙ sym c.depth_of-e.ensures.value_2))))
+returns-then-d-e c = sym (other-depth (value_of c.args.a) (value_of c.args.b) (λ e. c.if-d-e.true (c.depth_of-d.ensures.value_2 ∙ (e ∙ sym c.depth_of-e.ensures.value_2))))
 
 pub loop-i-init : goal.loop-i-init
 loop-i-init c =
-    let e : capped c.args.t1.depth ≡ c.depth_of-d.result = sym c.depth_of-d.ensures.value in
-    let f : capped c.args.t2.depth ≡ c.depth_of-d.result = sym (c.if-d-e.false ∙ c.depth_of-e.ensures.value) in
+    let e : capped c.args.a.depth ≡ c.depth_of-d.result = sym c.depth_of-d.ensures.value in
+    let f : capped c.args.b.depth ≡ c.depth_of-d.result = sym (c.if-d-e.false ∙ c.depth_of-e.ensures.value) in
     (c.depth_of-d.ensures.upper_bound, rw (e, f))
 
 pub loop-i-preserved : goal.loop-i-preserved

@@ -1,19 +1,11 @@
 use Prim.Native.Nat.{◌≤◌, ◌<◌, ◌+◌, ◌-◌, ◌*◌}
-use mathlib.Core.Path.{refl, ◌∙◌}
+use mathlib.Core.Path.{◌≡◌, refl, ◌∙◌}
 use mathlib.Core.Logic.{⊎_elim}
 use native.Mathlib.Omega.{arith}
-use borrow.Author.Rules.{rules}
 use lib.ListN.{length, set, length-set}
 use Rattle.clock_tables.proofs.FlatLaws.{kept, kept_here, kept-past, store-more, within_more, stored}
 use Rattle.clock_tables.proofs.store.Goals as goal
-
--- TODO need gone: overflow-mul-t
--- mul-t : tie.Need-overflow-mul-t invariant-loop decreases-loop
--- mul-t c = search rules
-
--- TODO need gone: overflow-mul-k
--- mul-k : tie.Need-overflow-mul-k invariant-loop decreases-loop
--- mul-k c = search rules
+use Rattle.clock_tables.proofs.store.Goals.{then-i-d, else-i-d}
 
 pub loop-i-init : goal.loop-i-init
 loop-i-init c = (omega arith, simp length-set c.requires, refl, λ j u. absurd (omega arith), λ j u. refl)
@@ -30,11 +22,11 @@ loop-i-preserved c =
     let d = c.depth_of-d.result in
     let l : i < 8 = c.loop-i-test.true in
     let m : s.b + 1 + 2 * i + 2 ≤ length t = omega (arith, v.1) in
-    let k = ⊎_elim (λ w. w.2 ∙ kept_here s.t3.conditions d i (omega (arith, w.0.taken))) (λ w. w.1 ∙ kept-past s.t3.conditions d i (omega (arith, w.0.left))) c.if-i-d.branch in (
+    let k : c.if-i-d.k ≡ kept s.c.conditions d i = elim c.if-i-d.branch [ then-i-d w ↦ w.k-is ∙ kept_here s.c.conditions d i w.if-i-d.true | else-i-d w ↦ w.k-is ∙ kept-past s.c.conditions d i w.if-i-d.false ] in (
       omega arith,
       rw c.store_condition.ensures (simp length-set v.1),
       rw c.store_condition.ensures (simp length-set (simp length-set at v.2)),
-      rw c.store_condition.ensures (store-more t (s.b + 1) i (kept s.t3.conditions d) c.if-i-d.k k m v.3),
+      rw c.store_condition.ensures (store-more t (s.b + 1) i (kept s.c.conditions d) c.if-i-d.k k m v.3),
       rw c.store_condition.ensures (within_more (set s.t.now s.b (d + 1)) t (s.b + 1) i c.if-i-d.k l v.4),
     )
 
@@ -42,4 +34,12 @@ pub shape_of-t : goal.shape_of-t
 shape_of-t c = c.loop-i.invariant.2 ∙ simp length-set
 
 pub returns : goal.returns
-returns c = (c.loop-i.invariant.2 ∙ simp length-set, stored c.args.t.now c.loop-i.t c.args.b _ _ c.loop-i.i _ c.requires c.depth_of-d.ensures.value c.loop-i.invariant.0 c.loop-i-test.false c.loop-i.invariant.3 c.loop-i.invariant.4)
+returns c =
+    let told = stored c.args.t.now c.loop-i.t c.args.b _ _ c.loop-i.i _ c.requires c.depth_of-d.ensures.value c.loop-i.invariant.0 c.loop-i-test.false c.loop-i.invariant.3 c.loop-i.invariant.4 in
+    record {
+        t_len_unchanged = c.loop-i.invariant.2 ∙ simp length-set;
+        nonzero = told.0;
+        b_after = told.1.0;
+        by_index = told.1.1.0;
+        by_index_2 = told.1.1.1;
+    }

@@ -2,14 +2,9 @@
 use Prim.Native.Nat.{◌-◌}
 use mathlib.Core.Path.{refl, ap, ◌∙◌}
 use native.Mathlib.Omega.{arith}
-use borrow.Author.Rules.{rules}
 use lib.ListN.{set}
 use Rattle.parts.proofs.Words.{values-step, values-all}
 use Rattle.parts.proofs.copy_values.Goals as goal
-
--- TODO need gone: overflow-mul-values
--- mul-values : tie.Need-overflow-mul-values invariant-loop decreases-loop
--- mul-values c = search rules
 
 pub loop-k-init : goal.loop-k-init
 loop-k-init c = (omega arith, refl)

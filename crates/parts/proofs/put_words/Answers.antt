@@ -2,19 +2,14 @@
 use Prim.Native.Nat.{◌-◌}
 use mathlib.Core.Path.{refl, ◌∙◌}
 use native.Mathlib.Omega.{arith}
-use borrow.Author.Rules.{rules}
 use Rattle.parts.proofs.Stores.{words_step, words-all}
 use Rattle.parts.proofs.put_words.Goals as goal
-
--- TODO need gone: overflow-mul-put-word-2
--- mul-put-word-2 : tie.Need-overflow-mul-put-word-2 invariant-loop decreases-loop
--- mul-put-word-2 c = search rules
 
 pub loop-k-init : goal.loop-k-init
 loop-k-init c = (omega arith, refl, refl)
 
 pub loop-k-preserved : goal.loop-k-preserved
-loop-k-preserved c = let l = c.loop-k in (omega arith, c.put_word.auto.0 ∙ l.invariant.1, c.put_word.ensures ∙ words_step c.args.out.now l.out c.args.words.now c.args.at l.k c.loop-k-test.true l.invariant.2)
+loop-k-preserved c = let l = c.loop-k in (omega arith, c.put_word.auto.out ∙ l.invariant.1, c.put_word.ensures ∙ words_step c.args.out.now l.out c.args.words.now c.args.at l.k c.loop-k-test.true l.invariant.2)
 
 pub shape_of-out : goal.shape_of-out
 shape_of-out c = c.loop-k.invariant.1

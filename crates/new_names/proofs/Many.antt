@@ -79,7 +79,7 @@ any-up f k (suc n) zero h = let e : k + 0 ≡ k = omega arith in
     subst (λ (z : ℕ). any (same_letters (f z)) (map f (up_from k (suc n))) ≡ true) (sym e) (any-self (f k) (map f (up_from (suc k) n)))
 any-up f k (suc n) (suc i) h =
     let e : k + suc i ≡ suc k + i = omega arith in
-    rw e (any-back (same_letters (f (suc k + i))) (f k ∷ []) (map f (up_from (suc k) n)) (any-up f (suc k) n i (omega arith)))
+    subst (λ (z : ℕ). any (same_letters (f z)) (map f (up_from k (suc n))) ≡ true) (sym e) (any-back (same_letters (f (suc k + i))) (f k ∷ []) (map f (up_from (suc k) n)) (any-up f (suc k) n i (omega arith)))
 
 any-member : (g : Clock → Letters) (c : Clock) (cs : List Clock) → Memᴰ c cs → any (same_letters (g c)) (map g cs) ≡ true
 any-member g c cs (Memᴰ.head {x = d} {xs = r} q) = subst (λ (z : Clock). any (same_letters (g z)) (map g (d ∷ r)) ≡ true) (sym q) (any-self (g d) (map g r))

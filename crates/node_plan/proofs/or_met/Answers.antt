@@ -6,4 +6,4 @@ use Rattle.node_plan.proofs.or_met.Lts as lts
 use Rattle.node_plan.proofs.or_met.Goals as goal
 
 pub returns-in_default : goal.returns-in_default
-returns-in_default c = first-met c.args.a c.args.b c.in_default.in_default-own.keys2
+returns-in_default c = first-met c.args.a c.args.b c.in_default.not-Nothing

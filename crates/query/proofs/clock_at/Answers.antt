@@ -18,6 +18,5 @@ pub returns-in-Nowhere : goal.returns-in-Nowhere
 returns-in-Nowhere c =
     λ i q g r. let l = c.sheet_at-whole.ensures i.sheet q g in
     let few : c.args.k < c.sheet_at-whole.result.nodes.count = omega (arith, c.if-wide-k.false, c.wide.ensures) in
-    let s = c.deep_among-deep.auto.1.1.1.1.1 in
     let x = asked-there _ _ i _ _ _ _ _ few c.narrow-before.ensures l.nodes.items _ (λ ns p h. c.deep_among-deep.ensures ns p h r) _ c.in-Nowhere.is in
-    told-as _ _ _ _ _ _ _ _ _ x.5 (c.clock_before.ensures x.0 x.1 x.2 _ x.3 x.4 (record { few = r.few; clocks = still _ _ _ r.clocks s.0; found = still _ _ _ r.found s.1.0; sited = still _ _ _ r.sited s.1.1.0 }) (omega (arith, few, l.few-nodes)))
+    told-as _ _ _ _ _ _ _ _ _ x.5 (c.clock_before.ensures x.0 x.1 x.2 _ x.3 x.4 (record { few = r.few; clocks = still _ _ _ r.clocks c.deep_among-deep.auto.env; found = still _ _ _ r.found c.deep_among-deep.auto.table; sited = still _ _ _ r.sited c.deep_among-deep.auto.sites }) (omega (arith, few, l.few-nodes)))

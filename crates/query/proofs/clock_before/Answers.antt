@@ -7,8 +7,7 @@ use Rattle.query.proofs.clock_before.Goals as goal
 
 pub returns-in_default : goal.returns-in_default
 returns-in_default c =
-    let s = c.deep_among-deep.auto.1.1.1 in
-    λ n p ns q g h r few. told-deep _ _ _ _ _ _ n ns _ (c.clock_laid-answer.ensures n p (c.node_at-layout.ensures n p g) (record { few = r.few; clocks = still _ _ _ r.clocks s.1.1.0; found = still _ _ _ r.found s.1.1.1.0; sited = still _ _ _ r.sited s.1.1.1.1.0 })) _ c.in_default.is
+    λ n p ns q g h r few. told-deep _ _ _ _ _ _ n ns _ (c.clock_laid-answer.ensures n p (c.node_at-layout.ensures n p g) (record { few = r.few; clocks = still _ _ _ r.clocks c.deep_among-deep.auto.env; found = still _ _ _ r.found c.deep_among-deep.auto.table; sited = still _ _ _ r.sited c.deep_among-deep.auto.sites })) _ c.in_default.is
 
 pub overflow_add-result : goal.overflow_add-result
 overflow_add-result c = search (rules, c.requires.k_bound)
@@ -27,8 +26,7 @@ shape_of-sites-in-At c = c.clock_laid-answer.auto.sites ∙ c.deep_among-deep.au
 
 pub returns-in-At : goal.returns-in-At
 returns-in-At c =
-    let s = c.deep_among-deep.auto.1.1.1 in
-    λ n p ns q g h r few. told-behind _ _ _ _ _ _ n ns _ (c.clock_laid-answer.ensures n p (c.node_at-layout.ensures n p g) (record { few = r.few; clocks = still _ _ _ r.clocks s.1.1.0; found = still _ _ _ r.found s.1.1.1.0; sited = still _ _ _ r.sited s.1.1.1.1.0 })) _ c.in-Node.is q _ (c.deep_among-deep.ensures ns q (rw (c.node_at-layout.ensures n p g).ends h) r) _ c.wide.result c.in-At.is c.wide.ensures
+    λ n p ns q g h r few. told-behind _ _ _ _ _ _ n ns _ (c.clock_laid-answer.ensures n p (c.node_at-layout.ensures n p g) (record { few = r.few; clocks = still _ _ _ r.clocks c.deep_among-deep.auto.env; found = still _ _ _ r.found c.deep_among-deep.auto.table; sited = still _ _ _ r.sited c.deep_among-deep.auto.sites })) _ c.in-Node.is q _ (c.deep_among-deep.ensures ns q (rw (c.node_at-layout.ensures n p g).ends h) r) _ c.wide.result c.in-At.is c.wide.ensures
 
 pub shape_of-env : goal.shape_of-env
 shape_of-env c = c.clock_laid-answer.auto.env ∙ c.deep_among-deep.auto.env
@@ -41,5 +39,4 @@ shape_of-sites c = c.clock_laid-answer.auto.sites ∙ c.deep_among-deep.auto.sit
 
 pub returns : goal.returns
 returns c =
-    let s = c.deep_among-deep.auto.1.1.1 in
-    λ n p ns q g h r few. told-node _ _ _ _ _ _ n ns _ (c.clock_laid-answer.ensures n p (c.node_at-layout.ensures n p g) (record { few = r.few; clocks = still _ _ _ r.clocks s.1.1.0; found = still _ _ _ r.found s.1.1.1.0; sited = still _ _ _ r.sited s.1.1.1.1.0 })) _ c.in-Node.is q _ (c.deep_among-deep.ensures ns q (rw (c.node_at-layout.ensures n p g).ends h) r) _ c.in_default-deep.is few
+    λ n p ns q g h r few. told-node _ _ _ _ _ _ n ns _ (c.clock_laid-answer.ensures n p (c.node_at-layout.ensures n p g) (record { few = r.few; clocks = still _ _ _ r.clocks c.deep_among-deep.auto.env; found = still _ _ _ r.found c.deep_among-deep.auto.table; sited = still _ _ _ r.sited c.deep_among-deep.auto.sites })) _ c.in-Node.is q _ (c.deep_among-deep.ensures ns q (rw (c.node_at-layout.ensures n p g).ends h) r) _ c.in_default-deep.is few

@@ -1,16 +1,16 @@
 // What the programs share: what a word of a command line says, the front of lent bytes, bytes read until a buffer is full.
 #![tactic(auto)]
 
-ghost use Rattle.std.specs.Prelude.{◌≡◌, ◌+◌, ◌*◌, ◌-◌, ◌≤◌, ◌<◌, min, length, take, drop, IfOk, IfSome};
+ghost use Rattle.std.specs.Prelude.{◌≡◌, ◌+◌, ◌*◌, ◌-◌, ◌≤◌, ◌<◌, min, length, take, drop, IfOk, OnOk, IfSome};
 ghost use Rattle.std.specs.Io.{ReadsAtMost};
-ghost use Rattle.std.specs.Io.KnownBytes.{Consumes, IsAtEnd};
+ghost use Rattle.std.specs.Io.KnownBytes.{Appends, Consumes, IsAtEnd};
 ghost use Rattle.definitions.specs.Lists.{Letters};
 ghost use Rattle.definitions.specs.Bytes.{is_digit};
 ghost use Rattle.arguments.specs.Words.{most, number_of, meaning_of};
 
 use std::env::{Env, FillError};
 use std::io;
-use std::io::Read;
+use std::io::{Read, Write};
 
 // What a word of a command line says: it asks for help, or is a number in decimal, or is neither.
 #[derive(Clone, Copy)]
@@ -98,6 +98,13 @@ pub fn front(bytes: &[u8], n: usize) -> &[u8]
         return &bytes[..n];
     }
     bytes
+}
+
+// Writes the first n bytes, or all where there are fewer.
+pub fn show<W: Write>(writer: &mut W, bytes: &[u8], n: usize) -> io::Result<()>
+    ensures { OnOk result (Appends (W.contents writer.old) (W.contents writer.new) (take n bytes.now)) }
+{
+    writer.write_all(front(bytes, n))
 }
 
 // Reads until these bytes are full or the input ends: how many were read.

@@ -10,10 +10,11 @@ ghost use Rattle.vectors.specs.Fields.{place_of, before, behind, digit_of, decod
 use arguments::Word;
 use declock_project::RewriteAnswer;
 use definitions::{CHAIN_TABLE, FaultRecord, MOST_NODES, MOST_TOKENS, Refusal};
-use libc::{STDIN_FILENO, STDOUT_FILENO};
 use listings::{ClocksAnswer, ListingAnswer};
 use query::NodeCounts;
 use sheet::SheetAnswer;
+use std::io;
+use std::io::Write;
 
 // What is replayed: sheets that the list refuses under 1 to 7, the other sheets, and the three questions.
 #[derive(Clone, Copy)]
@@ -691,32 +692,28 @@ fn check_line(line: &[u8], kind: Kind) -> Verdict {
     }
 }
 
-fn show(out: &[u8; 4096], n: usize) {
-    io::write_all(STDOUT_FILENO, arguments::front(out, n));
-}
-
 // `line N is answered otherwise`
-fn tell_line(number: u64) {
+fn tell_line(output: &mut impl Write, number: u64) -> io::Result<()> {
     let mut out = [0u8; 4096];
     let a = spelling::put_all(&mut out, 0, b"line ");
     let b = spelling::put_decimal(&mut out, a, number);
     let c = spelling::put_all(&mut out, b, b" is answered otherwise\n");
-    show(&out, c);
+    arguments::show(output, &out, c)
 }
 
-fn add(t: Tally, v: Verdict, number: u64) -> Tally {
+fn add(output: &mut impl Write, t: Tally, v: Verdict, number: u64) -> io::Result<Tally> {
     match v {
-        Verdict::Passed => t,
-        Verdict::Same => Tally {
+        Verdict::Passed => Ok(t),
+        Verdict::Same => Ok(Tally {
             all: more(t.all),
             other: t.other,
-        },
+        }),
         Verdict::Other => {
-            tell_line(number);
-            Tally {
+            tell_line(output, number)?;
+            Ok(Tally {
                 all: more(t.all),
                 other: more(t.other),
-            }
+            })
         }
     }
 }
@@ -730,7 +727,7 @@ fn further(at: usize, n: usize, end: usize) -> usize
 }
 
 // Replays the lines of one kind.
-fn replay(list: &[u8], kind: Kind) -> Tally {
+fn replay(output: &mut impl Write, list: &[u8], kind: Kind) -> io::Result<Tally> {
     let mut t = Tally { all: 0, other: 0 };
     let mut number: u64 = 0;
     let mut at: usize = 0;
@@ -739,10 +736,10 @@ fn replay(list: &[u8], kind: Kind) -> Tally {
         let n = place_of(rest, b'\n');
         number = more(number);
         let v = check_line(arguments::front(rest, n), kind);
-        t = add(t, v, number);
+        t = add(output, t, v, number)?;
         at = further(at, n, list.len());
     }
-    t
+    Ok(t)
 }
 
 fn less(a: u64, b: u64) -> u64 {
@@ -760,22 +757,23 @@ fn put_tally(out: &mut [u8; 4096], about: &[u8], t: Tally) -> usize {
     spelling::put_all(out, f, b" otherwise\n")
 }
 
-fn report(about: &[u8], t: Tally) {
+fn report(output: &mut impl Write, list: &[u8], kind: Kind, about: &[u8]) -> io::Result<()> {
+    let t = replay(output, list, kind)?;
     let mut out = [0u8; 4096];
     let n = put_tally(&mut out, about, t);
-    show(&out, n);
+    arguments::show(output, &out, n)
 }
 
-fn replay_all(list: &[u8]) {
-    report(b"refusals 1 to 7: ", replay(list, Kind::Refusals));
-    report(b"other sheets are read: ", replay(list, Kind::Sheets));
-    report(b"clock questions: ", replay(list, Kind::Clocks));
-    report(b"rewritings: ", replay(list, Kind::Rewritings));
-    report(b"texts: ", replay(list, Kind::Texts));
+fn replay_all(output: &mut impl Write, list: &[u8]) -> io::Result<()> {
+    report(output, list, Kind::Refusals, b"refusals 1 to 7: ")?;
+    report(output, list, Kind::Sheets, b"other sheets are read: ")?;
+    report(output, list, Kind::Clocks, b"clock questions: ")?;
+    report(output, list, Kind::Rewritings, b"rewritings: ")?;
+    report(output, list, Kind::Texts, b"texts: ")
 }
 
-fn main() {
+fn main(rt: HostRuntime) -> io::Result<()> {
     let mut list = large();
-    let n = io::read_full(STDIN_FILENO, &mut list);
-    replay_all(&list[..n]);
+    let n = arguments::read_full(&mut rt.stdin(), &mut list)?;
+    replay_all(&mut rt.stdout(), &list[..n])
 }

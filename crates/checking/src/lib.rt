@@ -146,7 +146,7 @@ fn sampled_by(tag: u8, x: u32) -> Condition
 }
 
 // The expression that stands there; `parts` is the table of parts.
-#[cycle(check_branch_check_expr_check_exprs_check_merge_check_over_check_sample)]
+#[cycle(checks)]
 fn check_expr(
     tags: &[u8],
     values: &[u32],
@@ -223,7 +223,7 @@ fn check_expr(
 }
 
 // So many parts that stand from there on; what is on the same clock is met here, without a call.
-#[cycle(check_branch_check_expr_check_exprs_check_merge_check_over_check_sample)]
+#[cycle(checks)]
 fn check_exprs(
     tags: &[u8],
     values: &[u32],
@@ -291,7 +291,7 @@ fn check_exprs(
 }
 
 // The expression that stands there, on what may be a clock; on base where there is none.
-#[cycle(check_branch_check_expr_check_exprs_check_merge_check_over_check_sample)]
+#[cycle(checks)]
 fn check_over(
     tags: &[u8],
     values: &[u32],
@@ -334,7 +334,7 @@ fn check_over(
 }
 
 // The operand of a when: on the clock that it samples where the condition matches, else a fault, and on its natural clock or base.
-#[cycle(check_branch_check_expr_check_exprs_check_merge_check_over_check_sample)]
+#[cycle(checks)]
 fn check_sample(
     tags: &[u8],
     values: &[u32],
@@ -372,7 +372,7 @@ fn check_sample(
 }
 
 // A branch of a merge, one condition down.
-#[cycle(check_branch_check_expr_check_exprs_check_merge_check_over_check_sample)]
+#[cycle(checks)]
 fn check_branch(
     tags: &[u8],
     values: &[u32],
@@ -400,7 +400,7 @@ fn check_branch(
 }
 
 // The branches of a merge, on its name and on not.
-#[cycle(check_branch_check_expr_check_exprs_check_merge_check_over_check_sample)]
+#[cycle(checks)]
 fn check_merge(
     tags: &[u8],
     values: &[u32],

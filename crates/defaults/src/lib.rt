@@ -255,7 +255,7 @@ pub fn emit_two(
 }
 
 // The default of a type. The depth falls at each type that is gone down to: a field's, an element's or a target's.
-#[cycle(emit_array_emit_copies_emit_definition_emit_fields_emit_named_emit_type)]
+#[cycle(emits)]
 fn emit_type(
     tags: &[u8],
     values: &[u32],
@@ -298,7 +298,7 @@ fn emit_type(
 }
 
 // An array of so many defaults of a type.
-#[cycle(emit_array_emit_copies_emit_definition_emit_fields_emit_named_emit_type)]
+#[cycle(emits)]
 fn emit_array(
     tags: &[u8],
     values: &[u32],
@@ -333,7 +333,7 @@ fn emit_array(
 }
 
 // So many times the default of a type.
-#[cycle(emit_array_emit_copies_emit_definition_emit_fields_emit_named_emit_type)]
+#[cycle(emits)]
 fn emit_copies(
     tags: &[u8],
     values: &[u32],
@@ -380,7 +380,7 @@ fn emit_copies(
 }
 
 // The default of a name's type.
-#[cycle(emit_array_emit_copies_emit_definition_emit_fields_emit_named_emit_type)]
+#[cycle(emits)]
 fn emit_named(
     tags: &[u8],
     values: &[u32],
@@ -406,7 +406,7 @@ fn emit_named(
 }
 
 // The default of a definition. A record's carries the record's own name.
-#[cycle(emit_array_emit_copies_emit_definition_emit_fields_emit_named_emit_type)]
+#[cycle(emits)]
 fn emit_definition(
     tags: &[u8],
     values: &[u32],
@@ -449,7 +449,7 @@ fn emit_definition(
 }
 
 // So many fields, each with its name and its default.
-#[cycle(emit_array_emit_copies_emit_definition_emit_fields_emit_named_emit_type)]
+#[cycle(emits)]
 fn emit_fields(
     tags: &[u8],
     values: &[u32],

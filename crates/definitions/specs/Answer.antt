@@ -1,5 +1,5 @@
 -- The questions: rewriting a sheet, a node's clocks, the listing, the text of a fault.
-use Rattle.std.specs.Prelude.{ℕ, zero, suc, ◌+◌, List, [], ◌∷◌, ◌++◌, map, Bool, true, false, eqb, length}
+use Rattle.std.specs.Prelude.{ℕ, zero, suc, List, [], ◌∷◌, ◌++◌, map, eqb, length}
 use Rattle.definitions.specs.declared.Refusal.{Refusal}
 use Rattle.definitions.specs.declared.FaultRecord.{FaultRecord}
 use Rattle.definitions.specs.Lists.{join, numbered, over, Letters}
@@ -7,7 +7,7 @@ use Rattle.definitions.specs.Tree.{Node, Sheet}
 use Rattle.definitions.specs.Refusals.{Answer, accepted, refused, faulty, must, lending, ◌>>=◌}
 use Rattle.definitions.specs.Reading.{Got, got, rejected}
 use Rattle.definitions.specs.Grammar.{sheet}
-use Rattle.definitions.specs.Bytes.{Parts, parts}
+use Rattle.definitions.specs.Bytes.{parts}
 use Rattle.definitions.specs.Types.{first_cycle}
 use Rattle.definitions.specs.Clock.{Clock}
 use Rattle.definitions.specs.InferClocks.{fault_number, NodeFault, deep, formed, clocking, clock_faults, chains}

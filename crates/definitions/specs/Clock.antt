@@ -1,5 +1,5 @@
 -- Clocks: document 01, "A clock is base, or a condition (name, on or not) over a parent clock."
-use Prim.Native.Nat.{ℕ, zero, suc, compare, Ordering}
+use Prim.Native.Nat.{ℕ, suc, compare, Ordering}
 use mathlib.Core.List.{List, [], ◌∷◌, ◌++◌}
 use Rattle.std.specs.Prelude.{Bool, true, false, ◌&&◌, eqb}
 use Rattle.definitions.specs.declared.Test.{Test}

@@ -1,5 +1,5 @@
 -- Rewriting a node onto the base clock: document 01, "declock.rs".
-use Rattle.std.specs.Prelude.{ℕ, zero, suc, ◌+◌, Bool, true, false, ◌&&◌, ◌||◌, not, eqb, length}
+use Rattle.std.specs.Prelude.{ℕ, suc, Bool, true, false, eqb, length}
 use mathlib.Core.List.{List, [], ◌∷◌, ◌++◌, map}
 use Rattle.std.proofs.Math.Option.{Option, none, some}
 use Rattle.definitions.specs.declared.UnaryOp.{UnaryOp}

@@ -1,7 +1,7 @@
 -- The order of a sheet's tokens, and their limits: document 01, "The sheet".
-use Prim.Native.Nat.{ℕ, zero, suc, ◌+◌, ◌-◌}
+use Prim.Native.Nat.{ℕ, zero, suc, ◌-◌}
 use Rattle.std.specs.Prelude.{List, [], ◌∷◌, Bool, true, false, ◌&&◌, leb, ltb, eqb}
-use Rattle.std.proofs.Math.Option.{Option, none, some}
+use Rattle.std.proofs.Math.Option.{Option, none}
 use Rattle.std.proofs.Math.ListN.{length}
 use Rattle.definitions.specs.declared.Literal.{Literal}
 use Rattle.definitions.specs.declared.TypeToken.{TypeToken}
@@ -13,7 +13,7 @@ use Rattle.definitions.specs.declared.Refusal.{Refusal}
 use Rattle.definitions.specs.Lists.{choose}
 use Rattle.definitions.specs.Tokens.{given, words, kind_of, type_token_of, definition_token_of, expr_token_of}
 use Rattle.definitions.specs.Tree.{Ty, Declared, Body, TypeDef, Head, Expr, Exprs, Equation, Probe, Node, Sheet}
-use Rattle.definitions.specs.Reading.{Got, got, rejected, Reader, ◌>>=◌, return, token, limited, times}
+use Rattle.definitions.specs.Reading.{got, rejected, Reader, ◌>>=◌, return, token, limited, times}
 
 -- "32 types, 16 nodes; a node 64 equations and 128 declared names in all; 1 to 8 left names; other counts 64"
 abbrev pub most_types : ℕ

@@ -1,10 +1,10 @@
 -- The clock rules: document 01, "clocks.rs".
-use Rattle.std.specs.Prelude.{ℕ, zero, suc, ◌+◌, Bool, true, false, ◌&&◌, ◌||◌, not, eqb, ltb, length}
+use Rattle.std.specs.Prelude.{ℕ, zero, suc, Bool, true, false, ◌||◌, eqb, ltb, length}
 use mathlib.Core.List.{List, [], ◌∷◌, ◌++◌, map}
 use Rattle.std.proofs.Math.Option.{Option, none, some}
 use Rattle.definitions.specs.declared.Condition.{Condition}
 use Rattle.definitions.specs.Lists.{choose, any, among, join, numbered, Letters}
-use Rattle.definitions.specs.Tree.{Declared, Head, Expr, Exprs, Equation, Node}
+use Rattle.definitions.specs.Tree.{Expr, Exprs, Equation, Node}
 use Rattle.definitions.specs.Clock.{Clock, base, ◌↓◌, deepest, depth, parent, is_on, is_not, same_clock, is_base, ends_in, in_chain_order}
 
 -- what is formed, unless a clock of more than eight conditions is: refusal 9

@@ -1,8 +1,8 @@
 -- The output: its tokens, its bytes, its names and its trees.
-use Prim.Native.Nat.{ℕ, zero, suc, ◌+◌, ◌/◌, ◌%◌, ◌^◌}
+use Prim.Native.Nat.{ℕ, suc, ◌+◌, ◌/◌, ◌%◌, ◌^◌}
 use mathlib.Core.List.{List, [], ◌∷◌, ◌++◌, map}
 use Rattle.std.proofs.Math.Bool.{Bool, not}
-use Rattle.std.specs.Prelude.{true, false, ◌&&◌, leb, length, take, drop, get_or}
+use Rattle.std.specs.Prelude.{◌&&◌, leb, length, take, drop, get_or}
 use Rattle.std.proofs.Math.Option.{Option, none, some}
 use Rattle.definitions.specs.declared.Literal.{Literal}
 use Rattle.definitions.specs.declared.TypeToken.{TypeToken}
@@ -10,13 +10,12 @@ use Rattle.definitions.specs.declared.DefinitionToken.{DefinitionToken}
 use Rattle.definitions.specs.declared.ExprToken.{ExprToken}
 use Rattle.definitions.specs.declared.Token.{Token}
 use Rattle.definitions.specs.declared.Test.{Test}
-use Rattle.definitions.specs.declared.Condition.{Condition}
 use Rattle.definitions.specs.Lists.{choose, any, keep, place_by, join, up_from, Letters, same_letters, decimal, bytes}
 use Rattle.definitions.specs.Tokens.{TagValue, code_of}
-use Rattle.definitions.specs.Tree.{Ty, Declared, Body, TypeDef, Head, Expr, Exprs, Equation, Probe, Node, Sheet}
+use Rattle.definitions.specs.Tree.{Ty, Declared, Body, Head, Expr, Exprs, Equation, Probe, Node, Sheet}
 use Rattle.definitions.specs.Bytes.{most_names, most_letters}
 use Rattle.definitions.specs.InferClocks.{NodeFault, Clocking, clock_faults, uses_clocks}
-use Rattle.definitions.specs.Declock.{Stem, ck, first, hold, State, nothing_needed, Rewritten, stopped, done, declared, old_equations, New, new_locals, with_new}
+use Rattle.definitions.specs.Declock.{Stem, ck, first, hold, State, nothing_needed, Rewritten, stopped, done, declared, old_equations, new_locals, with_new}
 
 -- an expression's first token, a type's first token
 abbrev pub e : ExprToken → Token

@@ -1,6 +1,6 @@
 -- Document 01, "Sheets to hold it against": the starred sheets, and one with every tag, as one table.
 -- A sheet's first names are `start`, `x` and `c`: ids 0, 1 and 2. The node asked about is node 0.
-use Rattle.std.specs.Prelude.{ℕ, zero, suc, ◌+◌, ◌≡◌, refl, List, [], ◌∷◌, ◌++◌, map, Bool, true, false}
+use Rattle.std.specs.Prelude.{ℕ, zero, suc, ◌≡◌, refl, List, [], ◌∷◌, ◌++◌, map}
 use Prim.Native.String.{String}
 use Rattle.definitions.specs.declared.UnaryOp.{UnaryOp}
 use Rattle.definitions.specs.declared.BinOp.{BinOp}
@@ -9,7 +9,7 @@ use Rattle.definitions.specs.declared.Literal.{Literal}
 use Rattle.definitions.specs.declared.NodeKind.{NodeKind}
 use Rattle.definitions.specs.declared.Refusal.{Refusal}
 use Rattle.definitions.specs.Lists.{Letters, bytes}
-use Rattle.definitions.specs.Tree.{Ty, Declared, Body, TypeDef, Head, Expr, Exprs, Equation, Node, Sheet}
+use Rattle.definitions.specs.Tree.{Ty, Declared, Body, Head, Expr, Exprs, Equation, Sheet}
 use Rattle.definitions.specs.Refusals.{Answer, accepted, refused, faulty}
 use Rattle.definitions.specs.Clock.{is_on, is_not}
 use Rattle.definitions.specs.Declock.{true_of, not_of, and_of, if_of}

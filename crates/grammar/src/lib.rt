@@ -821,7 +821,7 @@ fn var_end(tags: &[u8], values: &[u32], names: u32, depth: u32, at: usize) -> us
 }
 
 // An expression at most `depth` deep.
-#[cycle(read_cast_read_expr_read_exprs_read_fields_read_following_read_items_read_iteration_read_record)]
+#[cycle(reading)]
 fn read_expr(tags: &[u8], values: &[u32], names: u32, depth: u32, at: usize) -> Read
     requires { length values.now ≡ length tags.now }
     ensures { result ≡ outcome (expr names depth (tokens tags.now values.now) at) }
@@ -843,7 +843,7 @@ fn read_expr(tags: &[u8], values: &[u32], names: u32, depth: u32, at: usize) -> 
 }
 
 // What follows a first token of this shape, its operands at most `depth` deep.
-#[cycle(read_cast_read_expr_read_exprs_read_fields_read_following_read_items_read_iteration_read_record)]
+#[cycle(reading)]
 fn read_following(
     tags: &[u8],
     values: &[u32],
@@ -866,7 +866,7 @@ fn read_following(
 }
 
 // A count and operands.
-#[cycle(read_cast_read_expr_read_exprs_read_fields_read_following_read_items_read_iteration_read_record)]
+#[cycle(reading)]
 fn read_items(tags: &[u8], values: &[u32], names: u32, depth: u32, at: usize) -> Read
     requires { length values.now ≡ length tags.now }
     ensures { result ≡ outcome (following names Shape.Items (expr names depth) (tokens tags.now values.now) at) }
@@ -879,7 +879,7 @@ fn read_items(tags: &[u8], values: &[u32], names: u32, depth: u32, at: usize) ->
 }
 
 // A count and fields.
-#[cycle(read_cast_read_expr_read_exprs_read_fields_read_following_read_items_read_iteration_read_record)]
+#[cycle(reading)]
 fn read_record(tags: &[u8], values: &[u32], names: u32, depth: u32, at: usize) -> Read
     requires { length values.now ≡ length tags.now }
     ensures { result ≡ outcome (following names Shape.Fields (expr names depth) (tokens tags.now values.now) at) }
@@ -892,7 +892,7 @@ fn read_record(tags: &[u8], values: &[u32], names: u32, depth: u32, at: usize) -
 }
 
 // A type and an operand.
-#[cycle(read_cast_read_expr_read_exprs_read_fields_read_following_read_items_read_iteration_read_record)]
+#[cycle(reading)]
 fn read_cast(tags: &[u8], values: &[u32], names: u32, depth: u32, at: usize) -> Read
     requires { length values.now ≡ length tags.now }
     ensures { result ≡ outcome (following names Shape.Cast (expr names depth) (tokens tags.now values.now) at) }
@@ -905,7 +905,7 @@ fn read_cast(tags: &[u8], values: &[u32], names: u32, depth: u32, at: usize) -> 
 }
 
 // A count of start values with them, then a count and operands.
-#[cycle(read_cast_read_expr_read_exprs_read_fields_read_following_read_items_read_iteration_read_record)]
+#[cycle(reading)]
 fn read_iteration(tags: &[u8], values: &[u32], names: u32, depth: u32, at: usize) -> Read
     requires { length values.now ≡ length tags.now }
     ensures { result ≡ outcome (following names Shape.Iteration (expr names depth) (tokens tags.now values.now) at) }
@@ -924,7 +924,7 @@ fn read_iteration(tags: &[u8], values: &[u32], names: u32, depth: u32, at: usize
 }
 
 // So many expressions.
-#[cycle(read_cast_read_expr_read_exprs_read_fields_read_following_read_items_read_iteration_read_record)]
+#[cycle(reading)]
 fn read_exprs(tags: &[u8], values: &[u32], names: u32, depth: u32, left: u32, at: usize) -> Read
     requires { length values.now ≡ length tags.now }
     ensures { result ≡ outcome (exprs left (expr names depth) (tokens tags.now values.now) at) }
@@ -940,7 +940,7 @@ fn read_exprs(tags: &[u8], values: &[u32], names: u32, depth: u32, left: u32, at
 }
 
 // So many fields, each a name and a value.
-#[cycle(read_cast_read_expr_read_exprs_read_fields_read_following_read_items_read_iteration_read_record)]
+#[cycle(reading)]
 fn read_fields(tags: &[u8], values: &[u32], names: u32, depth: u32, left: u32, at: usize) -> Read
     requires { length values.now ≡ length tags.now }
     ensures { result ≡ outcome (fields names left (expr names depth) (tokens tags.now values.now) at) }

@@ -123,7 +123,7 @@ fn free_leaf(tags: &[u8], values: &[u32], env: &[u32], at: usize) -> usize
 }
 
 // The natural clock of the expression that stands there, by its operands.
-#[cycle(first_found_found_at_operand_clock)]
+#[cycle(natural)]
 fn found_at(tags: &[u8], values: &[u32], names: u32, env: &[u32], at: usize) -> Found
     requires { length values.now ≡ length tags.now }
     ensures { (e : Expr) (q : ℕ) (clocks : Clocks) → tree names (tokens tags.now values.now) at ≡ got e q → Agrees env.now names clocks → Finds result (natural clocks e) q }
@@ -163,7 +163,7 @@ fn found_at(tags: &[u8], values: &[u32], names: u32, env: &[u32], at: usize) -> 
 }
 
 // The natural clock of the operand that stands there, or the parent of it.
-#[cycle(first_found_found_at_operand_clock)]
+#[cycle(natural)]
 fn operand_clock(tags: &[u8], values: &[u32], names: u32, env: &[u32], up: bool, at: usize) -> Found
     requires { length values.now ≡ length tags.now }
     ensures { (e : Expr) (q : ℕ) (clocks : Clocks) → tree names (tokens tags.now values.now) at ≡ got e q → Agrees env.now names clocks → Finds result (lifted up (natural clocks e)) q }
@@ -176,7 +176,7 @@ fn operand_clock(tags: &[u8], values: &[u32], names: u32, env: &[u32], up: bool,
 }
 
 // The first clock among so many operands, or the first parent of one; a loop, since a call an operand costs stack.
-#[cycle(first_found_found_at_operand_clock)]
+#[cycle(natural)]
 fn first_found(
     tags: &[u8],
     values: &[u32],

@@ -306,7 +306,7 @@ fn close_previous(
 }
 
 // The expression that stands there: where it ends, or 0 if a fault is met.
-#[cycle(both_expr_exprs)]
+#[cycle(walk)]
 pub fn expr(
     tags: &[u8],
     values: &[u32],
@@ -489,7 +489,7 @@ pub fn expr(
 }
 
 // The two expressions that stand from there on.
-#[cycle(both_expr_exprs)]
+#[cycle(walk)]
 fn both(
     tags: &[u8],
     values: &[u32],
@@ -530,7 +530,7 @@ fn both(
 }
 
 // So many parts that stand from there on.
-#[cycle(both_expr_exprs)]
+#[cycle(walk)]
 fn exprs(
     tags: &[u8],
     values: &[u32],

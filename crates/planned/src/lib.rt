@@ -330,7 +330,7 @@ fn opening(
 }
 
 // The part that stands there.
-#[cycle(expr_exprs)]
+#[cycle(walk)]
 fn expr(
     tags: &[u8],
     values: &[u32],
@@ -403,7 +403,7 @@ fn expr(
 }
 
 // So many parts that stand from a place on.
-#[cycle(expr_exprs)]
+#[cycle(walk)]
 fn exprs(
     tags: &[u8],
     values: &[u32],

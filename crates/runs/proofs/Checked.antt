@@ -142,10 +142,10 @@ module _ (clocks : Clocks) (Callable Old : ℕ → Type 0) where
       checks-ok (Exprs.and e es) c h o = (check-ok e c (clean-left (check clocks i c e) (checks clocks i c es) h) o.0, checks-ok es c (clean-right (check clocks i c e) (checks clocks i c es) h) o.1)
 
 -- the left names of an equation on clock c
-pub lefts-ok : (clocks : Clocks) (i : ℕ) (n : Node) (c : Clock) (xs : List ℕ) → Clean (check_left clocks i n c xs) → (x : ℕ) → Memᴰ x xs → Fits clocks x c
+pub lefts-ok : (clocks : Clocks) (i : ℕ) (n : Node) (c : Clock) (x : ℕ) (xs : List ℕ) → Clean (check_left clocks i n c xs) → Memᴰ x xs → Fits clocks x c
 unfolding check_left
-lefts-ok clocks i n c xs h x (Memᴰ.head {x = y} {xs = ys} e) = rw e (fits clocks i c y _ (clean-left (must_be_on clocks i c y (λ d. Fault.left_elsewhere y d c (is_port n y))) (check_left clocks i n c ys) h))
-lefts-ok clocks i n c xs h x (Memᴰ.tail {x = y} {xs = ys} m) = lefts-ok clocks i n c ys (clean-right (must_be_on clocks i c y (λ d. Fault.left_elsewhere y d c (is_port n y))) (check_left clocks i n c ys) h) x m
+lefts-ok clocks i n c x xs h (Memᴰ.head {x = y} {xs = ys} e) = rw e (fits clocks i c y _ (clean-left (must_be_on clocks i c y (λ d. Fault.left_elsewhere y d c (is_port n y))) (check_left clocks i n c ys) h))
+lefts-ok clocks i n c x xs h (Memᴰ.tail {x = y} {xs = ys} m) = lefts-ok clocks i n c x ys (clean-right (must_be_on clocks i c y (λ d. Fault.left_elsewhere y d c (is_port n y))) (check_left clocks i n c ys) h) m
 
 -- an equation is clean, left names and right side
 pub record CleanEquation (n : Node) (clocks : Clocks) (e : Clocked) : Type 0 where
@@ -153,12 +153,12 @@ pub record CleanEquation (n : Node) (clocks : Clocks) (e : Clocked) : Type 0 whe
   pub left : Clean (check_left clocks place n e.clock e.equation.left)
   pub right : Clean (check clocks place e.clock e.equation.right)
 
-pub clean-equations : (n : Node) (clocks : Clocks) (i : ℕ) (es : List Clocked) → Clean (join (numbered (check_equation n clocks) i es)) → (e : Clocked) → Memᴰ e es → CleanEquation n clocks e
+pub clean-equations : (n : Node) (clocks : Clocks) (e : Clocked) (i : ℕ) (es : List Clocked) → Clean (join (numbered (check_equation n clocks) i es)) → Memᴰ e es → CleanEquation n clocks e
 unfolding check_equation
-clean-equations n clocks i es h e (Memᴰ.head {x = d} {xs = ds} q) =
+clean-equations n clocks e i es h (Memᴰ.head {x = d} {xs = ds} q) =
     let one = clean-left (check_equation n clocks i d) (join (numbered (check_equation n clocks) (suc i) ds)) h in
     let l = check_left clocks i n d.clock d.equation.left in
     let r = check clocks i d.clock d.equation.right in
     subst⁻¹ (CleanEquation n clocks) q (record { place = i; left = clean-left l r one; right = clean-right l r one })
-clean-equations n clocks i es h e (Memᴰ.tail {x = d} {xs = ds} m) =
-    clean-equations n clocks (suc i) ds (clean-right (check_equation n clocks i d) (join (numbered (check_equation n clocks) (suc i) ds)) h) e m
+clean-equations n clocks e i es h (Memᴰ.tail {x = d} {xs = ds} m) =
+    clean-equations n clocks e (suc i) ds (clean-right (check_equation n clocks i d) (join (numbered (check_equation n clocks) (suc i) ds)) h) m

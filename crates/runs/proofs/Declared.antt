@@ -13,9 +13,9 @@ use Rattle.runs.specs.Plain.{lefts, names_of}
 use Rattle.runs.proofs.Facts.{any_of, of-any}
 
 -- a left name of an equation is among the left names
-pub in-lefts : (es : List Equation) (e : Equation) → Memᴰ e es → (x : ℕ) → Memᴰ x e.left → Memᴰ x (lefts es)
-in-lefts es e (Memᴰ.head {x = d} {xs = r} q) x i = Memᴰ.append_left (lefts r) (subst (λ (z : Equation). Memᴰ x z.left) q i)
-in-lefts es e (Memᴰ.tail {x = d} {xs = r} j) x i = Memᴰ.append_right d.left (in-lefts r e j x i)
+pub in-lefts : (e : Equation) (es : List Equation) → Memᴰ e es → (x : ℕ) → Memᴰ x e.left → Memᴰ x (lefts es)
+in-lefts e es (Memᴰ.head {x = d} {xs = r} q) x i = Memᴰ.append_left (lefts r) (subst (λ (z : Equation). Memᴰ x z.left) q i)
+in-lefts e es (Memᴰ.tail {x = d} {xs = r} j) x i = Memᴰ.append_right d.left (in-lefts e r j x i)
 
 module _ (node : Node) where
   -- outputs and locals are declared, and so are ports

@@ -22,7 +22,7 @@ use Rattle.runs.proofs.Growth.{has, Leads, leads-trans, leads-flag, with_flag, f
 use Rattle.runs.proofs.Checked.{OkName, Ok, OldParts, Fits}
 use Rattle.runs.proofs.Inferred.{OnNaturals, formed-eq}
 use Rattle.runs.proofs.Expressions.{one, Callable, Flags, Firsts, under-flag, Same, flag_true, call_gated, main, mains}
-use Rattle.runs.proofs.Settling.{Settled, undeclared, defined, SettledExpr, SettledExprs, settled-natural}
+use Rattle.runs.proofs.Settling.{Settled, SettledExpr, SettledExprs, settled-natural}
 use Rattle.runs.proofs.Holding.{on_base, OneHolds, EachHolds, each_from, takes_at, takes_moved}
 use Rattle.runs.proofs.Several.{CallIfSeveral, gate-keeps, GatedCall, several-gated}
 
@@ -204,7 +204,7 @@ module _ {Val : Type 0} (types : List TypeDef) (nodes : List Node) (new : Stem �
       where
         clocked : (d : Clock) → clock_of clocks x ≡ some d → c ≡ d → τ x t ≡ τ x s
         clocked base e u = ap (τ x) (some-injective t s (rw u at q))
-        clocked (d ↓ k) e u = clocked_keeps x d k e t s l (rw u at q)
+        clocked (d ↓ k) e u = clocked_keeps x d k e t s l (subst (λ (z : Clock). last (on M σ z) (suc t) ≡ some s) u q)
 
         go : (v : Option Clock) → clock_of clocks x ≡ v → τ x t ≡ τ x s
         go none e = name_const x (settled x o.0 e) o.0 t s l (omega (arith, (last-true (on M σ c) (suc t) s q).0))

@@ -62,9 +62,12 @@ clock-self base = refl
 clock-self (c ↓ k) = ap₂ ◌&&◌ (condition-self k) (clock-self c)
 
 -- a test that each member passes
+passes : {A : Type 0} (p : A → Bool) (a : A) (l : List A) → all p l ≡ true → Memᴰ a l → p a ≡ true
+passes p a l h (Memᴰ.head {x = b} {xs = r} e) = ap p e ∙ and_left (p b) (all p r) h
+passes p a l h (Memᴰ.tail {x = b} {xs = r} m) = passes p a r (and_right (p b) (all p r) h) m
+
 pub all_in : {A : Type 0} (p : A → Bool) (l : List A) → all p l ≡ true → All (λ a. p a ≡ true) l
-all_in p l h a (Memᴰ.head {x = b} {xs = r} e) = ap p e ∙ and_left (p b) (all p r) h
-all_in p l h a (Memᴰ.tail {x = b} {xs = r} m) = all_in p r (and_right (p b) (all p r) h) a m
+all_in p l h a m = passes p a l h m
 
 -- of two tests one fails, so the other passes
 pub or-other : (a b : Bool) → (a || b) ≡ true → a ≡ false → b ≡ true

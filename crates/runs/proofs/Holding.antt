@@ -33,10 +33,10 @@ module _ {Val : Type 0} (M : Meaning Val) (C : Callees) (τ : Env Val) (n : ℕ)
   each_right [] t h = h
   each_right (q ∷ s) t h = each_right s t h.1
 
-  pub each_at : (es : List Clocked) (e : Clocked) → EachHolds es → Memᴰ e es → OneHolds e
+  pub each_at : (e : Clocked) (es : List Clocked) → EachHolds es → Memᴰ e es → OneHolds e
   unfolding EachHolds
-  each_at es e h (Memᴰ.head q) = subst⁻¹ OneHolds q h.0
-  each_at es e h (Memᴰ.tail {xs = ds} m) = each_at ds e h.1 m
+  each_at e es h (Memᴰ.head q) = subst⁻¹ OneHolds q h.0
+  each_at e es h (Memᴰ.tail {xs = ds} m) = each_at e ds h.1 m
 
   pub each_from : (es : List Clocked) → ((e : Clocked) → Memᴰ e es → OneHolds e) → EachHolds es
   unfolding EachHolds
@@ -58,16 +58,16 @@ module _ {Val : Type 0} (M : Meaning Val) (C : Callees) (τ : Env Val) (n : ℕ)
 module _ {Val : Type 0} (M : Meaning Val) where
   open M use {part}
 
-  parts_at : (ν : Env Val) (xs : List ℕ) (x : ℕ) → Memᴰ x xs → (j : ℕ) → (g : Val → Val) × ((t : ℕ) (v : Val) → TakesParts M ν j xs t v → ν x t ≡ g v)
+  parts_at : (ν : Env Val) (x : ℕ) (xs : List ℕ) → Memᴰ x xs → (j : ℕ) → (g : Val → Val) × ((t : ℕ) (v : Val) → TakesParts M ν j xs t v → ν x t ≡ g v)
   unfolding TakesParts
-  parts_at ν xs x (Memᴰ.head e) j = (part j, λ t v h. rw e h.0)
-  parts_at ν xs x (Memᴰ.tail {xs = ys} m) j = let r = parts_at ν ys x m (suc j) in (r.0, λ t v h. r.1 t v h.1)
+  parts_at ν x xs (Memᴰ.head e) j = (part j, λ t v h. rw e h.0)
+  parts_at ν x xs (Memᴰ.tail {xs = ys} m) j = let r = parts_at ν x ys m (suc j) in (r.0, λ t v h. r.1 t v h.1)
 
   pub takes_at : (ν : Env Val) (xs : List ℕ) (x : ℕ) → Memᴰ x xs → (g : Val → Val) × ((t : ℕ) (v : Val) → Takes M ν xs t v → ν x t ≡ g v)
   unfolding Takes
   takes_at ν [] x m = absurd (Memᴰ.not-nil m)
   takes_at ν (y ∷ []) x m = (λ v. v, λ t v h. rw (Memᴰ.eq_of_singleton m) h)
-  takes_at ν (y ∷ z ∷ zs) x m = parts_at ν (y ∷ z ∷ zs) x m 0
+  takes_at ν (y ∷ z ∷ zs) x m = parts_at ν x (y ∷ z ∷ zs) m 0
 
   module _ (σ τ : Env Val) where
     parts-moved : (xs : List ℕ) (t : ℕ) → ((x : ℕ) → Memᴰ x xs → σ x t ≡ τ x t) → (j : ℕ) (v : Val) → TakesParts M τ j xs t v → TakesParts M σ j xs t v

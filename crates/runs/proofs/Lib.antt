@@ -38,3 +38,4 @@ pub mod K1
 pub mod K1Kept
 pub mod NotPlain
 pub mod Refuted
+pub mod ResetRefuted

@@ -7,10 +7,10 @@ use native.Mathlib.Omega.{arith}
 use lib.Dec.{eqb}
 use lib.ListN.{length, get_or, length-append, get_or-append}
 use Rattle.definitions.specs.Lists.{choose, any, Letters, same_letters, bytes}
-use Rattle.definitions.specs.Tree.{Node, Sheet}
+use Rattle.definitions.specs.Tree.{Node}
 use Rattle.definitions.specs.Bytes.{well_formed, bad_name}
 use Rattle.definitions.specs.Declock.{Stem, ck, first, hold}
-use Rattle.definitions.specs.Output.{id_of, condact_id, letters_of, new_letters, new_id, ClockedNode, rewritten}
+use Rattle.definitions.specs.Output.{id_of, condact_id, letters_of, new_letters, new_id, rewritten}
 use Rattle.runs.specs.Plain.{underscored, is_condact}
 use Rattle.runs.proofs.Facts.{eqb-eq, eqb-self, eqb-other, or_left, or_right, Goes}
 

@@ -35,14 +35,14 @@ use Rattle.runs.proofs.KeptRun.{Keeps, NotCondact, all_same}
 -- what checking says of each equation of a node without faults
 module _ (node : Node) (k : Clocking) (c : Clockings node k) (clean : clock_faults k.findings ≡ []) where
   equation-clean : (e : Clocked) → Memᴰ e k.equations → CleanEquation node k.names e
-  equation-clean e m = clean-equations node k.names 0 k.equations (subst Clean c.findings (clean_of k.findings clean c.shallow)) e m
+  equation-clean e m = clean-equations node k.names e 0 k.equations (subst Clean c.findings (clean_of k.findings clean c.shallow)) m
 
   equation-ok : (Callable Old : ℕ → Type 0) → EachOf (OldParts k.names Callable Old) node.equations
       → (e : Clocked) → Memᴰ e k.equations → Ok k.names Callable Old e.equation.right e.clock
   equation-ok Callable Old old e m = let d = equation-clean e m in check-ok k.names Callable Old d.place e.equation.right e.clock d.right (old e.equation (c.equations.from e m))
 
   equation-left : (e : Clocked) → Memᴰ e k.equations → (x : ℕ) → Memᴰ x e.equation.left → Fits k.names x e.clock
-  equation-left e m x i = let d = equation-clean e m in lefts-ok k.names d.place node e.clock e.equation.left d.left x i
+  equation-left e m x i = let d = equation-clean e m in lefts-ok k.names d.place node e.clock x e.equation.left d.left i
 
 -- kept values: ρ' in place of ρ in a run of the source node
 module _ {Val : Type 0} (M : Meaning Val) (C : Callees) (n : ClockedNode) (c : Clockings n.node n.clocking) (clean : clock_faults n.clocking.findings ≡ [])
@@ -178,7 +178,7 @@ module _ {Val : Type 0} (types : List TypeDef) (nodes : List Node) (letters : �
         (equation-named P node clocks places.named e (c.equations.each e m) r, r)
 
     left-declared : (e : Equation) → Memᴰ e node.equations → (x : ℕ) → Memᴰ x e.left → is_declared node x ≡ true
-    left-declared e m x i = declared-later node x (only-defined x (in-lefts node.equations e m x i))
+    left-declared e m x i = declared-later node x (only-defined x (in-lefts e node.equations m x i))
 
     -- an undeclared name has no clock
     unclocked : (x : ℕ) → is_declared node x ≡ false → clock_of clocks x ≡ none

@@ -17,7 +17,7 @@ use Rattle.runs.specs.Demand.{RunsKept}
 use Rattle.runs.proofs.Small.{numbers, rows, three, v, int0, ◌plus◌, ◌≔◌, or_held, first_of, int, boolean, operator, sheet_of, on_c, lettered}
 use Rattle.runs.proofs.K1.{when_c, source, rewritten_by}
 
--- K1 with its first-tick flag set again when the clock goes off
+-- K1 with its first-tick flag set again when the clock goes off (refuted in `ResetRefuted`)
 abbrev pub reset : Node
 reset = rewritten_by (v 2) (Expr.arrow true_of (not_of (Expr.pre (v 5))))
 
@@ -31,13 +31,6 @@ reset_runs C = (
   (λ w. 99),
   (three _ (λ o. refl) (λ o. refl) (λ o. refl), (three _ (λ o. refl) (λ o. refl) (λ o. refl), (three _ (λ o. refl) (λ o. refl) (λ o. refl), (three _ (λ o. refl) (λ o. refl) (λ o. refl), tt)))),
 )
-
-pub reset-refuted : (C C' : Callees) → ¬ RunsKept ℕ C C' source reset
-unfolding RunsKept Kept SourceRun AllHold Holds Takes value stream on
-reset-refuted C C' h =
-    let r : SourceRun numbers C source 3 ρ₁ = h numbers 3 ρ₁ ρ₁ (reset_runs C') (λ x t l i c. refl) in
-    let e : ◌≡◌ {A = ℕ} 7 12 = r.1.0 2 (omega arith) refl in
-    absurd (omega arith)
 
 -- K1 with its `pre a` one tick late: __hold0 7 = if __ck0 then pre a else pre __hold0, and pre __hold0 stands for pre a
 abbrev pub late : Node

@@ -1,0 +1,13 @@
+-- `cycles::row` meets its contract: the bytes so far are those of the row. The measure is what is left of n.
+-- Assumes nothing.
+use mathlib.Core.Path.{◌≡◌}
+use Prim.Native.Nat.{ℕ, ◌+◌, ◌-◌, ◌*◌, ◌≤◌, ◌<◌}
+use lib.ListN.{length, get_or}
+use Rattle.cycles.proofs.row.Given as goal
+
+abbrev pub invariant-loop-j : goal.invariant-loop-j
+invariant-loop-j l =
+    (l.j ≤ l.n) × (length l.set ≡ 32) × ((k : ℕ) → k < l.j → get_or l.set k 0 ≡ get_or l.go (32 * l.i + k) 0)
+
+abbrev pub decreases-loop-j : goal.decreases-loop-j
+decreases-loop-j l = l.n - l.j

@@ -1,0 +1,6 @@
+-- `emit::put_front` meets its contract: one part after the other. Assumes nothing.
+use Rattle.emit.proofs.NodePartsLaws.{front}
+use Rattle.emit.proofs.put_front.Goals as goal
+
+pub returns : goal.returns
+returns c = λ M n q h. front M _ n q _ h _ _ _ _ _ c.emit-a.ensures c.emit-b.ensures c.put_counted-c.ensures c.put_counted.ensures

@@ -1,0 +1,6 @@
+-- `emit::put_probes` meets its contract: the probes stand where they were read. Assumes nothing.
+use Rattle.emit.proofs.NodePartsLaws.{probes-stand, counted}
+use Rattle.emit.proofs.put_probes.Goals as goal
+
+pub returns : goal.returns
+returns c = λ M n q h. counted _ _ _ _ _ _ h.probes.many (λ w. probes-stand M _ w _ _ h.probes) c.put_counted.ensures

@@ -1,0 +1,16 @@
+-- `grammar::read_equations` meets its contract: what is left to read has the outcome of the whole list. The measure is the number left.
+-- Assumes nothing.
+use mathlib.Core.Path.{◌≡◌}
+use Rattle.definitions.specs.Bytes.{tokens}
+use Rattle.definitions.specs.Reading.{times}
+use Rattle.definitions.specs.Grammar.{equation}
+use Rattle.grammar.specs.Outcome.{outcome}
+use Rattle.grammar.specs.Parts.{equations}
+use Rattle.grammar.proofs.read_equations.Given as goal
+
+abbrev pub invariant-loop-left : goal.invariant-loop-left
+invariant-loop-left l =
+    outcome (equations l.names (tokens l.tags l.values) l.at) ≡ outcome (times l.left (equation l.names) (tokens l.tags l.values) l.place)
+
+abbrev pub decreases-loop-left : goal.decreases-loop-left
+decreases-loop-left l = l.left

@@ -162,11 +162,9 @@ fn put_types(
     }
     let places = layout::definition_places(tags, values, names, n, types.at);
     let mut next = at;
-    let mut i: usize = 0;
-    while i < n {
-        let t = type_summary(tags, values, names, places[i]);
+    for place in &places[..n] {
+        let t = type_summary(tags, values, names, *place);
         next = put_type(out, next, starts, letters, t);
-        i += 1;
     }
     next
 }
@@ -191,12 +189,10 @@ fn put_nodes(
     }
     let places = layout::node_places(tags, values, names, n, nodes.at);
     let mut next = at;
-    let mut i: usize = 0;
-    while i < n {
-        let one = layout::node_at(tags, values, names, places[i]);
-        let uses = sheet::node_uses_clocks(tags, values, names, places[i]);
+    for place in &places[..n] {
+        let one = layout::node_at(tags, values, names, *place);
+        let uses = sheet::node_uses_clocks(tags, values, names, *place);
         next = put_node(out, next, starts, letters, one, uses);
-        i += 1;
     }
     next
 }

@@ -58,14 +58,12 @@ fn large() -> [u8; 524288]
 fn place_of(bytes: &[u8], x: u8) -> usize
     ensures { (result ≡ place_of x bytes.now) × (result ≤ length bytes.now) }
 {
-    let mut i: usize = 0;
-    while i < bytes.len() {
-        if bytes[i] == x {
+    for (i, b) in bytes.iter().enumerate() {
+        if *b == x {
             return i;
         }
-        i += 1;
     }
-    i
+    bytes.len()
 }
 
 // What stands before the first space.
@@ -142,14 +140,11 @@ fn put_hex(out: &mut [u8], at: usize, part: &[u8]) -> usize
     ensures { Put (hex part.now) at out.old result out.new }
 {
     let mut place = spelling::put_all(out, at, b"");
-    let mut i: usize = 0;
-    while i < part.len() {
-        let b = part[i];
-        let high = hex_digit(b / 16);
-        let low = hex_digit(b);
+    for b in part {
+        let high = hex_digit(*b / 16);
+        let low = hex_digit(*b);
         let next = spelling::put(out, place, high);
         place = spelling::put(out, next, low);
-        i += 1;
     }
     place
 }
@@ -177,14 +172,8 @@ fn put_first_faults(
     faults: usize,
 ) -> usize {
     let mut place = at;
-    let mut i: usize = 0;
-    while i < 16 {
-        if faults <= i {
-            return place;
-        }
-        let f = list[i];
-        place = put_fault(out, place, f);
-        i += 1;
+    for f in list.iter().take(faults) {
+        place = put_fault(out, place, *f);
     }
     place
 }
@@ -197,14 +186,8 @@ fn put_clock_faults(
     faults: usize,
 ) -> usize {
     let mut place = at;
-    let mut i: usize = 0;
-    while i < 256 {
-        if faults <= i {
-            return place;
-        }
-        let f = list[i];
-        place = put_fault(out, place, f);
-        i += 1;
+    for f in list.iter().take(faults) {
+        place = put_fault(out, place, *f);
     }
     place
 }
@@ -269,9 +252,8 @@ fn is_told(sheet: &[u8], node: usize, fault: usize, out: &mut [u8], answer: &[u8
 // 65,536 bytes are enough for any rewritten sheet.
 fn rewrite_lent(sheet: &[u8], lent: usize, answer: &[u8]) -> bool {
     let mut out = [0u8; 65536];
-    let from: usize = 0;
     if lent < 65536 {
-        return is_rewritten(sheet, &mut out[from..lent], answer);
+        return is_rewritten(sheet, &mut out[..lent], answer);
     }
     is_rewritten(sheet, &mut out, answer)
 }
@@ -279,9 +261,8 @@ fn rewrite_lent(sheet: &[u8], lent: usize, answer: &[u8]) -> bool {
 // They are enough for any text too.
 fn text_lent(sheet: &[u8], node: usize, fault: usize, lent: usize, answer: &[u8]) -> bool {
     let mut out = [0u8; 65536];
-    let from: usize = 0;
     if lent < 65536 {
-        return is_told(sheet, node, fault, &mut out[from..lent], answer);
+        return is_told(sheet, node, fault, &mut out[..lent], answer);
     }
     is_told(sheet, node, fault, &mut out, answer)
 }
@@ -306,11 +287,9 @@ fn byte_at(bytes: &[u8], i: usize) -> u32
 fn starts_of(sheet: &[u8]) -> [u32; 1025] {
     let mut starts = [0u32; 1025];
     let mut at: u32 = 0;
-    let mut i: usize = 0;
-    while i < 1025 {
-        starts[i] = at;
+    for (i, start) in starts.iter_mut().enumerate() {
+        *start = at;
         at += byte_at(sheet, 12 + i);
-        i += 1;
     }
     starts
 }
@@ -332,11 +311,9 @@ fn put_equations(
     n: usize,
 ) -> usize {
     let mut place = at;
-    let mut i: usize = 0;
-    while i < n {
+    for i in 0..n {
         let c = clock_tables::get(clocks, i);
         place = lines::put_equation_line(out, place, starts, letters, i, c);
-        i += 1;
     }
     place
 }
@@ -351,11 +328,9 @@ fn put_chains(
     n: usize,
 ) -> usize {
     let mut place = at;
-    let mut i: usize = 0;
-    while i < n {
+    for i in 0..n {
         let c = clock_tables::get(clocks, i);
         place = lines::put_chain_line(out, place, starts, letters, c);
-        i += 1;
     }
     place
 }
@@ -413,10 +388,8 @@ fn more_lines(n: u64, b: u8) -> u64 {
 // How many lines end in a text.
 fn lines_in(text: &[u8]) -> u64 {
     let mut n: u64 = 0;
-    let mut i: usize = 0;
-    while i < text.len() {
-        n = more_lines(n, text[i]);
-        i += 1;
+    for b in text {
+        n = more_lines(n, *b);
     }
     n
 }

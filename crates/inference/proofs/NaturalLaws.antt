@@ -8,7 +8,6 @@ use mathlib.Core.Option.{Option, none, some}
 use native.Mathlib.Omega.{arith}
 use lib.Dec.{ltb}
 use lib.ListN.{length}
-use types.Run.{miss}
 use Rattle.definitions.specs.declared.Condition.{Condition}
 use Rattle.definitions.specs.Lists.{choose}
 use Rattle.definitions.specs.Bytes.{tokens}
@@ -25,7 +24,7 @@ use Rattle.operands.specs.Role.{role_of_expr, operands_of}
 use Rattle.operands.specs.Spread.{tree, spread, later, operand_at, rest_at}
 use Rattle.operands.proofs.Laws.{spread-nil}
 use Rattle.operands.proofs.Apart.{Apart, apart}
-use Rattle.operands.proofs.Roles.{Among}
+
 use Rattle.inference.specs.declared.Found.{Found}
 use Rattle.inference.specs.Natural.{is_free, Finds, lifted, first_of}
 
@@ -185,19 +184,23 @@ module _ (M : ℕ) (env : List ℕ) (clocks : Clocks) (a : Agrees env M clocks) 
       rw i (rw k (rw (or-none (parent_of (natural clocks c))) at (rw i at h)))
 
 -- the roles other than those of a name, a `when` and a `merge`
-abbrev keys : List ℕ
-keys = 0 ∷ 4 ∷ 5 ∷ 6 ∷ 7 ∷ 8 ∷ []
+record Rest (ρ : Role) : Type 0 where
+  name : (x : ℕ) → ρ ≡ Role.Name x → ⊥
+  sample : (k : Condition) → ρ ≡ Role.Sample k → ⊥
+  join : (x : ℕ) → ρ ≡ Role.Join x → ⊥
 
-rest : (clocks : Clocks) (e : Expr) → Among keys (role_of_expr e) → naturals clocks (operands_of e) ≡ natural clocks e
+rest : (clocks : Clocks) (e : Expr) → Rest (role_of_expr e) → naturals clocks (operands_of e) ≡ natural clocks e
 unfolding natural role_of_expr operands_of
 rest clocks (Expr.const l w) h = refl
-rest clocks (Expr.var x) h = absurd (miss keys 1 tt h)
+rest clocks (Expr.var x) h = absurd (h.name x refl)
 rest clocks (Expr.op o es) h = refl
 rest clocks (Expr.pre a) h = or-none (natural clocks a)
 rest clocks (Expr.arrow a b) h = ap (λ (n : Natural). natural clocks a or n) (or-none (natural clocks b))
 rest clocks (Expr.call f es) h = refl
-rest clocks (Expr.when k a) h = absurd (miss keys 2 tt h)
-rest clocks (Expr.merge x a b) h = absurd (miss keys 3 tt h)
+rest clocks (Expr.when k a) h = absurd (h.sample k refl)
+rest clocks (Expr.merge x a b) h = absurd (h.join x refl)
 
-pub rest-arm : (clocks : Clocks) (e : Expr) (v : Role) (r : Found) (q : ℕ) → v ≡ role_of_expr e → Among keys v → Finds r (first_of clocks false (operands_of e)) q → Finds r (natural clocks e) q
-rest-arm clocks e v r q i h j = rw (sym (rest clocks e (rw i at h)) ∙ sym (first-naturals clocks (operands_of e))) j
+pub rest-arm : (clocks : Clocks) (e : Expr) (v : Role) (r : Found) (q : ℕ) → v ≡ role_of_expr e → ((x : ℕ) → v ≡ Role.Name x → ⊥) → ((k : Condition) → v ≡ Role.Sample k → ⊥) → ((x : ℕ) → v ≡ Role.Join x → ⊥)
+    → Finds r (first_of clocks false (operands_of e)) q → Finds r (natural clocks e) q
+rest-arm clocks e v r q i n s m j =
+    rw (sym (rest clocks e (record { name = λ x z. n x (i ∙ z); sample = λ k z. s k (i ∙ z); join = λ x z. m x (i ∙ z) })) ∙ sym (first-naturals clocks (operands_of e))) j

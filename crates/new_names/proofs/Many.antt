@@ -1,6 +1,6 @@
 -- A node that needs too many flags, first-tick flags or holds adds too many names. Assumes nothing.
 use Prim.Native.Nat.{ℕ, zero, suc, ◌+◌, ◌≤◌, ◌<◌}
-use mathlib.Core.Path.{◌≡◌, refl, sym, ap, ◌∙◌}
+use mathlib.Core.Path.{◌≡◌, refl, sym, ap, ◌∙◌, subst}
 use mathlib.Core.Bool.{Bool, true, false, ◌||◌, false≢true}
 use mathlib.Core.List.{List, [], ◌∷◌, ◌++◌, map, Memᴰ}
 use mathlib.Core.Logic.{inl, inr}
@@ -75,13 +75,14 @@ module _ (x : Letters) where
 -- ---- the new names of a node
 pub any-up : (f : ℕ → Letters) (k n i : ℕ) → i < n → any (same_letters (f (k + i))) (map f (up_from k n)) ≡ true
 any-up f k zero i h = absurd (omega arith)
-any-up f k (suc n) zero h = let e : k + 0 ≡ k = omega arith in rw e (any-self (f k) (map f (up_from (suc k) n)))
+any-up f k (suc n) zero h = let e : k + 0 ≡ k = omega arith in
+    subst (λ (z : ℕ). any (same_letters (f z)) (map f (up_from k (suc n))) ≡ true) (sym e) (any-self (f k) (map f (up_from (suc k) n)))
 any-up f k (suc n) (suc i) h =
     let e : k + suc i ≡ suc k + i = omega arith in
-    rw e (any-back (same_letters (f (suc k + i))) (f k ∷ []) (map f (up_from (suc k) n)) (any-up f (suc k) n i (omega arith)))
+    subst (λ (z : ℕ). any (same_letters (f z)) (map f (up_from k (suc n))) ≡ true) (sym e) (any-back (same_letters (f (suc k + i))) (f k ∷ []) (map f (up_from (suc k) n)) (any-up f (suc k) n i (omega arith)))
 
 any-member : (g : Clock → Letters) (c : Clock) (cs : List Clock) → Memᴰ c cs → any (same_letters (g c)) (map g cs) ≡ true
-any-member g c cs (Memᴰ.head {x = d} {xs = r} q) = rw q (any-self (g d) (map g r))
+any-member g c cs (Memᴰ.head {x = d} {xs = r} q) = subst (λ (z : Clock). any (same_letters (g z)) (map g (d ∷ r)) ≡ true) (sym q) (any-self (g d) (map g r))
 any-member g c cs (Memᴰ.tail {x = d} {xs = r} m) = any-back (same_letters (g c)) (g d ∷ []) (map g r) (any-member g c r m)
 
 member-at : (cs : List Clock) (j : ℕ) → j < length cs → Memᴰ (get_or cs j base) cs

@@ -3,13 +3,10 @@
 use mathlib.Core.Path.{◌≡◌, refl, sym, ◌∙◌}
 use mathlib.Core.List.{List}
 use Prim.Native.Nat.{ℕ}
-use types.Run.{OneOf}
-use denote.Enum.Declared.{tag_of}
 use Rattle.definitions.specs.declared.Literal.{Literal}
 use Rattle.definitions.specs.Tree.{Head, Expr, Exprs}
 use Rattle.operands.specs.declared.Role.{Role}
 use Rattle.operands.specs.Role.{role_of_head, role_of_expr}
-use Rattle.operands.specs.contracts.Role.{the_type}
 
 -- a tree of this role
 abbrev pub Is : Role → Expr → Type 0
@@ -50,7 +47,3 @@ tree_is (Expr.merge x a b) = (a, b, refl)
 -- an arm for one role: v is what the code found, ρ the arm's
 pub arm : (e : Expr) (v ρ : Role) → v ≡ role_of_expr e → v ≡ ρ → Is ρ e
 arm e v ρ i j = rw (sym j ∙ i) (tree_is e)
-
--- an arm for several roles: the role's place in the enum is one of these
-abbrev pub Among : List ℕ → Role → Type 0
-Among ks ρ = OneOf ks (tag_of the_type ρ)

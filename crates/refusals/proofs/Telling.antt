@@ -7,9 +7,6 @@ use mathlib.Core.List.{List, [], ◌∷◌, ◌++◌, append_assoc}
 use native.Mathlib.Omega.{arith}
 use lib.Dec.{leb}
 use lib.ListN.{length}
-use types.Run.{OneOf, miss}
-use denote.Enum.Declared.{tag_of}
-use Rattle.definitions.specs.contracts.Refusal.{the_type}
 use Rattle.definitions.specs.declared.Refusal.{Refusal}
 use Rattle.definitions.specs.Lists.{Letters, bytes, decimal}
 use Rattle.definitions.specs.Refusals.{number, place}
@@ -36,56 +33,47 @@ pub explained : (r : Refusal) {p q : ℕ} {s s₁ : List ℕ} → Put (((refused
 explained r {p} {q} {s} {s₁} u = subst (λ l. Put l p s q s₁) (joined (refused r) (bytes ": ") (reason_of r) (bytes "\n")) u
 
 -- the refusals that are not told by one function are told by the next
-abbrev not_one : List ℕ
-not_one = 4 ∷ 5 ∷ 6 ∷ 7 ∷ 8 ∷ 9 ∷ 10 ∷ 11 ∷ []
+pub later : (r : Refusal) → (r ≡ Refusal.Short → ⊥) → ((p : ℕ) → r ≡ Refusal.Size p → ⊥) → (r ≡ Refusal.Length → ⊥) → ((p : ℕ) → r ≡ Refusal.Name p → ⊥) → 4 < number r
+later Refusal.Short h i j k = absurd (h refl)
+later (Refusal.Size p) h i j k = absurd (i p refl)
+later Refusal.Length h i j k = absurd (j refl)
+later (Refusal.Name p) h i j k = absurd (k p refl)
+later (Refusal.Token p) h i j k = omega arith
+later (Refusal.Limit p) h i j k = omega arith
+later (Refusal.Cycle p) h i j k = omega arith
+later Refusal.Missing h i j k = omega arith
+later (Refusal.Deep p) h i j k = omega arith
+later (Refusal.Faulty p) h i j k = omega arith
+later Refusal.Large h i j k = omega arith
+later (Refusal.Lent p) h i j k = omega arith
 
-abbrev not_two : List ℕ
-not_two = 0 ∷ 1 ∷ 2 ∷ 3 ∷ 7 ∷ 8 ∷ 9 ∷ 10 ∷ 11 ∷ []
+pub question : (r : Refusal) → 4 < number r → ((p : ℕ) → r ≡ Refusal.Token p → ⊥) → ((p : ℕ) → r ≡ Refusal.Limit p → ⊥) → ((p : ℕ) → r ≡ Refusal.Cycle p → ⊥) → 7 < number r
+question Refusal.Short h i j k = omega arith
+question (Refusal.Size p) h i j k = omega arith
+question Refusal.Length h i j k = omega arith
+question (Refusal.Name p) h i j k = omega arith
+question (Refusal.Token p) h i j k = absurd (i p refl)
+question (Refusal.Limit p) h i j k = absurd (j p refl)
+question (Refusal.Cycle p) h i j k = absurd (k p refl)
+question Refusal.Missing h i j k = omega arith
+question (Refusal.Deep p) h i j k = omega arith
+question (Refusal.Faulty p) h i j k = omega arith
+question Refusal.Large h i j k = omega arith
+question (Refusal.Lent p) h i j k = omega arith
 
-abbrev not_three : List ℕ
-not_three = 0 ∷ 1 ∷ 2 ∷ 3 ∷ 4 ∷ 5 ∷ 6 ∷ []
-
-pub later : (r : Refusal) → OneOf not_one (tag_of the_type r) → 4 < number r
-later Refusal.Short k = absurd (miss not_one 0 tt k)
-later (Refusal.Size p) k = absurd (miss not_one 1 tt k)
-later Refusal.Length k = absurd (miss not_one 2 tt k)
-later (Refusal.Name p) k = absurd (miss not_one 3 tt k)
-later (Refusal.Token p) k = omega arith
-later (Refusal.Limit p) k = omega arith
-later (Refusal.Cycle p) k = omega arith
-later Refusal.Missing k = omega arith
-later (Refusal.Deep p) k = omega arith
-later (Refusal.Faulty p) k = omega arith
-later Refusal.Large k = omega arith
-later (Refusal.Lent p) k = omega arith
-
-pub question : (r : Refusal) → 4 < number r → OneOf not_two (tag_of the_type r) → 7 < number r
-question Refusal.Short h k = omega arith
-question (Refusal.Size p) h k = omega arith
-question Refusal.Length h k = omega arith
-question (Refusal.Name p) h k = omega arith
-question (Refusal.Token p) h k = absurd (miss not_two 4 tt k)
-question (Refusal.Limit p) h k = absurd (miss not_two 5 tt k)
-question (Refusal.Cycle p) h k = absurd (miss not_two 6 tt k)
-question Refusal.Missing h k = omega arith
-question (Refusal.Deep p) h k = omega arith
-question (Refusal.Faulty p) h k = omega arith
-question Refusal.Large h k = omega arith
-question (Refusal.Lent p) h k = omega arith
-
-pub none_left : (r : Refusal) → 7 < number r → OneOf not_three (tag_of the_type r) → ⊥
-none_left Refusal.Short h k = omega arith
-none_left (Refusal.Size p) h k = omega arith
-none_left Refusal.Length h k = omega arith
-none_left (Refusal.Name p) h k = omega arith
-none_left (Refusal.Token p) h k = omega arith
-none_left (Refusal.Limit p) h k = omega arith
-none_left (Refusal.Cycle p) h k = omega arith
-none_left Refusal.Missing h k = miss not_three 7 tt k
-none_left (Refusal.Deep p) h k = miss not_three 8 tt k
-none_left (Refusal.Faulty p) h k = miss not_three 9 tt k
-none_left Refusal.Large h k = miss not_three 10 tt k
-none_left (Refusal.Lent p) h k = miss not_three 11 tt k
+pub none_left : (r : Refusal) → 7 < number r → (r ≡ Refusal.Missing → ⊥) → ((p : ℕ) → r ≡ Refusal.Deep p → ⊥) → ((p : ℕ) → r ≡ Refusal.Faulty p → ⊥) → (r ≡ Refusal.Large → ⊥) → ((p : ℕ) → r ≡ Refusal.Lent p → ⊥) → ⊥
+none_left Refusal.Short h i j k l m = omega arith
+none_left (Refusal.Size p) h i j k l m = omega arith
+none_left Refusal.Length h i j k l m = omega arith
+none_left (Refusal.Name p) h i j k l m = omega arith
+none_left (Refusal.Token p) h i j k l m = omega arith
+none_left (Refusal.Limit p) h i j k l m = omega arith
+none_left (Refusal.Cycle p) h i j k l m = omega arith
+none_left Refusal.Missing h i j k l m = i refl
+none_left (Refusal.Deep p) h i j k l m = j p refl
+none_left (Refusal.Faulty p) h i j k l m = k p refl
+none_left Refusal.Large h i j k l m = l refl
+none_left (Refusal.Lent p) h i j k l m = m p refl
 
 -- a reason has at most 164 letters, so that a line of 256 holds it with any number and place
 pub short : (r : Refusal) → leb (length (reason_of r)) 164 ≡ true

@@ -3,7 +3,7 @@ use Prim.Native.Nat.{ℕ, suc, ◌+◌, ◌≤◌, Ordering}
 use mathlib.Core.Path.{◌≡◌, refl, sym, ap, ap₂, ◌∙◌, subst}
 use mathlib.Core.Bool.{Bool, true, false, ◌||◌}
 use mathlib.Core.List.Memᴰ
-use mathlib.Core.List.{List, [], ◌∷◌, ◌++◌, map, map-append}
+use mathlib.Core.List.{List, [], ◌∷◌, ◌++◌, map, map-append, Memᴰ}
 use mathlib.Core.Option.{none}
 use native.Mathlib.Omega.{arith}
 use lib.ListN.{length}
@@ -42,9 +42,9 @@ module _ (letters : ℕ → Letters) (P : Clock → Type 0) where
   order-all [] h = h
   order-all (c ∷ cs) h = insert_all c (in_chain_order letters cs) (all_head P c cs h) (order-all cs (all_tail P c cs h))
 
-all_there : (cs : List Clock) → All (λ c. has c cs ≡ true) cs
-all_there cs c (Memᴰ.head {x = d} {xs = r} q) = ap (λ (u : Bool). u || has c r) (subst (λ (z : Clock). same_clock c z ≡ true) q (clock-same c))
-all_there cs c (Memᴰ.tail {x = d} {xs = r} m) = go (same_clock c d) (all_there r c m)
+all_there : (c : Clock) (cs : List Clock) → Memᴰ c cs → has c cs ≡ true
+all_there c cs (Memᴰ.head {x = d} {xs = r} q) = ap (λ (u : Bool). u || has c r) (subst (λ (z : Clock). same_clock c z ≡ true) q (clock-same c))
+all_there c cs (Memᴰ.tail {x = d} {xs = r} m) = go (same_clock c d) (all_there c r m)
   where
     go : (u : Bool) → has c r ≡ true → (u || has c r) ≡ true
     go true h = refl
@@ -87,12 +87,12 @@ module _ (names : List Letters) (new : Stem → ℕ → ℕ) (condact : ℕ) (s 
 
   flags-same : map named (flags_new (letters_of names) new s) ≡ flag_locals ids (in_chain_order (letters_of names) s.flags)
   flags-same = map_same named _ _ (in_chain_order (letters_of names) s.flags) (order-all (letters_of names) _ s.flags (λ c m.
-      let h = all_there s.flags c m in
+      let h = all_there c s.flags m in
       rw (agree.flags-agree c h, activation-same c h)))
 
   firsts_same : map named (firsts_new (letters_of names) new s) ≡ first_locals ids (in_chain_order (letters_of names) s.firsts)
   firsts_same = map_same named _ _ (in_chain_order (letters_of names) s.firsts) (order-all (letters_of names) _ s.firsts (λ c m.
-      let h = all_there s.firsts c m in
+      let h = all_there c s.firsts m in
       rw (agree.firsts-agree c h, agree.flags-agree c (sound.within c h))))
 
   holds_same : (k : ℕ) (hs : List Hold) → k + length hs ≤ length s.holds → map named (holds_new (letters_of names) new s k hs) ≡ hold_locals ids k hs

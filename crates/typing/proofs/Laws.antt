@@ -9,9 +9,8 @@ use native.Mathlib.Omega.{arith}
 use lib.Dec.{eqb}
 use lib.ListN.{length, get_or, set}
 use lib.Seq.{get_or-set_same, get_or-set_other}
-use types.Run.{OneOf, miss}
-use denote.Enum.Declared.{tag_of}
 use borrow.Author.Tests.{eqb-true, eqb-false, ne_eqb}
+use Rattle.definitions.specs.declared.Condition.{Condition}
 use Rattle.definitions.specs.declared.Literal.{Literal}
 use Rattle.definitions.specs.declared.Primitive.{Primitive}
 use Rattle.definitions.specs.declared.Refusal.{Refusal}
@@ -41,16 +40,10 @@ use Rattle.operands.specs.Viewed.{Stepped}
 use Rattle.operands.proofs.Laws.{spread-nil, name-place}
 use Rattle.operands.proofs.Deeper.{tree-head}
 use Rattle.operands.proofs.Forms.{formed}
-use Rattle.operands.proofs.Roles.{Among}
 use Rattle.inference.proofs.Low.{role-low}
 use Rattle.operands.proofs.Apart.{apart}
-use Rattle.definitions.specs.contracts.ExprToken.{the_type}
 use Rattle.typing.specs.declared.TypeFound.{TypeFound}
 use Rattle.typing.specs.Found.{or_found, IsFound, found_by, Declares}
-
--- the first tokens other than a constant's
-abbrev others : List ℕ
-others = 1 ∷ 2 ∷ 3 ∷ 4 ∷ 5 ∷ 6 ∷ 7 ∷ 8 ∷ 9 ∷ 10 ∷ 11 ∷ 12 ∷ 13 ∷ 14 ∷ 15 ∷ 16 ∷ 17 ∷ 18 ∷ []
 
 or_assoc : {A : Type 0} (a b c : Option A) → or_else (or_else a b) c ≡ or_else a (or_else b c)
 or_assoc none b c = refl
@@ -234,8 +227,8 @@ module _ (r : ExprHead) (l : Literal) (s : ℕ) (i : r ≡ ExprHead.Token (ExprT
   pub const-arm : (t : ExprToken) (k : Literal) (u : ℕ) → r ≡ ExprHead.Token t u → t ≡ ExprToken.Const k → (b : Primitive) → b ≡ literal_type k → TypeFound.Basic b ≡ TypeFound.Basic (literal_type l)
   const-arm t k u e f b j = let m : k ≡ l = cc in ap TypeFound.Basic (j ∙ ap literal_type m)
 
-  pub const-other : (t : ExprToken) (u : ℕ) → r ≡ ExprHead.Token t u → OneOf others (tag_of the_type t) → ⊥
-  const-other t u e h = let m : t ≡ ExprToken.Const l = cc in miss others 0 tt (rw m at h)
+  pub const-other : (t : ExprToken) (u : ℕ) → r ≡ ExprHead.Token t u → ((k : Literal) → t ≡ ExprToken.Const k → ⊥) → ⊥
+  const-other t u e h = let m : t ≡ ExprToken.Const l = cc in h l m
 
   pub const-refused : (x : Refusal) → r ≡ ExprHead.Refused x → ⊥
   const-refused x e = let z : ◌≡◌ {A = ℕ} 0 1 = cc in omega arith
@@ -291,8 +284,13 @@ pub not-before : (at first p : ℕ) → at < first → first ≤ p → p ≤ at 
 not-before at first p h i j = omega arith
 
 -- the roles that have no type
-abbrev untyped : List ℕ
-untyped = 3 ∷ 6 ∷ 8 ∷ []
+record Untyped (ρ : Role) : Type 0 where
+  constant : ρ ≡ Role.Constant → ⊥
+  name : (x : ℕ) → ρ ≡ Role.Name x → ⊥
+  sample : (k : Condition) → ρ ≡ Role.Sample k → ⊥
+  previous : ρ ≡ Role.Previous → ⊥
+  follow : ρ ≡ Role.Follow → ⊥
+  index : ρ ≡ Role.Index → ⊥
 
 module _ (M : ℕ) (ts : List TagValue) (ds : List Declared) (e : Expr) (r : TypeFound) where
   pub const-found : (l : Literal) (w : ℕ) → e ≡ Expr.const l w → r ≡ TypeFound.Basic (literal_type l) → IsFound M ts (operand_type ds e) r
@@ -323,13 +321,13 @@ pub index-none : (M : ℕ) (ts : List TagValue) (ds : List Declared) (e : Expr) 
 unfolding operand_type
 index-none M ts ds e es i j = rw (i, j) (nothing-found M ts)
 
-form-none : (M : ℕ) (ts : List TagValue) (ds : List Declared) (h : Head) (es : Exprs) → Among untyped (role_of_expr (Expr.op h es)) → IsFound M ts (operand_type ds (Expr.op h es)) TypeFound.Unknown
+form-none : (M : ℕ) (ts : List TagValue) (ds : List Declared) (h : Head) (es : Exprs) → Untyped (role_of_expr (Expr.op h es)) → IsFound M ts (operand_type ds (Expr.op h es)) TypeFound.Unknown
 unfolding operand_type role_of_expr
 form-none M ts ds (Head.unary o) es k = nothing-found M ts
 form-none M ts ds (Head.binary o) es k = nothing-found M ts
 form-none M ts ds (Head.field x) es k = nothing-found M ts
 form-none M ts ds Head.if es k = nothing-found M ts
-form-none M ts ds Head.index es k = absurd (miss untyped 7 tt k)
+form-none M ts ds Head.index es k = absurd (k.index refl)
 form-none M ts ds Head.tuple es k = nothing-found M ts
 form-none M ts ds Head.array es k = nothing-found M ts
 form-none M ts ds (Head.struct x fs) es k = nothing-found M ts
@@ -337,16 +335,19 @@ form-none M ts ds (Head.cast a) es k = nothing-found M ts
 form-none M ts ds (Head.map f n) es k = nothing-found M ts
 form-none M ts ds (Head.fold f n) es k = nothing-found M ts
 
-none-typed : (M : ℕ) (ts : List TagValue) (ds : List Declared) (e : Expr) → Among untyped (role_of_expr e) → IsFound M ts (operand_type ds e) TypeFound.Unknown
+none-typed : (M : ℕ) (ts : List TagValue) (ds : List Declared) (e : Expr) → Untyped (role_of_expr e) → IsFound M ts (operand_type ds e) TypeFound.Unknown
 unfolding operand_type role_of_expr
-none-typed M ts ds (Expr.const l w) k = absurd (miss untyped 0 tt k)
-none-typed M ts ds (Expr.var x) k = absurd (miss untyped 1 tt k)
+none-typed M ts ds (Expr.const l w) k = absurd (k.constant refl)
+none-typed M ts ds (Expr.var x) k = absurd (k.name x refl)
 none-typed M ts ds (Expr.op h es) k = form-none M ts ds h es k
-none-typed M ts ds (Expr.pre a) k = absurd (miss untyped 4 tt k)
-none-typed M ts ds (Expr.arrow a b) k = absurd (miss untyped 5 tt k)
+none-typed M ts ds (Expr.pre a) k = absurd (k.previous refl)
+none-typed M ts ds (Expr.arrow a b) k = absurd (k.follow refl)
 none-typed M ts ds (Expr.call f es) k = nothing-found M ts
-none-typed M ts ds (Expr.when c a) k = absurd (miss untyped 2 tt k)
+none-typed M ts ds (Expr.when c a) k = absurd (k.sample c refl)
 none-typed M ts ds (Expr.merge x a b) k = nothing-found M ts
 
-pub rest-found : (M : ℕ) (ts : List TagValue) (ds : List Declared) (e : Expr) (v : Role) → v ≡ role_of_expr e → Among untyped v → IsFound M ts (operand_type ds e) TypeFound.Unknown
-rest-found M ts ds e v i h = none-typed M ts ds e (rw i at h)
+pub rest-found : (M : ℕ) (ts : List TagValue) (ds : List Declared) (e : Expr) (v : Role) → v ≡ role_of_expr e
+    → (v ≡ Role.Constant → ⊥) → ((x : ℕ) → v ≡ Role.Name x → ⊥) → ((k : Condition) → v ≡ Role.Sample k → ⊥) → (v ≡ Role.Previous → ⊥) → (v ≡ Role.Follow → ⊥) → (v ≡ Role.Index → ⊥)
+    → IsFound M ts (operand_type ds e) TypeFound.Unknown
+rest-found M ts ds e v i c n s p f x =
+    none-typed M ts ds e (record { constant = λ z. c (i ∙ z); name = λ y z. n y (i ∙ z); sample = λ k z. s k (i ∙ z); previous = λ z. p (i ∙ z); follow = λ z. f (i ∙ z); index = λ z. x (i ∙ z) })

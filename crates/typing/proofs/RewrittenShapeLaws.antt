@@ -6,7 +6,6 @@ use mathlib.Core.List.{List, [], ◌∷◌}
 use mathlib.Core.Bool.{Bool, true, false}
 use mathlib.Core.Option.{Option, none, some}
 use native.Mathlib.Omega.{arith}
-use types.Run.{miss}
 use Rattle.definitions.specs.declared.Condition.{Condition}
 use Rattle.definitions.specs.Lists.{choose}
 use Rattle.definitions.specs.Tree.{Declared, TypeDef, Expr, Exprs, Node}
@@ -14,13 +13,14 @@ use Rattle.definitions.specs.Clock.{Clock, is_base, parent}
 use Rattle.definitions.specs.Declock.{Shape, bare, other, calls, operator_outputs}
 use Rattle.operands.specs.declared.Role.{Role}
 use Rattle.operands.specs.Role.{role_of_expr}
-use Rattle.operands.proofs.Roles.{Among}
 use Rattle.index.specs.Callees.{is_there}
 use Rattle.stateless.specs.Yield.{shape_after}
 
--- the roles other than `Name`, `Sample` and `Call`
-abbrev still : List ℕ
-still = 0 ∷ 3 ∷ 4 ∷ 5 ∷ 7 ∷ 8 ∷ []
+-- the roles other than those of a name, a `when` and a call
+record Still (ρ : Role) : Type 0 where
+  name : (x : ℕ) → ρ ≡ Role.Name x → ⊥
+  sample : (k : Condition) → ρ ≡ Role.Sample k → ⊥
+  call : (f : ℕ) → ρ ≡ Role.Call f → ⊥
 
 module _ (types : List TypeDef) (l : List Node) (node : Node) (k : ℕ) (c : Clock) where
   -- ---- a call
@@ -62,16 +62,16 @@ module _ (types : List TypeDef) (l : List Node) (node : Node) (k : ℕ) (c : Clo
   pub call-after : (e : Expr) (f : ℕ) (es : Exprs) (s : Shape) → e ≡ Expr.call f es → s ≡ shape_after types l node k c (Expr.call f es) → s ≡ shape_after types l node k c e
   call-after e f es s i m = rw i m
 
-  still_after : (e : Expr) → Among still (role_of_expr e) → other ≡ shape_after types l node k c e
+  still_after : (e : Expr) → Still (role_of_expr e) → other ≡ shape_after types l node k c e
   unfolding role_of_expr shape_after
   still_after (Expr.const x w) h = refl
-  still_after (Expr.var x) h = absurd (miss still 1 tt h)
+  still_after (Expr.var x) h = absurd (h.name x refl)
   still_after (Expr.op o es) h = refl
   still_after (Expr.pre a) h = refl
   still_after (Expr.arrow a b) h = refl
-  still_after (Expr.call f es) h = absurd (miss still 6 tt h)
-  still_after (Expr.when x a) h = absurd (miss still 2 tt h)
+  still_after (Expr.call f es) h = absurd (h.call f refl)
+  still_after (Expr.when x a) h = absurd (h.sample x refl)
   still_after (Expr.merge x a b) h = refl
 
-  pub other_after : (e : Expr) (v : Role) → v ≡ role_of_expr e → Among still v → other ≡ shape_after types l node k c e
-  other_after e v i h = still_after e (rw i at h)
+  pub other_after : (e : Expr) (v : Role) → v ≡ role_of_expr e → ((x : ℕ) → v ≡ Role.Name x → ⊥) → ((x : Condition) → v ≡ Role.Sample x → ⊥) → ((f : ℕ) → v ≡ Role.Call f → ⊥) → other ≡ shape_after types l node k c e
+  other_after e v i n s f = still_after e (record { name = λ x z. n x (i ∙ z); sample = λ x z. s x (i ∙ z); call = λ x z. f x (i ∙ z) })

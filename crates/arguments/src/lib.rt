@@ -143,6 +143,24 @@ mod tests {
     use super::*;
     use std::test::Fail;
 
+    // A reader that gives a byte at a time, so many, and then fails.
+    #[derive(Drop)]
+    struct Failing(usize);
+
+    impl Read for Failing {
+        fn read(&mut self, buf: &mut [u8]) -> io::Result<usize> {
+            if self.0 == 0 {
+                return Err(io::Error::from(io::ErrorKind::Other));
+            }
+            if buf.is_empty() {
+                return Ok(0);
+            }
+            self.0 -= 1;
+            buf[0] = b'x';
+            Ok(1)
+        }
+    }
+
     // What is read goes on behind the start, and no further than the bytes reach.
     #[test]
     fn reads_on(rt: HostRuntime) -> Result<(), Fail> {
@@ -153,6 +171,16 @@ mod tests {
         let mut rest = [0u8; 5];
         assert_eq!(rt; read_full(&mut input, &mut rest)?, 1);
         assert_eq!(rt; rest.as_slice(), b"f\0\0\0\0".as_slice());
+        Ok(())
+    }
+
+    // A reader that fails before the bytes are full is told, and one that fails behind them is not asked.
+    #[test]
+    fn fails(rt: HostRuntime) -> Result<(), Fail> {
+        let mut bytes = [0u8; 3];
+        assert!(rt; read_full(&mut Failing(2), &mut bytes).is_err());
+        assert_eq!(rt; read_full(&mut Failing(3), &mut bytes)?, 3);
+        assert!(rt; read_on(&mut Failing(1), b"a", &mut bytes).is_err());
         Ok(())
     }
 }

@@ -34,7 +34,7 @@ use Rattle.lines.specs.Lending.{Gives}
 use Rattle.lines.proofs.Giving.{gives-written, gives-lent}
 use Rattle.lines.specs.Pieces.{head_line, equation_line, chain_line}
 use Rattle.lines.proofs.Pieces.{listing-pieces}
-use Rattle.lines.proofs.TextsLengths.{shallow, name-length, head-length, equation-length, chain_length, line-length, Within, join-length}
+use Rattle.lines.proofs.TextsLengths.{IsShallow, name-length, head-length, equation-length, chain_length, line-length, Within, join-length}
 use Rattle.lines.specs.declared.Told.{Told}
 use Rattle.lines.specs.Low.{Low}
 use Rattle.lines.specs.ToldClocks.{ToldClocks}
@@ -106,11 +106,11 @@ unfolding Low picked
 low-picked rows o i zero = tt
 low-picked rows o i (suc n) = (omega (arith, depth-in rows (17 * get_or o i 0)), low-picked rows o (i + 1) n)
 
-shallow-in : (k x w : ℕ) (c d : Clock) → depth c ≤ 8 → depth d ≤ 8 → shallow (fault_as k x w c d)
-unfolding shallow
+shallow-in : (k x w : ℕ) (c d : Clock) → depth c ≤ 8 → depth d ≤ 8 → IsShallow (fault_as k x w c d)
+unfolding IsShallow
 shallow-in k x w c d h g = go (eqb k 1) (eqb k 2) (eqb k 3)
   where
-    go : (a b e : Bool) → shallow (choose a (left_elsewhere x c d (eqb w 1)) (choose b (used_elsewhere x c d) (choose e (when_elsewhere (record { name = x; test = test_of w }) d) (clock_name_elsewhere x c d))))
+    go : (a b e : Bool) → IsShallow (choose a (left_elsewhere x c d (eqb w 1)) (choose b (used_elsewhere x c d) (choose e (when_elsewhere (record { name = x; test = test_of w }) d) (clock_name_elsewhere x c d))))
     go true b e = (h, g)
     go false true e = (h, g)
     go false false true = g

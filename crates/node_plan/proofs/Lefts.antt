@@ -9,8 +9,6 @@ use native.Mathlib.Omega.{arith}
 use lib.Dec.{eqb}
 use lib.ListN.{length, get_or}
 use borrow.Author.Tests.{eq-eqb, ne_eqb, lt-ltb}
-use types.Run.{OneOf, miss}
-use denote.Enum.Declared.{tag_of}
 use Rattle.definitions.specs.declared.Primitive.{Primitive}
 use Rattle.definitions.specs.Lists.{choose, or_else}
 use Rattle.definitions.specs.Bytes.{tokens}
@@ -34,7 +32,6 @@ use Rattle.index.specs.Callees.{is_there}
 use Rattle.plan.specs.Planned.{met_in}
 use Rattle.node_plan.specs.declared.Met.{Met}
 use Rattle.node_plan.specs.Noted.{met_of, gates_right}
-use Rattle.node_plan.specs.contracts.Met.{the_type}
 use Rattle.typing.specs.declared.After.{After}
 use Rattle.typing.specs.After.{after_of}
 use Rattle.stateless.specs.Faults.{unless, left_type_fault, left_fault, lefts_fault, several_fault, flagged_fault}
@@ -170,11 +167,8 @@ tell_none m t i = (sym (ap (λ (x : Met). is_there (met_of x)) i), λ z. refl, �
 pub tell_some : (m : Met) (t t' : List ℕ) (o : Fault) → met_of m ≡ some o → (length t ≡ 8 → met_in t' ≡ some o) → (true ≡ is_there (met_of m)) × (◌≡◌ {A = Bool} true false → t' ≡ t) × (length t ≡ 8 → met_in t ≡ none → met_in t' ≡ met_of m)
 tell_some m t t' o i k = (sym (ap is_there i), λ z. absurd (true≢false z), λ l h. k l ∙ sym i)
 
-abbrev some-met : List ℕ
-some-met = 1 ∷ 2 ∷ 3 ∷ []
-
-pub first-met : (a b : Met) → OneOf some-met (tag_of the_type a) → met_of a ≡ or_else (met_of a) (met_of b)
-first-met Met.Nothing b h = absurd (miss some-met 0 tt h)
+pub first-met : (a b : Met) → (a ≡ Met.Nothing → ⊥) → met_of a ≡ or_else (met_of a) (met_of b)
+first-met Met.Nothing b h = absurd (h refl)
 first-met (Met.Undeclared x) b h = refl
 first-met (Met.NoDefault x) b h = refl
 first-met Met.NotSingleCall b h = refl

@@ -5,15 +5,6 @@ use borrow.Author.Rules.{rules}
 use Prim.Native.Nat.{ℕ}
 use Rattle.planned.proofs.+put_left_defaults.Goals as goal
 
-put-left-defaults-put-left-default-requires : (t : ℕ) → put-left-defaults-lts.Need-put-left-default-requires ( value-at-reads.Asked, value-at-reads.Learnt, past-reads.Asked, past-reads.Learnt, put-left-default-reads.Asked, put-left-default-reads.Learnt, put-left-defaults-below t, put-left-defaults.Post, ) (put-left-defaults-at t) put-left-defaults.Post
-put-left-defaults-put-left-default-requires t c κs = search rules
-
-put-left-defaults-sub-put-left-defaults : (t : ℕ) → put-left-defaults-lts.Need-overflow-sub-put-left-defaults ( value-at-reads.Asked, value-at-reads.Learnt, past-reads.Asked, past-reads.Learnt, put-left-default-reads.Asked, put-left-default-reads.Learnt, put-left-defaults-below t, put-left-defaults.Post, ) (put-left-defaults-at t) put-left-defaults.Post
-put-left-defaults-sub-put-left-defaults t c = search rules
-
-put-left-defaults-put-left-defaults-requires : (t : ℕ) → put-left-defaults-lts.Need-put-left-defaults-requires ( value-at-reads.Asked, value-at-reads.Learnt, past-reads.Asked, past-reads.Learnt, put-left-default-reads.Asked, put-left-default-reads.Learnt, put-left-defaults-below t, put-left-defaults.Post, ) (put-left-defaults-at t) put-left-defaults.Post
-put-left-defaults-put-left-defaults-requires t c κs = search rules
-
 pub returns-then-count-eq0 : goal.returns-then-count-eq0
 returns-then-count-eq0 t c = λ ts l n u lay xs q t d k g free. wrote-no-left ts l n xs _ (no_name _ _ _ c.requires.values_len _ _ xs q c.if-count-eq0.true g)
 

@@ -1,14 +1,14 @@
 -- Laws on words that are numbers.
 -- Assumes nothing.
 use Prim.Native.Nat.{ℕ, suc, ◌+◌, ◌*◌, ◌-◌, ◌≤◌, ◌<◌, min}
-use mathlib.Core.Path.{◌≡◌, refl, sym, ap, ◌∙◌}
-use mathlib.Core.Bool.{Bool, true, false}
-use mathlib.Core.List.{List, [], ◌∷◌}
+use mathlib.Core.Path.{◌≡◌, refl, ◌∙◌}
+use mathlib.Core.Bool.{true, false}
+use mathlib.Core.List.{[], ◌∷◌}
 use native.Mathlib.Numerals.{add-one}
 use native.Mathlib.Omega.{arith}
 use lib.ListN.{length, get_or, drop, drop_of_length-le}
 use lib.Seq.{drop-cons}
-use Rattle.definitions.specs.Lists.{choose, all, Letters}
+use Rattle.definitions.specs.Lists.{all, Letters}
 use Rattle.definitions.specs.Bytes.{is_digit}
 use Rattle.arguments.specs.declared.Word.{Word}
 use Rattle.arguments.specs.Words.{most, written, number_of}

@@ -1,12 +1,16 @@
-// What the programs share: what a word of a command line says, the front of lent bytes, the rest of a sheet that is read.
+// What the programs share: what a word of a command line says, the front of lent bytes, bytes read until a buffer is full.
 #![tactic(auto)]
 
-ghost use Rattle.std.specs.Prelude.{◌≡◌, ◌+◌, ◌*◌, ◌-◌, ◌≤◌, ◌<◌, min, length, take};
+ghost use Rattle.std.specs.Prelude.{◌≡◌, ◌+◌, ◌*◌, ◌-◌, ◌≤◌, ◌<◌, min, length, take, drop, IfOk, OnOk, IfSome};
+ghost use Rattle.std.specs.Io.{ReadsAtMost};
+ghost use Rattle.std.specs.Io.KnownBytes.{Appends, Consumes, IsAtEnd};
+ghost use Rattle.definitions.specs.Lists.{Letters};
 ghost use Rattle.definitions.specs.Bytes.{is_digit};
-ghost use Rattle.io.specs.Counts.{IsPrefixLen};
 ghost use Rattle.arguments.specs.Words.{most, number_of, meaning_of};
 
-use libc::STDIN_FILENO;
+use std::env::{Env, FillError};
+use std::io;
+use std::io::{Read, Write};
 
 // What a word of a command line says: it asks for help, or is a number in decimal, or is neither.
 #[derive(Clone, Copy)]
@@ -51,18 +55,15 @@ fn extended(n: usize, b: u8) -> usize
 fn number(word: &[u8]) -> Word
     ensures { result ≡ number_of word.now }
 {
-    if word.len() == 0 {
+    if word.is_empty() {
         return Word::Other;
     }
     let mut n: usize = 0;
-    let mut i: usize = 0;
-    while i < word.len() {
-        let b = word[i];
-        if !is_digit(b) {
+    for b in word {
+        if !is_digit(*b) {
             return Word::Other;
         }
-        n = extended(n, b);
-        i += 1;
+        n = extended(n, *b);
     }
     Word::Number(n)
 }
@@ -77,29 +78,109 @@ pub fn meaning(word: &[u8]) -> Word
     number(word)
 }
 
+// What argument i of the command line says, where it is given. One that is longer than 4,096 bytes is neither help nor a number.
+pub fn argument(env: &impl Env, i: usize) -> Option<Word>
+    ensures { IfSome result (λ w. (l : Letters) × (w ≡ meaning_of l)) }
+{
+    let mut word = [0u8; 4096];
+    match env.arg(i, &mut word) {
+        Ok(n) => Some(meaning(&word[..n])),
+        Err(FillError::TooLong) => Some(Word::Other),
+        Err(FillError::NotPresent) => None,
+    }
+}
+
 // The first n bytes, or all where there are fewer.
 pub fn front(bytes: &[u8], n: usize) -> &[u8]
     ensures { result.now ≡ take n bytes.now }
 {
-    let from: usize = 0;
     if n < bytes.len() {
-        return &bytes[from..n];
+        return &bytes[..n];
     }
     bytes
 }
 
-// The rest of the sheet on standard input, of which the start is read: the whole over the front of these bytes, and how long it is.
-pub fn read_on(start: &[u8], sheet: &mut [u8]) -> usize
+// Writes the first n bytes, or all where there are fewer.
+pub fn show<W: Write>(writer: &mut W, bytes: &[u8], n: usize) -> io::Result<()>
+    ensures { OnOk result (Appends (W.contents writer.old) (W.contents writer.new) (take n bytes.now)) }
+{
+    writer.write_all(front(bytes, n))
+}
+
+// Reads until these bytes are full or the input ends: how many were read.
+pub fn read_full<R: Read>(reader: &mut R, bytes: &mut [u8]) -> io::Result<usize>
+    ensures prefix_len { ReadsAtMost result bytes.new }
+    ensures consumed { IfOk result (λ n. Consumes (R.remaining reader.old) (R.remaining reader.new) (take n bytes.new)) }
+    ensures end { IfOk result (λ n. n < length bytes.new → IsAtEnd (R.remaining reader.new)) }
+{
+    let mut done = 0;
+    while done < bytes.len() {
+        let n = reader.read(&mut bytes[done..])?;
+        if n == 0 {
+            return Ok(done);
+        }
+        done += n;
+    }
+    Ok(done)
+}
+
+// The rest of a sheet of which the start is read: the whole over the front of these bytes, and how long it is.
+pub fn read_on<R: Read>(reader: &mut R, start: &[u8], sheet: &mut [u8]) -> io::Result<usize>
     requires { length start.now ≤ length sheet.old }
-    ensures prefix_len { IsPrefixLen result sheet.new }
-    ensures lower_bound { (length start.now ≤ result) × (take (length start.now) sheet.new ≡ start.now) }
+    ensures prefix_len { ReadsAtMost result sheet.new }
+    ensures lower_bound { IfOk result (λ n. (length start.now ≤ n) × (take (length start.now) sheet.new ≡ start.now)) }
+    ensures consumed { IfOk result (λ n. Consumes (R.remaining reader.old) (R.remaining reader.new) (drop (length start.now) (take n sheet.new))) }
+    ensures end { IfOk result (λ n. n < length sheet.new → IsAtEnd (R.remaining reader.new)) }
 {
     let n = start.len();
-    let mut i: usize = 0;
-    while i < n {
-        sheet[i] = start[i];
-        i += 1;
+    sheet[..n].copy_from_slice(start);
+    let m = read_full(reader, &mut sheet[n..])?;
+    Ok(n + m)
+}
+
+#[cfg(test)]
+mod tests {
+    use super::*;
+    use std::test::Fail;
+
+    // A reader that gives a byte at a time, so many, and then fails.
+    #[derive(Drop)]
+    struct Failing(usize);
+
+    impl Read for Failing {
+        fn read(&mut self, buf: &mut [u8]) -> io::Result<usize> {
+            if self.0 == 0 {
+                return Err(io::Error::from(io::ErrorKind::Other));
+            }
+            if buf.is_empty() {
+                return Ok(0);
+            }
+            self.0 -= 1;
+            buf[0] = b'x';
+            Ok(1)
+        }
     }
-    let m = io::read_full(STDIN_FILENO, &mut sheet[n..]);
-    n + m
+
+    // What is read goes on behind the start, and no further than the bytes reach.
+    #[test]
+    fn reads_on(rt: HostRuntime) -> Result<(), Fail> {
+        let mut input = b"cdef".as_slice();
+        let mut sheet = [0u8; 5];
+        assert_eq!(rt; read_on(&mut input, b"ab", &mut sheet)?, 5);
+        assert_eq!(rt; sheet.as_slice(), b"abcde".as_slice());
+        let mut rest = [0u8; 5];
+        assert_eq!(rt; read_full(&mut input, &mut rest)?, 1);
+        assert_eq!(rt; rest.as_slice(), b"f\0\0\0\0".as_slice());
+        Ok(())
+    }
+
+    // A reader that fails before the bytes are full is told, and one that fails behind them is not asked.
+    #[test]
+    fn fails(rt: HostRuntime) -> Result<(), Fail> {
+        let mut bytes = [0u8; 3];
+        assert!(rt; read_full(&mut Failing(2), &mut bytes).is_err());
+        assert_eq!(rt; read_full(&mut Failing(3), &mut bytes)?, 3);
+        assert!(rt; read_on(&mut Failing(1), b"a", &mut bytes).is_err());
+        Ok(())
+    }
 }

@@ -3,8 +3,9 @@
 
 use arguments::Word;
 use definitions::Refusal;
-use libc::{STDERR_FILENO, STDIN_FILENO, STDOUT_FILENO};
 use listings::ListingAnswer;
+use std::io;
+use std::io::{Read, Write};
 
 // What is asked for: the listing of every node, or of one.
 #[derive(Clone, Copy)]
@@ -13,9 +14,8 @@ enum Asked {
     Node(usize),
 }
 
-fn help() {
-    io::write_all(
-        STDOUT_FILENO,
+fn help(output: &mut impl Write) -> io::Result<()> {
+    output.write_all(
         b"clocks [NODE]: prints the clocks of each node of the sheet on standard input, or of node NODE, counted from 0.
 
 NAME EQUATIONS PASSES CHAINS       the node's name, its number of equations, the passes made, its number of chains
@@ -27,24 +27,17 @@ A clock is base, and then a condition /NAME+ where the name is on, or /NAME- whe
 A sheet that is turned down leaves standard output empty, and is one line on standard error, `refused NUMBER PLACE: REASON`;
 rewrite --help lists the numbers. The exit status is 0 in both cases.
 ",
-    );
+    )
 }
 
-fn wrong() {
-    io::write_all(
-        STDERR_FILENO,
-        b"clocks: NODE is a node's number, counted from 0; clocks --help says more\n",
-    );
+fn wrong(errors: &mut impl Write) -> io::Result<()> {
+    errors.write_all(b"clocks: NODE is a node's number, counted from 0; clocks --help says more\n")
 }
 
-fn show(fd: i32, out: &[u8], n: usize) {
-    io::write_all(fd, arguments::front(out, n));
-}
-
-fn refuse(r: Refusal) {
+fn refuse(errors: &mut impl Write, r: Refusal) -> io::Result<()> {
     let mut out = [0u8; 256];
     let n = refusals::put_reason(&mut out, r);
-    show(STDERR_FILENO, &out, n);
+    arguments::show(errors, &out, n)
 }
 
 fn listed(sheet: &[u8], asked: Asked, out: &mut [u8]) -> ListingAnswer {
@@ -58,35 +51,50 @@ fn listed_long(sheet: &[u8], asked: Asked, out: &mut [u8; 3407872]) -> ListingAn
     listed(sheet, asked, out)
 }
 
-fn show_long(out: &[u8; 3407872], n: usize) {
-    show(STDOUT_FILENO, out, n)
+fn show_long(output: &mut impl Write, out: &[u8; 3407872], n: usize) -> io::Result<()> {
+    arguments::show(output, out, n)
 }
 
 // A long listing. Each line comes of a token of its own, of which there are at most 4,096, and the longest, a fault's, is 819 bytes.
-fn print_long(sheet: &[u8], asked: Asked) {
+fn print_long(
+    output: &mut impl Write,
+    errors: &mut impl Write,
+    sheet: &[u8],
+    asked: Asked,
+) -> io::Result<()> {
     let mut out = [0u8; 3407872];
     let answer = listed_long(sheet, asked, &mut out);
     match answer {
-        ListingAnswer::Written(n) => show_long(&out, n),
-        ListingAnswer::Refused(r) => refuse(r),
+        ListingAnswer::Written(n) => show_long(output, &out, n),
+        ListingAnswer::Refused(r) => refuse(errors, r),
     }
 }
 
-fn turn_down(sheet: &[u8], asked: Asked, r: Refusal) {
+fn turn_down(
+    output: &mut impl Write,
+    errors: &mut impl Write,
+    sheet: &[u8],
+    asked: Asked,
+    r: Refusal,
+) -> io::Result<()> {
     if let Refusal::Lent(_) = r {
-        print_long(sheet, asked);
-        return;
+        return print_long(output, errors, sheet, asked);
     }
-    refuse(r);
+    refuse(errors, r)
 }
 
 // A short sheet's listing is mostly short.
-fn print_short(sheet: &[u8], asked: Asked) {
+fn print_short(
+    output: &mut impl Write,
+    errors: &mut impl Write,
+    sheet: &[u8],
+    asked: Asked,
+) -> io::Result<()> {
     let mut out = [0u8; 16384];
     let answer = listed(sheet, asked, &mut out);
     match answer {
-        ListingAnswer::Written(n) => show(STDOUT_FILENO, &out, n),
-        ListingAnswer::Refused(r) => turn_down(sheet, asked, r),
+        ListingAnswer::Written(n) => arguments::show(output, &out, n),
+        ListingAnswer::Refused(r) => turn_down(output, errors, sheet, asked, r),
     }
 }
 
@@ -94,57 +102,63 @@ fn listed_middle(sheet: &[u8], asked: Asked, out: &mut [u8; 524288]) -> ListingA
     listed(sheet, asked, out)
 }
 
-fn show_middle(out: &[u8; 524288], n: usize) {
-    show(STDOUT_FILENO, out, n)
+fn show_middle(output: &mut impl Write, out: &[u8; 524288], n: usize) -> io::Result<()> {
+    arguments::show(output, out, n)
 }
 
 // Only hostile sheets are listed in more bytes than these.
-fn print_middle(sheet: &[u8], asked: Asked) {
+fn print_middle(
+    output: &mut impl Write,
+    errors: &mut impl Write,
+    sheet: &[u8],
+    asked: Asked,
+) -> io::Result<()> {
     let mut out = [0u8; 524288];
     let answer = listed_middle(sheet, asked, &mut out);
     match answer {
-        ListingAnswer::Written(n) => show_middle(&out, n),
-        ListingAnswer::Refused(r) => turn_down(sheet, asked, r),
+        ListingAnswer::Written(n) => show_middle(output, &out, n),
+        ListingAnswer::Refused(r) => turn_down(output, errors, sheet, asked, r),
     }
 }
 
 // A longer sheet, of which these bytes are read.
-fn answer_long(start: &[u8; 4096], asked: Asked) {
-    let mut sheet = io::large_buffer();
-    let n = arguments::read_on(start, &mut sheet);
-    print_middle(&sheet[..n], asked);
+fn answer_long(
+    input: &mut impl Read,
+    output: &mut impl Write,
+    errors: &mut impl Write,
+    start: &[u8; 4096],
+    asked: Asked,
+) -> io::Result<()> {
+    let mut sheet = [0u8; 65536];
+    let n = arguments::read_on(input, start, &mut sheet)?;
+    print_middle(output, errors, &sheet[..n], asked)
 }
 
-fn answer(asked: Asked) {
-    let mut start = io::buffer();
-    let n = io::read_full(STDIN_FILENO, &mut start);
+fn answer(
+    input: &mut impl Read,
+    output: &mut impl Write,
+    errors: &mut impl Write,
+    asked: Asked,
+) -> io::Result<()> {
+    let mut start = [0u8; 4096];
+    let n = arguments::read_full(input, &mut start)?;
     if n < 4096 {
-        print_short(&start[..n], asked);
-        return;
+        return print_short(output, errors, &start[..n], asked);
     }
-    answer_long(&start, asked);
+    answer_long(input, output, errors, &start, asked)
 }
 
-// What the one word says.
-fn obey() {
-    let mut word = io::buffer();
-    let n = os::arg(1, &mut word);
-    match arguments::meaning(&word[..n]) {
-        Word::Help => help(),
-        Word::Number(k) => answer(Asked::Node(k)),
-        Word::Other => wrong(),
+fn main(rt: HostRuntime) -> io::Result<()> {
+    let mut input = rt.stdin();
+    let mut output = rt.stdout();
+    let mut errors = rt.stderr();
+    if arguments::argument(&rt, 2).is_some() {
+        return wrong(&mut errors);
     }
-}
-
-fn main() {
-    let words = os::arg_count();
-    if words < 2 {
-        answer(Asked::Every);
-        return;
+    match arguments::argument(&rt, 1) {
+        None => answer(&mut input, &mut output, &mut errors, Asked::Every),
+        Some(Word::Help) => help(&mut output),
+        Some(Word::Number(node)) => answer(&mut input, &mut output, &mut errors, Asked::Node(node)),
+        Some(Word::Other) => wrong(&mut errors),
     }
-    if 2 < words {
-        wrong();
-        return;
-    }
-    obey();
 }

@@ -10,11 +10,13 @@ ghost use Rattle.definitions.specs.Grammar.{type_def};
 ghost use Rattle.parts.specs.Answers.{Accepted, sizes_of};
 ghost use Rattle.inspect.specs.Summary.{type_summary};
 
+use arguments::Word;
 use definitions::{MOST_NODES, MOST_TOKENS, MOST_TYPES, NodeKind, Refusal};
 use layout::{Defined, NodeLayout};
-use libc::{STDERR_FILENO, STDIN_FILENO, STDOUT_FILENO};
 use parts::Sizes;
 use sheet::SheetAnswer;
+use std::io;
+use std::io::Write;
 
 // A type's definition in short: its name, what it is, and how many variants or fields it has, 1 for an alias.
 #[derive(Clone, Copy)]
@@ -160,11 +162,9 @@ fn put_types(
     }
     let places = layout::definition_places(tags, values, names, n, types.at);
     let mut next = at;
-    let mut i: usize = 0;
-    while i < n {
-        let t = type_summary(tags, values, names, places[i]);
+    for place in &places[..n] {
+        let t = type_summary(tags, values, names, *place);
         next = put_type(out, next, starts, letters, t);
-        i += 1;
     }
     next
 }
@@ -189,12 +189,10 @@ fn put_nodes(
     }
     let places = layout::node_places(tags, values, names, n, nodes.at);
     let mut next = at;
-    let mut i: usize = 0;
-    while i < n {
-        let one = layout::node_at(tags, values, names, places[i]);
-        let uses = sheet::node_uses_clocks(tags, values, names, places[i]);
+    for place in &places[..n] {
+        let one = layout::node_at(tags, values, names, *place);
+        let uses = sheet::node_uses_clocks(tags, values, names, *place);
         next = put_node(out, next, starts, letters, one, uses);
-        i += 1;
     }
     next
 }
@@ -221,11 +219,6 @@ fn put_lines(
     put_nodes(out, b, tags, values, names, &starts, letters)
 }
 
-// Writes the first n bytes.
-fn show(fd: i32, out: &[u8; 4096], n: usize) {
-    io::write_all(fd, arguments::front(out, n));
-}
-
 // The lines of an accepted sheet, whose tokens stand at the front of these arrays.
 fn put_front(out: &mut [u8; 4096], bytes: &[u8], tags: &[u8], values: &[u32], sizes: Sizes) -> usize
     requires accepted { Accepted bytes.now × (sizes ≡ sizes_of bytes.now) }
@@ -244,34 +237,39 @@ fn put_front(out: &mut [u8; 4096], bytes: &[u8], tags: &[u8], values: &[u32], si
     )
 }
 
-fn report(bytes: &[u8], tags: &[u8; MOST_TOKENS], values: &[u32; MOST_TOKENS], sizes: Sizes)
+fn report(
+    to: &mut impl Write,
+    bytes: &[u8],
+    tags: &[u8; MOST_TOKENS],
+    values: &[u32; MOST_TOKENS],
+    sizes: Sizes,
+) -> io::Result<()>
     requires { Accepted bytes.now × (sizes ≡ sizes_of bytes.now) }
 {
     let mut out = [0u8; 4096];
     let end = put_front(&mut out, bytes, tags, values, sizes);
-    show(STDOUT_FILENO, &out, end);
+    arguments::show(to, &out, end)
 }
 
 // `refused NUMBER PLACE: REASON`
-fn refuse(r: Refusal) {
+fn refuse(to: &mut impl Write, r: Refusal) -> io::Result<()> {
     let mut out = [0u8; 4096];
     let end = refusals::put_reason(&mut out, r);
-    show(STDERR_FILENO, &out, end);
+    arguments::show(to, &out, end)
 }
 
-fn inspect(bytes: &[u8]) {
+fn inspect(output: &mut impl Write, errors: &mut impl Write, bytes: &[u8]) -> io::Result<()> {
     let mut tags = [0u8; MOST_TOKENS];
     let mut values = [0u32; MOST_TOKENS];
     let answer = sheet::read(bytes, &mut tags, &mut values);
     match answer {
-        SheetAnswer::Refused(r) => refuse(r),
-        SheetAnswer::Sheet(sizes) => report(bytes, &tags, &values, sizes),
+        SheetAnswer::Refused(r) => refuse(errors, r),
+        SheetAnswer::Sheet(sizes) => report(output, bytes, &tags, &values, sizes),
     }
 }
 
-fn help() {
-    io::write_all(
-        STDOUT_FILENO,
+fn help(output: &mut impl Write) -> io::Result<()> {
+    output.write_all(
         b"inspect: says what the sheet on standard input has.
 
 sheet M L T                    numbers of names, letters and tokens
@@ -282,22 +280,14 @@ node NAME KIND INPUTS OUTPUTS LOCALS EQUATIONS PROBES CLOCKS
 A sheet that is turned down leaves standard output empty, and is one line on standard error, `refused NUMBER PLACE: REASON`;
 rewrite --help lists the numbers. The exit status is 0 in both cases.
 ",
-    );
+    )
 }
 
-// Is the first argument `--help`?
-fn asks_help() -> bool {
-    let mut word = [0u8; MOST_NODES];
-    let n = os::arg(1, &mut word);
-    parts::same(&word[..n], b"--help")
-}
-
-fn main() {
-    if asks_help() {
-        help();
-        return;
+fn main(rt: HostRuntime) -> io::Result<()> {
+    if let Some(Word::Help) = arguments::argument(&rt, 1) {
+        return help(&mut rt.stdout());
     }
-    let mut bytes = io::large_buffer();
-    let n = io::read_full(STDIN_FILENO, &mut bytes);
-    inspect(&bytes[..n]);
+    let mut bytes = [0u8; 65536];
+    let n = arguments::read_full(&mut rt.stdin(), &mut bytes)?;
+    inspect(&mut rt.stdout(), &mut rt.stderr(), &bytes[..n])
 }

@@ -4,12 +4,12 @@
 use arguments::Word;
 use declock_project::RewriteAnswer;
 use definitions::Refusal;
-use libc::{STDERR_FILENO, STDIN_FILENO, STDOUT_FILENO};
 use listings::ListingAnswer;
+use std::io;
+use std::io::{Read, Write};
 
-fn help() {
-    io::write_all(
-        STDOUT_FILENO,
+fn help(output: &mut impl Write) -> io::Result<()> {
+    output.write_all(
         b"rewrite [BYTES]: rewrites the sheet on standard input to run on one base tick, to standard output.
 
 BYTES is how many bytes are lent for the rewritten sheet; without it they are enough for any.
@@ -35,26 +35,18 @@ fault NODE FAULT EQUATION TEXT     under 10: a line for each faulty node, its fi
 Limits: 1,024 names, 16,384 letters, 2 to 4,096 tokens; 32 types, 16 nodes; of a node 64 equations and 128 declared names; 1 to 8 left
 names; 0 or 1 start values; 64 of anything else; arrays of 256, array types 8 deep, expressions 32 deep.
 ",
-    );
+    )
 }
 
-fn wrong() {
-    io::write_all(
-        STDERR_FILENO,
-        b"rewrite: BYTES is a number of bytes; rewrite --help says more\n",
-    );
-}
-
-// Writes the first n bytes.
-fn show(fd: i32, out: &[u8], n: usize) {
-    io::write_all(fd, arguments::front(out, n));
+fn wrong(errors: &mut impl Write) -> io::Result<()> {
+    errors.write_all(b"rewrite: BYTES is a number of bytes; rewrite --help says more\n")
 }
 
 // `refused NUMBER PLACE: REASON`
-fn show_refusal(r: Refusal) {
+fn show_refusal(errors: &mut impl Write, r: Refusal) -> io::Result<()> {
     let mut line = [0u8; 256];
     let n = refusals::put_reason(&mut line, r);
-    show(STDERR_FILENO, &line, n);
+    arguments::show(errors, &line, n)
 }
 
 // `faults COUNT`
@@ -64,109 +56,122 @@ fn put_count(out: &mut [u8; 128], count: usize) -> usize {
     spelling::put(out, b, b'\n')
 }
 
-fn show_line(line: &[u8; 128], n: usize) {
-    show(STDERR_FILENO, line, n)
-}
-
-fn show_lines(lines: &[u8; 16384], n: usize) {
-    show(STDERR_FILENO, lines, n)
-}
-
-fn show_count(count: usize) {
+fn show_count(errors: &mut impl Write, count: usize) -> io::Result<()> {
     let mut line = [0u8; 128];
     let n = put_count(&mut line, count);
-    show_line(&line, n);
+    arguments::show(errors, &line, n)
 }
 
 // A line for each faulty node, its first fault: 16,384 bytes are enough for sixteen, the longest being 819.
-fn show_faults(sheet: &[u8]) {
+fn show_faults(errors: &mut impl Write, sheet: &[u8]) -> io::Result<()> {
     let mut lines = [0u8; 16384];
     let answer = questions::fault_lines(sheet, &mut lines);
     if let ListingAnswer::Written(n) = answer {
-        show_lines(&lines, n);
+        arguments::show(errors, &lines, n)?;
     }
+    Ok(())
 }
 
-fn refuse(sheet: &[u8], r: Refusal) {
-    show_refusal(r);
+fn refuse(errors: &mut impl Write, sheet: &[u8], r: Refusal) -> io::Result<()> {
+    show_refusal(errors, r)?;
     if let Refusal::Faulty(count) = r {
-        show_count(count);
-        show_faults(sheet);
+        show_count(errors, count)?;
+        show_faults(errors, sheet)?;
     }
+    Ok(())
 }
 
 // Rewrites into the bytes lent.
-fn rewrite(sheet: &[u8], out: &mut [u8]) {
+fn rewrite(
+    output: &mut impl Write,
+    errors: &mut impl Write,
+    sheet: &[u8],
+    out: &mut [u8],
+) -> io::Result<()> {
     let told = clock_pass::rewrite_told(sheet, out);
     let answer = told.answer;
     match answer {
-        RewriteAnswer::Written(n) => show(STDOUT_FILENO, out, n),
-        RewriteAnswer::Refused(r) => refuse(sheet, r),
+        RewriteAnswer::Written(n) => arguments::show(output, out, n),
+        RewriteAnswer::Refused(r) => refuse(errors, sheet, r),
     }
 }
 
-fn rewrite_lent(sheet: &[u8], out: &mut [u8], lent: usize) {
-    let from: usize = 0;
+fn rewrite_lent(
+    output: &mut impl Write,
+    errors: &mut impl Write,
+    sheet: &[u8],
+    out: &mut [u8],
+    lent: usize,
+) -> io::Result<()> {
     if lent < out.len() {
-        rewrite(sheet, &mut out[from..lent]);
-        return;
+        return rewrite(output, errors, sheet, &mut out[..lent]);
     }
-    rewrite(sheet, out);
+    rewrite(output, errors, sheet, out)
 }
 
 // 65,536 bytes are enough for any rewritten sheet.
-fn answer_sheet(sheet: &[u8], lent: usize) {
-    let mut out = io::large_buffer();
-    rewrite_lent(sheet, &mut out, lent);
+fn answer_sheet(
+    output: &mut impl Write,
+    errors: &mut impl Write,
+    sheet: &[u8],
+    lent: usize,
+) -> io::Result<()> {
+    let mut out = [0u8; 65536];
+    rewrite_lent(output, errors, sheet, &mut out, lent)
 }
 
 // A sheet of less than 64 bytes has too few tokens for a when: it comes out as it is, and fits in what it was read into.
-fn answer_few(sheet: &[u8], lent: usize) {
-    let mut out = io::buffer();
-    rewrite_lent(sheet, &mut out, lent);
+fn answer_few(
+    output: &mut impl Write,
+    errors: &mut impl Write,
+    sheet: &[u8],
+    lent: usize,
+) -> io::Result<()> {
+    let mut out = [0u8; 4096];
+    rewrite_lent(output, errors, sheet, &mut out, lent)
 }
 
 // A sheet of which these bytes are read.
-fn answer_long(start: &[u8; 4096], lent: usize) {
-    let mut sheet = io::large_buffer();
-    let n = arguments::read_on(start, &mut sheet);
-    answer_sheet(&sheet[..n], lent);
+fn answer_long(
+    input: &mut impl Read,
+    output: &mut impl Write,
+    errors: &mut impl Write,
+    start: &[u8; 4096],
+    lent: usize,
+) -> io::Result<()> {
+    let mut sheet = [0u8; 65536];
+    let n = arguments::read_on(input, start, &mut sheet)?;
+    answer_sheet(output, errors, &sheet[..n], lent)
 }
 
-fn answer(lent: usize) {
-    let mut start = io::buffer();
-    let n = io::read_full(STDIN_FILENO, &mut start);
+fn answer(
+    input: &mut impl Read,
+    output: &mut impl Write,
+    errors: &mut impl Write,
+    lent: usize,
+) -> io::Result<()> {
+    let mut start = [0u8; 4096];
+    let n = arguments::read_full(input, &mut start)?;
     if n < 64 {
-        answer_few(&start[..n], lent);
-        return;
+        return answer_few(output, errors, &start[..n], lent);
     }
     if n < 4096 {
-        answer_sheet(&start[..n], lent);
-        return;
+        return answer_sheet(output, errors, &start[..n], lent);
     }
-    answer_long(&start, lent);
+    answer_long(input, output, errors, &start, lent)
 }
 
-// What the one word says.
-fn obey() {
-    let mut word = io::buffer();
-    let n = os::arg(1, &mut word);
-    match arguments::meaning(&word[..n]) {
-        Word::Help => help(),
-        Word::Number(lent) => answer(lent),
-        Word::Other => wrong(),
+fn main(rt: HostRuntime) -> io::Result<()> {
+    let mut input = rt.stdin();
+    let mut output = rt.stdout();
+    let mut errors = rt.stderr();
+    if arguments::argument(&rt, 2).is_some() {
+        return wrong(&mut errors);
     }
-}
-
-fn main() {
-    let words = os::arg_count();
-    if words < 2 {
-        answer(65536);
-        return;
+    match arguments::argument(&rt, 1) {
+        None => answer(&mut input, &mut output, &mut errors, 65536),
+        Some(Word::Help) => help(&mut output),
+        Some(Word::Number(lent)) => answer(&mut input, &mut output, &mut errors, lent),
+        Some(Word::Other) => wrong(&mut errors),
     }
-    if 2 < words {
-        wrong();
-        return;
-    }
-    obey();
 }

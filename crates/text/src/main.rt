@@ -3,12 +3,23 @@
 
 use arguments::Word;
 use definitions::Refusal;
-use libc::{STDERR_FILENO, STDIN_FILENO, STDOUT_FILENO};
 use listings::ListingAnswer;
+use std::io;
+use std::io::{Read, Write};
 
-fn help() {
-    io::write_all(
-        STDOUT_FILENO,
+// So many bytes are enough for any text.
+const ENOUGH: usize = 4096;
+
+// What is asked for: help, the text of a node's fault into so many bytes, or nothing that is understood.
+#[derive(Clone, Copy)]
+enum Asked {
+    Help,
+    Text(usize, usize, usize),
+    Other,
+}
+
+fn help(output: &mut impl Write) -> io::Result<()> {
+    output.write_all(
         b"text NODE FAULT [BYTES]: prints the text of a fault of a node of the sheet on standard input.
 
 NODE and FAULT are counted from 0: the node's clock faults, or, where it has none, the first fault that rewriting it meets.
@@ -16,92 +27,103 @@ BYTES is how many bytes are lent for the text; without it they are enough for an
 A question that is turned down leaves standard output empty, and is one line on standard error, `refused NUMBER PLACE: REASON`;
 rewrite --help lists the numbers. The exit status is 0 in both cases.
 ",
-    );
+    )
 }
 
-fn wrong() {
-    io::write_all(
-        STDERR_FILENO,
+fn wrong(errors: &mut impl Write) -> io::Result<()> {
+    errors.write_all(
         b"text: write text NODE FAULT, both numbers counted from 0; text --help says more\n",
-    );
+    )
 }
 
-// Writes the first n bytes.
-fn show(fd: i32, out: &[u8], n: usize) {
-    io::write_all(fd, arguments::front(out, n));
-}
-
-fn refuse(r: Refusal) {
+fn refuse(errors: &mut impl Write, r: Refusal) -> io::Result<()> {
     let mut line = [0u8; 256];
     let n = refusals::put_reason(&mut line, r);
-    show(STDERR_FILENO, &line, n);
+    arguments::show(errors, &line, n)
 }
 
 // The text into the bytes lent, and a line feed.
-fn tell(sheet: &[u8], node: usize, fault: usize, out: &mut [u8]) {
+fn tell(
+    output: &mut impl Write,
+    errors: &mut impl Write,
+    sheet: &[u8],
+    node: usize,
+    fault: usize,
+    out: &mut [u8],
+) -> io::Result<()> {
     let answer = questions::text(sheet, node, fault, out);
     match answer {
         ListingAnswer::Written(n) => {
-            show(STDOUT_FILENO, out, n);
-            io::write_all(STDOUT_FILENO, b"\n");
+            arguments::show(output, out, n)?;
+            output.write_all(b"\n")
         }
-        ListingAnswer::Refused(r) => refuse(r),
+        ListingAnswer::Refused(r) => refuse(errors, r),
     }
 }
 
-fn tell_lent(sheet: &[u8], node: usize, fault: usize, out: &mut [u8], lent: usize) {
-    let from: usize = 0;
+fn tell_lent(
+    output: &mut impl Write,
+    errors: &mut impl Write,
+    sheet: &[u8],
+    node: usize,
+    fault: usize,
+    out: &mut [u8],
+    lent: usize,
+) -> io::Result<()> {
     if lent < out.len() {
-        tell(sheet, node, fault, &mut out[from..lent]);
-        return;
+        return tell(output, errors, sheet, node, fault, &mut out[..lent]);
     }
-    tell(sheet, node, fault, out);
+    tell(output, errors, sheet, node, fault, out)
 }
 
-// 4,096 bytes are enough for any text.
-fn answer(node: usize, fault: usize, lent: usize) {
-    let mut sheet = io::large_buffer();
-    let n = io::read_full(STDIN_FILENO, &mut sheet);
-    let mut out = io::buffer();
-    tell_lent(&sheet[..n], node, fault, &mut out, lent);
+fn answer(
+    input: &mut impl Read,
+    output: &mut impl Write,
+    errors: &mut impl Write,
+    node: usize,
+    fault: usize,
+    lent: usize,
+) -> io::Result<()> {
+    let mut sheet = [0u8; 65536];
+    let n = arguments::read_full(input, &mut sheet)?;
+    let mut out = [0u8; ENOUGH];
+    tell_lent(output, errors, &sheet[..n], node, fault, &mut out, lent)
 }
 
-// What word i says.
-fn word(i: usize) -> Word {
-    let mut word = io::buffer();
-    let n = os::arg(i, &mut word);
-    arguments::meaning(&word[..n])
-}
-
-// The third word, where there is one.
-fn obey_lent(node: usize, fault: usize) {
-    if os::arg_count() < 4 {
-        answer(node, fault, 4096);
-        return;
-    }
-    match word(3) {
-        Word::Help => help(),
-        Word::Number(lent) => answer(node, fault, lent),
-        Word::Other => wrong(),
-    }
-}
-
-fn obey_fault(node: usize) {
-    match word(2) {
-        Word::Help => help(),
-        Word::Number(fault) => obey_lent(node, fault),
-        Word::Other => wrong(),
+// What the words NODE, FAULT and BYTES ask for.
+fn question(node: Option<Word>, fault: Option<Word>, lent: Option<Word>) -> Asked {
+    match (node, fault, lent) {
+        (Some(Word::Help), _, _) => Asked::Help,
+        (Some(Word::Number(_)), Some(Word::Help), _) => Asked::Help,
+        (Some(Word::Number(_)), Some(Word::Number(_)), Some(Word::Help)) => Asked::Help,
+        (Some(Word::Number(node)), Some(Word::Number(fault)), Some(Word::Number(lent))) => {
+            Asked::Text(node, fault, lent)
+        }
+        (Some(Word::Number(node)), Some(Word::Number(fault)), None) => {
+            Asked::Text(node, fault, ENOUGH)
+        }
+        _ => Asked::Other,
     }
 }
 
-fn main() {
-    if 4 < os::arg_count() {
-        wrong();
-        return;
+fn main(rt: HostRuntime) -> io::Result<()> {
+    let mut errors = rt.stderr();
+    if arguments::argument(&rt, 4).is_some() {
+        return wrong(&mut errors);
     }
-    match word(1) {
-        Word::Help => help(),
-        Word::Number(node) => obey_fault(node),
-        Word::Other => wrong(),
+    let node = arguments::argument(&rt, 1);
+    let fault = arguments::argument(&rt, 2);
+    let lent = arguments::argument(&rt, 3);
+    match question(node, fault, lent) {
+        Asked::Help => help(&mut rt.stdout()),
+        Asked::Text(node, fault, lent) => answer(
+            &mut rt.stdin(),
+            &mut rt.stdout(),
+            &mut errors,
+            node,
+            fault,
+            lent,
+        ),
+        Asked::Other => wrong(&mut errors),
     }
 }

@@ -1,16 +1,15 @@
 -- Laws on bytes in hex.
 -- Assumes nothing.
-use Prim.Native.Nat.{ℕ, suc, ◌+◌, ◌*◌, ◌-◌, ◌/◌, ◌%◌, ◌≤◌, ◌<◌}
+use Prim.Native.Nat.{ℕ, suc, ◌+◌, ◌*◌, ◌/◌, ◌≤◌, ◌<◌}
 use mathlib.Core.Path.{◌≡◌, refl, sym, ap, ap₂, ◌∙◌, subst}
 use mathlib.Core.List.{List, [], ◌∷◌, ◌++◌, append_assoc, append-nil}
 use native.Mathlib.Numerals.{add-one}
 use native.Mathlib.Omega.{arith}
 use lib.ListN.{length, get_or, drop, drop_of_length-le, length-drop}
 use lib.Seq.{drop-cons}
-use borrow.Author.Tests.{lt-ltb, le-ltb}
 use Rattle.definitions.specs.Lists.{Letters}
 use Rattle.spelling.specs.Writing.{Put, farthest}
-use Rattle.spelling.proofs.Writing.{put-none, put_then, put-length}
+use Rattle.spelling.proofs.Writing.{put_then, put-length}
 use Rattle.vectors.specs.Fields.{digit_of, decoded, hex_digit, hex}
 
 -- what is put so far of a text, with what is left of it
@@ -42,37 +41,6 @@ module _ {whole : Letters} {at : ℕ} {s : List ℕ} where
 -- a text put behind nothing
 pub left_behind : {whole rest : Letters} {at p q : ℕ} {s s₁ s₂ : List ℕ} → Put [] at s p s₁ → Left whole rest p s₁ q s₂ → rest ≡ [] → length s ≤ farthest → Put whole at s q s₂
 left_behind u o e h = put_then h u (left-all o e)
-
--- what a digit stands for
-module _ (b : ℕ) where
-  pub digit-below : b < 48 → 0 ≡ digit_of b
-  digit-below h = rw (lt-ltb b 48 h)
-
-  pub digit-number : 48 ≤ b → b < 58 → b - 48 ≡ digit_of b
-  digit-number h k = rw (le-ltb b 48 h, lt-ltb b 58 k)
-
-  pub digit-between : 58 ≤ b → b < 97 → 0 ≡ digit_of b
-  digit-between h k = let j : 48 ≤ b = omega arith in rw (le-ltb b 48 j, le-ltb b 58 h, lt-ltb b 97 k)
-
-  pub digit-letter : 97 ≤ b → b < 103 → b - 87 ≡ digit_of b
-  digit-letter h k =
-      let j : 48 ≤ b = omega arith in
-      let i : 58 ≤ b = omega arith in
-      rw (le-ltb b 48 j, le-ltb b 58 i, le-ltb b 97 h, lt-ltb b 103 k)
-
-  pub digit-above : 103 ≤ b → 0 ≡ digit_of b
-  digit-above h =
-      let j : 48 ≤ b = omega arith in
-      let i : 58 ≤ b = omega arith in
-      let k : 97 ≤ b = omega arith in
-      rw (le-ltb b 48 j, le-ltb b 58 i, le-ltb b 97 k, le-ltb b 103 h)
-
-  -- the low four bits as a digit
-  pub hex-number : b % 16 < 10 → 48 + (b % 16) ≡ hex_digit b
-  hex-number h = rw (lt-ltb (b % 16) 10 h)
-
-  pub hex-letter : 10 ≤ b % 16 → 87 + (b % 16) ≡ hex_digit b
-  hex-letter h = rw (le-ltb (b % 16) 10 h)
 
 -- two digits of hex are one byte
 pub decoded-two : (l : Letters) (i : ℕ) → i + 1 < length l → decoded (drop i l) ≡ (16 * digit_of (get_or l i 0) + digit_of (get_or l (i + 1) 0)) ∷ decoded (drop (i + 2) l)

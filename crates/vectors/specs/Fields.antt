@@ -1,5 +1,5 @@
 -- The fields of a listed line, and bytes in hex.
-use Rattle.std.specs.Prelude.{ℕ, suc, ◌+◌, ◌*◌, ◌-◌, ◌/◌, ◌%◌, List, [], ◌∷◌, eqb, ltb, take, drop}
+use Rattle.std.specs.Prelude.{ℕ, suc, ◌+◌, ◌*◌, ◌-◌, ◌/◌, ◌%◌, [], ◌∷◌, eqb, ltb, take, drop}
 use Rattle.definitions.specs.Lists.{choose, place_by, Letters}
 
 -- the place of the first such byte; the length, where there is none

@@ -10,10 +10,11 @@ ghost use Rattle.vectors.specs.Fields.{place_of, before, behind, digit_of, decod
 use arguments::Word;
 use declock_project::RewriteAnswer;
 use definitions::{CHAIN_TABLE, FaultRecord, MOST_NODES, MOST_TOKENS, Refusal};
-use libc::{STDIN_FILENO, STDOUT_FILENO};
 use listings::{ClocksAnswer, ListingAnswer};
 use query::NodeCounts;
 use sheet::SheetAnswer;
+use std::io;
+use std::io::Write;
 
 // What is replayed: sheets that the list refuses under 1 to 7, the other sheets, and the three questions.
 #[derive(Clone, Copy)]
@@ -57,14 +58,12 @@ fn large() -> [u8; 524288]
 fn place_of(bytes: &[u8], x: u8) -> usize
     ensures { (result ≡ place_of x bytes.now) × (result ≤ length bytes.now) }
 {
-    let mut i: usize = 0;
-    while i < bytes.len() {
-        if bytes[i] == x {
+    for (i, b) in bytes.iter().enumerate() {
+        if *b == x {
             return i;
         }
-        i += 1;
     }
-    i
+    bytes.len()
 }
 
 // What stands before the first space.
@@ -141,14 +140,11 @@ fn put_hex(out: &mut [u8], at: usize, part: &[u8]) -> usize
     ensures { Put (hex part.now) at out.old result out.new }
 {
     let mut place = spelling::put_all(out, at, b"");
-    let mut i: usize = 0;
-    while i < part.len() {
-        let b = part[i];
-        let high = hex_digit(b / 16);
-        let low = hex_digit(b);
+    for b in part {
+        let high = hex_digit(*b / 16);
+        let low = hex_digit(*b);
         let next = spelling::put(out, place, high);
         place = spelling::put(out, next, low);
-        i += 1;
     }
     place
 }
@@ -176,14 +172,8 @@ fn put_first_faults(
     faults: usize,
 ) -> usize {
     let mut place = at;
-    let mut i: usize = 0;
-    while i < 16 {
-        if faults <= i {
-            return place;
-        }
-        let f = list[i];
-        place = put_fault(out, place, f);
-        i += 1;
+    for f in list.iter().take(faults) {
+        place = put_fault(out, place, *f);
     }
     place
 }
@@ -196,14 +186,8 @@ fn put_clock_faults(
     faults: usize,
 ) -> usize {
     let mut place = at;
-    let mut i: usize = 0;
-    while i < 256 {
-        if faults <= i {
-            return place;
-        }
-        let f = list[i];
-        place = put_fault(out, place, f);
-        i += 1;
+    for f in list.iter().take(faults) {
+        place = put_fault(out, place, *f);
     }
     place
 }
@@ -268,9 +252,8 @@ fn is_told(sheet: &[u8], node: usize, fault: usize, out: &mut [u8], answer: &[u8
 // 65,536 bytes are enough for any rewritten sheet.
 fn rewrite_lent(sheet: &[u8], lent: usize, answer: &[u8]) -> bool {
     let mut out = [0u8; 65536];
-    let from: usize = 0;
     if lent < 65536 {
-        return is_rewritten(sheet, &mut out[from..lent], answer);
+        return is_rewritten(sheet, &mut out[..lent], answer);
     }
     is_rewritten(sheet, &mut out, answer)
 }
@@ -278,9 +261,8 @@ fn rewrite_lent(sheet: &[u8], lent: usize, answer: &[u8]) -> bool {
 // They are enough for any text too.
 fn text_lent(sheet: &[u8], node: usize, fault: usize, lent: usize, answer: &[u8]) -> bool {
     let mut out = [0u8; 65536];
-    let from: usize = 0;
     if lent < 65536 {
-        return is_told(sheet, node, fault, &mut out[from..lent], answer);
+        return is_told(sheet, node, fault, &mut out[..lent], answer);
     }
     is_told(sheet, node, fault, &mut out, answer)
 }
@@ -305,11 +287,9 @@ fn byte_at(bytes: &[u8], i: usize) -> u32
 fn starts_of(sheet: &[u8]) -> [u32; 1025] {
     let mut starts = [0u32; 1025];
     let mut at: u32 = 0;
-    let mut i: usize = 0;
-    while i < 1025 {
-        starts[i] = at;
+    for (i, start) in starts.iter_mut().enumerate() {
+        *start = at;
         at += byte_at(sheet, 12 + i);
-        i += 1;
     }
     starts
 }
@@ -331,11 +311,9 @@ fn put_equations(
     n: usize,
 ) -> usize {
     let mut place = at;
-    let mut i: usize = 0;
-    while i < n {
+    for i in 0..n {
         let c = clock_tables::get(clocks, i);
         place = lines::put_equation_line(out, place, starts, letters, i, c);
-        i += 1;
     }
     place
 }
@@ -350,11 +328,9 @@ fn put_chains(
     n: usize,
 ) -> usize {
     let mut place = at;
-    let mut i: usize = 0;
-    while i < n {
+    for i in 0..n {
         let c = clock_tables::get(clocks, i);
         place = lines::put_chain_line(out, place, starts, letters, c);
-        i += 1;
     }
     place
 }
@@ -412,10 +388,8 @@ fn more_lines(n: u64, b: u8) -> u64 {
 // How many lines end in a text.
 fn lines_in(text: &[u8]) -> u64 {
     let mut n: u64 = 0;
-    let mut i: usize = 0;
-    while i < text.len() {
-        n = more_lines(n, text[i]);
-        i += 1;
+    for b in text {
+        n = more_lines(n, *b);
     }
     n
 }
@@ -691,32 +665,28 @@ fn check_line(line: &[u8], kind: Kind) -> Verdict {
     }
 }
 
-fn show(out: &[u8; 4096], n: usize) {
-    io::write_all(STDOUT_FILENO, arguments::front(out, n));
-}
-
 // `line N is answered otherwise`
-fn tell_line(number: u64) {
+fn tell_line(output: &mut impl Write, number: u64) -> io::Result<()> {
     let mut out = [0u8; 4096];
     let a = spelling::put_all(&mut out, 0, b"line ");
     let b = spelling::put_decimal(&mut out, a, number);
     let c = spelling::put_all(&mut out, b, b" is answered otherwise\n");
-    show(&out, c);
+    arguments::show(output, &out, c)
 }
 
-fn add(t: Tally, v: Verdict, number: u64) -> Tally {
+fn add(output: &mut impl Write, t: Tally, v: Verdict, number: u64) -> io::Result<Tally> {
     match v {
-        Verdict::Passed => t,
-        Verdict::Same => Tally {
+        Verdict::Passed => Ok(t),
+        Verdict::Same => Ok(Tally {
             all: more(t.all),
             other: t.other,
-        },
+        }),
         Verdict::Other => {
-            tell_line(number);
-            Tally {
+            tell_line(output, number)?;
+            Ok(Tally {
                 all: more(t.all),
                 other: more(t.other),
-            }
+            })
         }
     }
 }
@@ -730,7 +700,7 @@ fn further(at: usize, n: usize, end: usize) -> usize
 }
 
 // Replays the lines of one kind.
-fn replay(list: &[u8], kind: Kind) -> Tally {
+fn replay(output: &mut impl Write, list: &[u8], kind: Kind) -> io::Result<Tally> {
     let mut t = Tally { all: 0, other: 0 };
     let mut number: u64 = 0;
     let mut at: usize = 0;
@@ -739,10 +709,10 @@ fn replay(list: &[u8], kind: Kind) -> Tally {
         let n = place_of(rest, b'\n');
         number = more(number);
         let v = check_line(arguments::front(rest, n), kind);
-        t = add(t, v, number);
+        t = add(output, t, v, number)?;
         at = further(at, n, list.len());
     }
-    t
+    Ok(t)
 }
 
 fn less(a: u64, b: u64) -> u64 {
@@ -760,22 +730,23 @@ fn put_tally(out: &mut [u8; 4096], about: &[u8], t: Tally) -> usize {
     spelling::put_all(out, f, b" otherwise\n")
 }
 
-fn report(about: &[u8], t: Tally) {
+fn report(output: &mut impl Write, list: &[u8], kind: Kind, about: &[u8]) -> io::Result<()> {
+    let t = replay(output, list, kind)?;
     let mut out = [0u8; 4096];
     let n = put_tally(&mut out, about, t);
-    show(&out, n);
+    arguments::show(output, &out, n)
 }
 
-fn replay_all(list: &[u8]) {
-    report(b"refusals 1 to 7: ", replay(list, Kind::Refusals));
-    report(b"other sheets are read: ", replay(list, Kind::Sheets));
-    report(b"clock questions: ", replay(list, Kind::Clocks));
-    report(b"rewritings: ", replay(list, Kind::Rewritings));
-    report(b"texts: ", replay(list, Kind::Texts));
+fn replay_all(output: &mut impl Write, list: &[u8]) -> io::Result<()> {
+    report(output, list, Kind::Refusals, b"refusals 1 to 7: ")?;
+    report(output, list, Kind::Sheets, b"other sheets are read: ")?;
+    report(output, list, Kind::Clocks, b"clock questions: ")?;
+    report(output, list, Kind::Rewritings, b"rewritings: ")?;
+    report(output, list, Kind::Texts, b"texts: ")
 }
 
-fn main() {
+fn main(rt: HostRuntime) -> io::Result<()> {
     let mut list = large();
-    let n = io::read_full(STDIN_FILENO, &mut list);
-    replay_all(&list[..n]);
+    let n = arguments::read_full(&mut rt.stdin(), &mut list)?;
+    replay_all(&mut rt.stdout(), &list[..n])
 }

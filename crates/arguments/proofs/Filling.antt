@@ -1,0 +1,25 @@
+-- Laws on bytes that are filled from a reader.
+-- Assumes nothing.
+use Rattle.std.proofs.Common.{◌≡◌, ℕ, ◌+◌, ◌≤◌, List, ◌++◌, Option, length, take, drop, subst, sym, ap, ◌∙◌, length-take-le}
+use Rattle.std.proofs.Math.Seq.{take-append-add, take-append-le, drop-append_seam}
+use Rattle.std.specs.Io.KnownBytes.{Consumes}
+use Rattle.std.proofs.KnownBytes.{Consumes-trans}
+use borrow.Rule.Slice.PartMut.{put_mid, post_of}
+
+module _ (a k n : ℕ) (xs ys : List ℕ) where
+  -- the first a bytes, and n bytes of what was put behind them
+  pub take-put_mid-more : a ≤ length xs → n ≤ length ys → take (a + n) (put_mid a k xs ys) ≡ take a xs ++ take n ys
+  take-put_mid-more h f =
+      let front : length (take a xs) ≡ a = length-take-le a xs h in
+      ap (λ (m : ℕ). take (m + n) (put_mid a k xs ys)) (sym front) ∙ take-append-add (take a xs) (ys ++ post_of a k xs) n ∙ ap (λ (l : List ℕ). take a xs ++ l) (take-append-le n ys (post_of a k xs) f)
+
+  -- what is read into the bytes behind the first a, is all that is read
+  pub read_more : (old mid new : Option (List ℕ)) → a ≤ length xs → n ≤ length ys → Consumes old mid (take a xs) → Consumes mid new (take n ys) → Consumes old new (take (a + n) (put_mid a k xs ys))
+  read_more old mid new h f p q = subst (Consumes old new) (sym (take-put_mid-more h f)) (Consumes-trans old mid new (take a xs) (take n ys) p q)
+
+  -- behind the first a bytes stands what was read
+  pub read_behind : (old new : Option (List ℕ)) → a ≤ length xs → n ≤ length ys → Consumes old new (take n ys) → Consumes old new (drop a (take (a + n) (put_mid a k xs ys)))
+  read_behind old new h f p =
+      let front : length (take a xs) ≡ a = length-take-le a xs h in
+      let behind : drop a (take (a + n) (put_mid a k xs ys)) ≡ take n ys = ap (drop a) (take-put_mid-more h f) ∙ ap (λ (m : ℕ). drop m (take a xs ++ take n ys)) (sym front) ∙ drop-append_seam (take a xs) (take n ys) in
+      subst (Consumes old new) (sym behind) p

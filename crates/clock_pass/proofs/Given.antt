@@ -45,17 +45,17 @@ take_whole zero (a ∷ l) h = absurd (omega arith)
 take_whole (suc n) (a ∷ l) h = ap (λ (t : List _). a ∷ t) (take_whole n l (omega arith))
 
 -- each entry is whole: the words have room for all
-entries_over : (n : ℕ) (l : List FaultRecord) (ws : List ℕ) → length ws / 3 ≡ n → length l ≤ n → said (over (join (map record_words l)) ws) ≡ l → said (entries_over 3 (map record_words l) ws) ≡ l
+entries_over_lem : (n : ℕ) (l : List FaultRecord) (ws : List ℕ) → length ws / 3 ≡ n → length l ≤ n → said (over (join (map record_words l)) ws) ≡ l → said (entries_over 3 (map record_words l) ws) ≡ l
 unfolding entries_over
-entries_over n l ws long few e =
+entries_over_lem n l ws long few e =
     let most : length (map record_words l) ≤ n = omega (arith, few, length-map l record_words) in
     ap (λ (n : ℕ). said (over (join (take n (map record_words l))) ws)) long ∙ (ap (λ (t : List (List ℕ)). said (over (join t) ws)) (take_whole n (map record_words l) most) ∙ e)
 
 entries-said : (l : List FaultRecord) (ws : List ℕ) → ws ≡ replicate 12288 0 → Real l → length l ≤ 4096 → said (entries_over 3 (map record_words l) ws) ≡ l
-entries-said l ws e real few = entries_over 4096 l ws (ap (λ (v : List ℕ). length v / 3) e ∙ ap (λ (n : ℕ). n / 3) (length-replicate {A = ℕ} 12288 0)) few (said-again l ws e real few)
+entries-said l ws e real few = entries_over_lem 4096 l ws (ap (λ (v : List ℕ). length v / 3) e ∙ ap (λ (n : ℕ). n / 3) (length-replicate {A = ℕ} 12288 0)) few (said-again l ws e real few)
 
 node-entries-said : (l : List FaultRecord) (ws : List ℕ) → ws ≡ replicate 48 0 → Real l → length l ≤ 16 → said (entries_over 3 (map record_words l) ws) ≡ l
-node-entries-said l ws e real few = entries_over 16 l ws (ap (λ (v : List ℕ). length v / 3) e ∙ ap (λ (n : ℕ). n / 3) (length-replicate {A = ℕ} 48 0)) few (node-said-again l ws e real few)
+node-entries-said l ws e real few = entries_over_lem 16 l ws (ap (λ (v : List ℕ). length v / 3) e ∙ ap (λ (n : ℕ). n / 3) (length-replicate {A = ℕ} 48 0)) few (node-said-again l ws e real few)
 
 module _ (b : List ℕ) (lent ws lent' ws' : List ℕ) (r : RewriteAnswer) (none : ws ≡ replicate 48 0) where
   pub rewrite-said : words.RewriteInWords (rewrite_answer b (length lent)) lent ws lent' ws' r → RewriteSaid (rewrite_answer b (length lent)) lent lent' ws' r

@@ -1,6 +1,6 @@
 -- Records in words, and lists of records written over lists.
 -- Assumes nothing.
-use mathlib.Core.Path.{◌≡◌, refl, sym, ◌∙◌, ap}
+use mathlib.Core.Path.{◌≡◌, refl, sym, ◌∙◌, ap, subst}
 use Prim.Native.Nat.{ℕ, zero, suc, ◌+◌, ◌*◌, ◌-◌, ◌<◌, ◌≤◌}
 use native.Mathlib.Nat.{zero-add, add-zero, suc-add}
 use native.Mathlib.Omega.{arith}
@@ -163,6 +163,12 @@ records-snoc ws (suc n) = ap (λ (t : List FaultRecord). record_at ws 0 ∷ t) (
 pub over-next : (ws : List ℕ) (n : ℕ) (xs : List FaultRecord) → set (over (records ws n) xs) n (record_at ws n) ≡ over (records ws (suc n)) xs
 over-next ws n xs =
     sym (ap (λ (l : List FaultRecord). over l xs) (records-snoc ws n) ∙ (over-snoc (records ws n) xs (record_at ws n) ∙ ap (λ (k : ℕ). set (over (records ws n) xs) k (record_at ws n)) (records-length ws n)))
+
+-- a turn of the loop that stores records
+pub over-turn : (ws : List ℕ) (i : ℕ) (xs ys : List FaultRecord) (r : FaultRecord) → ys ≡ over (records ws i) xs → r ≡ record_at ws i → set ys i r ≡ over (records ws (i + 1)) xs
+over-turn ws i xs ys r e f =
+    let one : suc i ≡ i + 1 = omega arith in
+    rw (e, f) (subst (λ (n : ℕ). set (over (records ws i) xs) i (record_at ws i) ≡ over (records ws n) xs) one (over-next ws i xs))
 
 over-reached : (ws : List ℕ) (c : ℕ) (xs : List FaultRecord) → length xs ≤ c → over (records ws (length xs)) xs ≡ over (records ws c) xs
 over-reached ws zero [] h = refl

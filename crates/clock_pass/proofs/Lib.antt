@@ -1,5 +1,4 @@
 -- What the proofs of several functions use.
 pub mod Laws
-pub mod Lent
 pub mod Bounds
 pub mod Given

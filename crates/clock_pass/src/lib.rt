@@ -12,8 +12,8 @@ use declock_project::RewriteAnswer;
 use definitions::{FAULT_TABLE, FaultRecord, MOST_NODES, MOST_TOKENS};
 use listings::ClocksAnswer;
 
-// ---- The lent list of fault records. A function with a reference to records is proved by a walk of its MIR, by hand; what it works with are
-// words, three for each record, with room for 4,096 records, or for one record a node. No fault has the number 0, which ends the records.
+// ---- The lent list of fault records. What the functions below it work with are words, three for each record, with room for 4,096
+// records, or for one record a node. No fault has the number 0, which ends the records.
 
 // The words of one record for each node that a sheet may have.
 pub const NODE_WORDS: usize = 48;
@@ -131,8 +131,7 @@ pub fn put_node_said(list: &mut [FaultRecord], words: &[u32; NODE_WORDS])
     }
 }
 
-// ---- The clock pass: the entry points that lend a list of fault records. Each is proved by a walk of its MIR, by hand; the functions over
-// words that do the work are covered.
+// ---- The clock pass: the entry points that lend a list of fault records, over functions that work with words.
 
 // Rewriting a sheet, with the faults in words that said none.
 fn rewrite_words(sheet: &[u8], out: &mut [u8], words: &mut [u32; NODE_WORDS]) -> RewriteAnswer

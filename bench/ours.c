@@ -1,11 +1,10 @@
 /* Our program's work on a sheet, without the start of a process: ours SHEET SECONDS.
 
-   The program's `main` is renamed `program`, its `read`, `write`, `memset` and `memcpy` are those below (bench/run renames them in
-   the object file that rt made). The first call of `measured` is what callgrind counts. It is then called again for about
-   SECONDS. Printed are the shortest call in nanoseconds; and of a call the bytes of stack that it touched, the bytes that it
-   filled or copied by memset and memcpy, and the bytes that it wrote. */
+   The program's `main` is renamed `program`, its `read`, `write`, `memset`, `memcpy` and `memmove` are those below, and its call that
+   ignores a signal is none (bench/run renames them in the object file that rt made). The first call of `measured` is what callgrind
+   counts. It is then called again for about SECONDS. Printed are the shortest call in nanoseconds; and of a call the bytes of stack
+   that it touched, the bytes that it filled or copied by memset, memcpy and memmove, and the bytes that it wrote. */
 #define _GNU_SOURCE
-#include <errno.h>
 #include <stdio.h>
 #include <stdlib.h>
 #include <string.h>
@@ -50,6 +49,17 @@ void *copy(void *to, const void *from, size_t n) {
     return memcpy(to, from, n);
 }
 
+void *shift(void *to, const void *from, size_t n) {
+    filled += n;
+    return memmove(to, from, n);
+}
+
+void *unheard(int signal, void *handler) {
+    (void)signal;
+    (void)handler;
+    return NULL;
+}
+
 size_t rattle_arg_count(void) { return 1; }
 size_t rattle_arg(size_t k, void *to, size_t n) {
     (void)k;
@@ -57,7 +67,6 @@ size_t rattle_arg(size_t k, void *to, size_t n) {
     (void)n;
     return 0;
 }
-void rattle_set_errno(int e) { errno = e; }
 
 __attribute__((noinline)) void measured(void) { program(); }
 

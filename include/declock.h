@@ -11,8 +11,8 @@
  * Time       Every call ends.
  * Pointers   None may be null, also where its length is 0. Each must be aligned as its type is. What is written (`out`, the
  *            lists, *place, *faulty, *counts) must not overlap anything else that is handed over.
- * Linking    libdeclock_library.a, for x86-64 Linux, made by `rt staticlib declock_library`. It calls memcpy and memset of the C
- *            library and nothing else.
+ * Linking    libdeclock_library.a, for x86-64 Linux, made by `rt lib` in crates/declock_library. It calls memcpy and
+ *            memset of the C library and nothing else.
  *
  * A function's contract is proved against document 01 for all inputs; what a C program hands over is not checked by that proof. */
 #ifndef DECLOCK_H

@@ -1,7 +1,7 @@
 """The proved programs: whether they are there as the sources stand, and proving and building them where they are not.
 
 Proving takes minutes, so it is done once: a stamp below target/ has the hash of all that the programs were made of, and of the
-programs themselves. As long as it fits, `rt` is not asked. `rt ci` removes target/, and the stamp with it."""
+programs themselves. As long as it fits, `rt` is not asked."""
 import fcntl
 import hashlib
 import os
@@ -12,7 +12,10 @@ import subprocess
 import time
 
 # What of a crate's folder `rt` makes a program of; edits that must fail are no part of it.
-MADE_OF = ('src', 'specs', 'proofs', 'stdin', 'stdout', 'args', 'data')
+MADE_OF = ('src', 'specs', 'proofs', 'stdin', 'stdout', 'args', 'status', 'data')
+
+# Proves a program and builds it, in its crate's folder, and then runs it: so it is asked for nothing but its help.
+PROVE = ('rt', 'run', '--', '--help')
 
 # Seconds between two lines where no terminal shows one that changes.
 BETWEEN_LINES = 30
@@ -39,8 +42,13 @@ def ready(root, programs, screen):
         fcntl.flock(lock, fcntl.LOCK_EX)
         # Who waited for the lock may find all done.
         if not stamped(root, programs, crates):
-            prove(root, programs, Progress(weights(root, crates)), screen)
+            prove(root, programs, Progress(weights(root, crates), listed(root)), screen)
             stamp(root, programs, crates)
+
+
+def built(root, program):
+    """Where `rt` leaves a program."""
+    return os.path.join(root, 'crates', program, 'out', program)
 
 
 def needed(root, programs):
@@ -53,9 +61,10 @@ def listed(root):
     below = {}
     with open(os.path.join(root, 'crates.txt'), encoding='utf-8') as file:
         for line in file:
-            name, colon, rest = line.split('#')[0].partition(':')
+            # Behind the name may stand what kind of crate it is.
+            head, colon, rest = line.split('#')[0].partition(':')
             if colon:
-                below[name.strip()] = rest.split()
+                below[head.split()[0]] = rest.split()
     return below
 
 
@@ -84,7 +93,7 @@ def files_of(root, crate):
 
 def fingerprint(root, programs, crates):
     """The hash of the sources and of the programs; none while a program is missing."""
-    made = [os.path.join(root, 'target', 'bin', name) for name in programs]
+    made = [built(root, name) for name in programs]
     if not all(map(os.path.isfile, made)):
         return None
     whole = hashlib.sha256()
@@ -124,22 +133,29 @@ def weights(root, crates):
 
 
 def prove(root, programs, progress, screen):
-    """Runs `rt check` and shows how far it is; its lines are kept, and a refusal is told with where the prover's words are."""
+    """Runs `rt` for each program and shows how far it is; its lines are kept, and a refusal is told with where the prover's words are."""
     screen.say('proving and building the programs, once: fifteen to twenty minutes on two cores, less if some of it is there')
-    log = os.path.join(root, 'target', 'declock.log')
-    with open(log, 'wb') as kept:
-        rt = subprocess.Popen(['rt', 'check'] + list(programs), cwd=root, stdin=subprocess.DEVNULL, stdout=subprocess.PIPE,
-                              stderr=subprocess.STDOUT)
-        for line in lines(rt.stdout.fileno()):
-            if line is not None:
-                kept.write(line)
-                progress.hear(line.decode('utf-8', 'replace'), time.monotonic())
-            screen.show(progress.told(time.monotonic()))
-        status = rt.wait()
+    with open(os.path.join(root, 'target', 'declock.log'), 'wb') as kept:
+        for program in programs:
+            status = proved(root, program, progress, screen, kept)
+            if status != 0:
+                break
     screen.end()
     if status != 0:
         raise NotReady(progress.failure() or '`rt` ended with status %d and proved nothing; what it said is in target/declock.log' % status)
     screen.say(progress.ended(time.monotonic()))
+
+
+def proved(root, program, progress, screen, kept):
+    """Proves and builds one program; the exit status of `rt`."""
+    rt = subprocess.Popen(PROVE, cwd=os.path.join(root, 'crates', program), stdin=subprocess.DEVNULL, stdout=subprocess.PIPE,
+                          stderr=subprocess.STDOUT)
+    for line in lines(rt.stdout.fileno()):
+        if line is not None:
+            kept.write(line)
+            progress.hear(line.decode('utf-8', 'replace'), time.monotonic())
+        screen.show(progress.told(time.monotonic()))
+    return rt.wait()
 
 
 def lines(descriptor):
@@ -162,25 +178,37 @@ def lines(descriptor):
 class Progress:
     """How far `rt` is, by the lines that it says."""
 
-    def __init__(self, expected):
-        self.weights, self.waiting = expected, dict(expected)
+    def __init__(self, expected, below):
+        self.weights, self.waiting, self.below = expected, dict(expected), below
         self.began = self.last = time.monotonic()
         self.proved_weight, self.failed = 0, []
+        self.crate, self.is_new = None, True
 
     def hear(self, line, now):
         """Takes in a line; those of other kinds say nothing of how far it is."""
-        match = re.match(r'rt: (\S+) (proved|NOT PROVED)(.*)', line)
-        if not match or match.group(1) not in self.weights:
-            return
-        name, verdict, rest = match.groups()
-        if verdict == 'NOT PROVED' and 'its dependency' not in rest or 'FAILED' in rest:
-            self.failed.append(name)
-        if verdict == 'proved' and name in self.waiting:
-            weight = self.waiting.pop(name)
+        begun = re.match(r'rt: chose --jobs \d+ for (\S+)', line)
+        checked = re.match(r'crate (\S+): modules loaded=\d+ checked=(\d+)', line)
+        running = re.match(r'rt: running out/([^\s;]+)', line)
+        if begun:
+            self.crate, self.is_new = begun.group(1), True
+            self.there(closure(self.below, [self.crate]) - {self.crate})
+        elif checked:
+            self.is_new = checked.group(2) != '0'
+        elif line.startswith('logic=proved ') and self.crate in self.waiting:
+            weight = self.waiting.pop(self.crate)
             # What was proved before takes no time, and would make the rest look quick.
-            if 'unchanged' not in rest:
+            if self.is_new:
                 self.proved_weight += weight
             self.last = now
+        elif line.startswith('logic=not-proved') and self.crate:
+            self.failed.append(self.crate)
+        elif running:
+            self.there(closure(self.below, [running.group(1)]))
+
+    def there(self, crates):
+        """These are proved: those of which `rt` said nothing, by an earlier run."""
+        for name in crates:
+            self.waiting.pop(name, None)
 
     def left(self, now):
         """The seconds that are left, by what the crates so far have taken; none before there is something to go by."""
@@ -203,7 +231,7 @@ class Progress:
         """Which crate is not proved, and where the prover says why."""
         if not self.failed:
             return None
-        return 'crate %s is not proved, so nothing was run: target/log/%s.out says why' % (self.failed[0], self.failed[0])
+        return 'crate %s is not proved, so nothing was run: target/declock.log says why' % self.failed[0]
 
 
 def minutes(seconds):

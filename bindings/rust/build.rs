@@ -1,4 +1,4 @@
-//! Finds libdeclock_library.a: in the folder that DECLOCK_LIB_DIR names, else in target/staticlib of the repository.
+//! Finds libdeclock_library.a: in the folder that DECLOCK_LIB_DIR names, else where `rt lib` leaves it.
 use std::env;
 use std::path::{Path, PathBuf};
 
@@ -8,7 +8,7 @@ const ARCHIVE: &str = "libdeclock_library.a";
 fn folder() -> PathBuf {
     match env::var_os("DECLOCK_LIB_DIR") {
         Some(dir) => PathBuf::from(dir),
-        None => Path::new(env!("CARGO_MANIFEST_DIR")).join("../../target/staticlib"),
+        None => Path::new(env!("CARGO_MANIFEST_DIR")).join("../../crates/declock_library/out"),
     }
 }
 
@@ -19,7 +19,7 @@ fn main() {
     println!("cargo:rerun-if-changed={}", archive.display());
     if !archive.exists() {
         eprintln!(
-            "{} is missing: run `rt staticlib declock_library`, or set DECLOCK_LIB_DIR",
+            "{} is missing: run `rt lib` in crates/declock_library, or set DECLOCK_LIB_DIR",
             archive.display()
         );
         std::process::exit(1);

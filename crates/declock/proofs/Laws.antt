@@ -16,7 +16,7 @@ use Rattle.definitions.specs.Output.{declared_tokens, counted_tokens, equation_t
 use Rattle.chain_order.specs.Order.{picked}
 use Rattle.emit.specs.Out.{Out, emits}
 use Rattle.stateless.specs.Need.{Needs}
-use Rattle.stateless.specs.Yield.{Ids, old_yield}
+use Rattle.stateless.specs.Yield.{Ids, old_yield, right_yield}
 use Rattle.stateless.specs.Faults.{old_fault}
 use Rattle.stateless.specs.Whole.{no_needs, old_needs}
 use Rattle.stateless.specs.Locals.{ids_in, Agree, Local, flag_locals, first_locals, hold_locals, local_declared, local_equation, with_locals}
@@ -138,7 +138,7 @@ module _ (types : List TypeDef) (nodes : List Node) (node : Node) (condact : ℕ
   pub yield-length : (ids : Ids) (n : ℕ) (cs : List Clocked) → length (old_yield types nodes node ids n cs).value ≡ length cs
   unfolding old_yield
   yield-length ids n [] = refl
-  yield-length ids n (c ∷ cs) = ap suc (yield-length ids _ cs)
+  yield-length ids n (c ∷ cs) = ap suc (yield-length ids (right_yield types nodes node ids c.clock c.equation.left n c.equation.right).after cs)
 
   -- as many holds as are needed
   module _ (cs : List Clocked) (faultless : old_fault types nodes node condact 0 cs ≡ none) (flag_ids first_ids hold_ids : List ℕ) where

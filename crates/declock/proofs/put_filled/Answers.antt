@@ -12,7 +12,7 @@ use Rattle.new_names.proofs.fill_ids.Reads as fill-ids-reads
 use Rattle.declock.proofs.put_filled.Goals as goal
 
 pub fill_ids-requires-3 : goal.fill_ids-requires-3
-fill_ids-requires-3 c = search (rules, (c.requires.values_len, (c.requires.nodes_bound, c.requires.sound)))
+fill_ids-requires-3 c = search (rules, c.requires.sound)
 
 pub condact_id-condact-requires : goal.condact_id-condact-requires
 condact_id-condact-requires c =

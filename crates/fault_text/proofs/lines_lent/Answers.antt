@@ -31,7 +31,7 @@ put_lines-requires c =
     }
 
 pub returns-in-Deep : goal.returns-in-Deep
-returns-in-Deep c = λ i h e r. given-deep i _ _ c.args.out.now _ (c.put_lines-measured.ensures.lines_stand i h e r) _ c.decreases.given.1
+returns-in-Deep c = λ i h e r. given-deep i _ _ c.args.out.now _ (c.put_lines-measured.ensures.lines_stand i h e r) _ c.in-Deep.is
 
 pub returns-else-out-n : goal.returns-else-out-n
 returns-else-out-n c =

@@ -7,10 +7,10 @@ use judge::program::{self, Shown};
 use judge::line;
 
 const HELP: &str = "\
-usage: against FOLDER [inspect]
-Question lines on standard input (answers after them are passed over). For each, runs the program of that name in FOLDER
-on the sheet and compares what it prints with what the judge does; with the word `inspect`, runs FOLDER/inspect on each sheet
-instead. Prints each difference, and counts; exit status 1 if anything differs.
+usage: against CRATES [inspect]
+Question lines on standard input (answers after them are passed over). For each, runs the program of that name, which stands in
+CRATES/NAME/out, on the sheet and compares what it prints with what the judge does; with the word `inspect`, runs the program
+inspect on each sheet instead. Prints each difference, and counts; exit status 1 if anything differs.
 ";
 
 fn main() -> ExitCode {
@@ -52,8 +52,8 @@ fn run() -> ExitCode {
     ExitCode::from((different > 0) as u8)
 }
 
-fn printed(folder: &str, words: &[String], sheet: &[u8]) -> Shown {
-    let mut child = Command::new(format!("{folder}/{}", words[0]))
+fn printed(crates: &str, words: &[String], sheet: &[u8]) -> Shown {
+    let mut child = Command::new(format!("{crates}/{0}/out/{0}", words[0]))
         .args(&words[1..])
         .stdin(Stdio::piped())
         .stdout(Stdio::piped())

@@ -1,0 +1,7 @@
+-- `questions::listing` meets its contract. Assumes nothing.
+use mathlib.Core.Path.{subst⁻¹}
+use Rattle.listings.specs.Answers.{ListingGiven}
+use Rattle.questions.proofs.listing.Goals as goal
+
+pub returns : goal.returns
+returns c = subst⁻¹ (ListingGiven _ _ _) c.listing_answer.ensures c.ask-reply.ensures

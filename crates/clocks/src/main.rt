@@ -56,6 +56,8 @@ fn show_long(output: &mut impl Write, out: &[u8; 3407872], n: usize) -> io::Resu
 }
 
 // A long listing. Each line comes of a token of its own, of which there are at most 4,096, and the longest, a fault's, is 819 bytes.
+// Never inlined, so that only a run that comes here has these bytes on its stack.
+#[inline(never)]
 fn print_long(
     output: &mut impl Write,
     errors: &mut impl Write,
@@ -106,7 +108,8 @@ fn show_middle(output: &mut impl Write, out: &[u8; 524288], n: usize) -> io::Res
     arguments::show(output, out, n)
 }
 
-// Only hostile sheets are listed in more bytes than these.
+// Only hostile sheets are listed in more bytes than these. Never inlined, as the one above.
+#[inline(never)]
 fn print_middle(
     output: &mut impl Write,
     errors: &mut impl Write,
@@ -121,7 +124,8 @@ fn print_middle(
     }
 }
 
-// A longer sheet, of which these bytes are read.
+// A longer sheet, of which these bytes are read. Never inlined, as those above.
+#[inline(never)]
 fn answer_long(
     input: &mut impl Read,
     output: &mut impl Write,

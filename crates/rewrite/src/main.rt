@@ -109,7 +109,8 @@ fn rewrite_lent(
     rewrite(output, errors, sheet, out)
 }
 
-// 65,536 bytes are enough for any rewritten sheet.
+// 65,536 bytes are enough for any rewritten sheet. Never inlined, so that only a run that comes here has these bytes on its stack.
+#[inline(never)]
 fn answer_sheet(
     output: &mut impl Write,
     errors: &mut impl Write,
@@ -131,7 +132,8 @@ fn answer_few(
     rewrite_lent(output, errors, sheet, &mut out, lent)
 }
 
-// A sheet of which these bytes are read.
+// A sheet of which these bytes are read. Never inlined, as the one above.
+#[inline(never)]
 fn answer_long(
     input: &mut impl Read,
     output: &mut impl Write,

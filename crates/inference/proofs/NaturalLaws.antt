@@ -24,7 +24,6 @@ use Rattle.operands.specs.Role.{role_of_expr, operands_of}
 use Rattle.operands.specs.Spread.{tree, spread, later, operand_at, rest_at}
 use Rattle.operands.proofs.Laws.{spread-nil}
 use Rattle.operands.proofs.Apart.{Apart, apart}
-
 use Rattle.inference.specs.declared.Found.{Found}
 use Rattle.inference.specs.Natural.{is_free, Finds, lifted, first_of}
 

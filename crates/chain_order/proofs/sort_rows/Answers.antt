@@ -14,8 +14,8 @@ loop-i-init c = (omega arith, omega arith, refl, sort-none (letters_at c.args.st
 pub insert_row-k-requires : goal.insert_row-k-requires
 insert_row-k-requires c =
     record {
-        k_in_bounds = omega (arith, c.loop-i.invariant.0, c.loop-i.invariant.1, c.loop-i.invariant.2, c.requires, c.loop-i-test.true);
-        in_order = ordered (letters_at c.args.starts.now c.args.letters.now) c.args.rows.now c.loop-i.order c.loop-i.k _ c.loop-i.invariant.3;
+      k_in_bounds = omega (arith, c.loop-i.invariant.0, c.loop-i.invariant.1, c.loop-i.invariant.2, c.requires, c.loop-i-test.true);
+      in_order = ordered (letters_at c.args.starts.now c.args.letters.now) c.args.rows.now c.loop-i.order c.loop-i.k _ c.loop-i.invariant.3;
     }
 
 pub loop-i-preserved : goal.loop-i-preserved
@@ -27,8 +27,8 @@ shape_of-order c = c.loop-i.invariant.2
 pub returns : goal.returns
 returns c =
     record {
-        order_len_unchanged = c.loop-i.invariant.2;
-        upper_bound = omega (arith, c.loop-i.invariant.1);
-        result_after = c.loop-i.invariant.3 ∙ sort-all (letters_at c.args.starts.now c.args.letters.now) c.args.rows.now c.args.n c.loop-i.i (omega arith);
-        first_below = c.loop-i.invariant.4;
+      order_len_unchanged = c.loop-i.invariant.2;
+      upper_bound = omega (arith, c.loop-i.invariant.1);
+      result_after = c.loop-i.invariant.3 ∙ sort-all (letters_at c.args.starts.now c.args.letters.now) c.args.rows.now c.args.n c.loop-i.i (omega arith);
+      first_below = c.loop-i.invariant.4;
     }

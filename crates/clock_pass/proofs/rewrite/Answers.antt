@@ -6,6 +6,6 @@ use Rattle.clock_pass.proofs.rewrite.Goals as goal
 pub returns : goal.returns
 returns c =
     record {
-        rewrite_given = rewrite-listed _ _ _ _ _ _ _ (c.rewrite_words-answer.ensures.0 c.no_node_said-words.ensures) c.put_node_said.ensures;
-        by_index = c.rewrite_words-answer.ensures.1;
+      rewrite_given = rewrite-listed _ _ _ _ _ _ _ (c.rewrite_words-answer.ensures.0 c.no_node_said-words.ensures) c.put_node_said.ensures;
+      by_index = c.rewrite_words-answer.ensures.1;
     }

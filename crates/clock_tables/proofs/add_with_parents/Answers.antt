@@ -17,6 +17,6 @@ pub returns : goal.returns
 returns c =
     let j : c.loop-i.i ≡ capped c.args.c.depth = omega (arith, c.depth_of-d.ensures.value, c.loop-i.invariant.0, c.loop-i-test.false) in
     record {
-        rows_len_unchanged = c.loop-i.invariant.1;
-        rows_hold = λ cs h. rw j at (c.loop-i.invariant.2 cs h);
+      rows_len_unchanged = c.loop-i.invariant.1;
+      rows_hold = λ cs h. rw j at (c.loop-i.invariant.2 cs h);
     }

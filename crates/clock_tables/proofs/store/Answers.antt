@@ -37,9 +37,9 @@ pub returns : goal.returns
 returns c =
     let told = stored c.args.t.now c.loop-i.t c.args.b _ _ c.loop-i.i _ c.requires c.depth_of-d.ensures.value c.loop-i.invariant.0 c.loop-i-test.false c.loop-i.invariant.3 c.loop-i.invariant.4 in
     record {
-        t_len_unchanged = c.loop-i.invariant.2 ∙ simp length-set;
-        nonzero = told.0;
-        b_after = told.1.0;
-        by_index = told.1.1.0;
-        by_index_2 = told.1.1.1;
+      t_len_unchanged = c.loop-i.invariant.2 ∙ simp length-set;
+      nonzero = told.0;
+      b_after = told.1.0;
+      by_index = told.1.1.0;
+      by_index_2 = told.1.1.1;
     }

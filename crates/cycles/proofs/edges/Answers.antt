@@ -28,6 +28,6 @@ loop-i-preserved c = (
 pub returns : goal.returns
 returns c =
     record {
-        edges = λ types t i j h l. c.loop-i.invariant.3 types t i j (omega (arith, h, c.loop-i-test.false)) l;
-        own = λ types t m l. c.loop-i.invariant.4 m (omega (arith, l, c.loop-i-test.false)) types t;
+      edges = λ types t i j h l. c.loop-i.invariant.3 types t i j (omega (arith, h, c.loop-i-test.false)) l;
+      own = λ types t m l. c.loop-i.invariant.4 m (omega (arith, l, c.loop-i-test.false)) types t;
     }

@@ -17,6 +17,6 @@ loop-j-preserved c = let r = row_more c.loop-j.go c.args.go.now c.args.set.now (
 pub returns : goal.returns
 returns c =
     record {
-        go_len_unchanged = c.loop-j.invariant.1;
-        by_index = (c.loop-j.invariant.2, λ k h. c.loop-j.invariant.3 k (omega (arith, h, c.loop-j-test.false)));
+      go_len_unchanged = c.loop-j.invariant.1;
+      by_index = (c.loop-j.invariant.2, λ k h. c.loop-j.invariant.3 k (omega (arith, h, c.loop-j-test.false)));
     }

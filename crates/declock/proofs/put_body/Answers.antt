@@ -15,15 +15,15 @@ use Rattle.declock.proofs.put_body.Goals as goal
 pub put_hold_equations-d-requires : goal.put_hold_equations-d-requires
 put_hold_equations-d-requires c =
     record {
-        values_len = c.requires.values_len;
-        nodes_bound = c.requires.nodes_bound;
+      values_len = c.requires.values_len;
+      nodes_bound = c.requires.nodes_bound;
     }
 
 pub old_equations-requires : goal.old_equations-requires
 old_equations-requires c =
     record {
-        values_len = c.requires.values_len;
-        nodes_bound = c.requires.nodes_bound;
+      values_len = c.requires.values_len;
+      nodes_bound = c.requires.nodes_bound;
     }
 
 pub returns : goal.returns

@@ -14,6 +14,6 @@ loop-i-preserved c = λ id t. rows_more _ _ (declarations id) _ _ (declaration_t
 pub returns : goal.returns
 returns c =
     record {
-        result_after = λ i t. declared-all _ _ _ _ _ _ i.flag (activation_by i) c.loop-i-test.false (c.loop-i.invariant i.flag t);
-        result_after_2 = λ i t. declared-all _ _ _ _ _ _ i.first (first_tick_by i) c.loop-i-test.false (c.loop-i.invariant i.first t);
+      result_after = λ i t. declared-all _ _ _ _ _ _ i.flag (activation_by i) c.loop-i-test.false (c.loop-i.invariant i.flag t);
+      result_after_2 = λ i t. declared-all _ _ _ _ _ _ i.first (first_tick_by i) c.loop-i-test.false (c.loop-i.invariant i.first t);
     }

@@ -17,15 +17,15 @@ fill_ids-requires-3 c = search (rules, c.requires.sound)
 pub condact_id-condact-requires : goal.condact_id-condact-requires
 condact_id-condact-requires c =
     record {
-        sound = c.requires.sound;
-        lengths_len_bound = omega (arith, c.condact_id-arg-1.given);
+      sound = c.requires.sound;
+      lengths_len_bound = omega (arith, c.condact_id-arg-1.given);
     }
 
 pub declock_node-requires : goal.declock_node-requires
 declock_node-requires c =
     record {
-        values_len = c.requires.values_len;
-        nodes_bound = c.requires.nodes_bound;
+      values_len = c.requires.values_len;
+      nodes_bound = c.requires.nodes_bound;
     }
 
 pub returns : goal.returns

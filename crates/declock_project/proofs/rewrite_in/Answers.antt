@@ -14,11 +14,11 @@ narrow-condact-requires c = omega (arith, condact-few c.args.given.now c.args.le
 pub copy_names-copied-requires : goal.copy_names-copied-requires
 copy_names-copied-requires c =
     record {
-        given_value = c.requires.given_value.0;
-        given_in_bounds = omega (arith, c.requires.given_value.1);
-        text_in_bounds = omega (arith, c.requires.given_value.2);
-        lengths_len_bound = omega arith;
-        letters_len_bound = omega arith;
+      given_value = c.requires.given_value.0;
+      given_in_bounds = omega (arith, c.requires.given_value.1);
+      text_in_bounds = omega (arith, c.requires.given_value.2);
+      lengths_len_bound = omega arith;
+      letters_len_bound = omega arith;
     }
 
 pub put_types-next-requires : goal.put_types-next-requires
@@ -27,9 +27,9 @@ put_types-next-requires c = c.requires.values_len
 pub walk_nodes-walked-requires : goal.walk_nodes-walked-requires
 walk_nodes-walked-requires c =
     record {
-        values_len = c.requires.values_len;
-        nodes_bound = (c.index_of-t.ensures.names_value.1, c.index_of-t.ensures.names_value.2);
-        sound = c.copy_names-copied.ensures.sound;
+      values_len = c.requires.values_len;
+      nodes_bound = (c.index_of-t.ensures.names_value.1, c.index_of-t.ensures.names_value.2);
+      sound = c.copy_names-copied.ensures.sound;
     }
 
 pub copy_records-requires : goal.copy_records-requires

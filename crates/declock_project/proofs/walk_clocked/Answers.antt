@@ -25,10 +25,10 @@ shape_of-holds-then-found c = c.laid_found-found.auto.holds
 pub returns-then-found : goal.returns-then-found
 returns-then-found c =
     record {
-        sound_2 = c.requires.sound;
-        deep_value = λ node q d r. c.laid_found-found.ensures.deep_value node q d r.plans;
-        fault_value = λ i node q k h d u e r. (c.laid_found-found.ensures.found_in i node q k h d u e r.plans).fault;
-        laid_put = λ r. never-put (λ i n h u. not-deep n _ u.clean.forms (c.laid_found-found.ensures.deep_value n.node _ u.laid r.plans) c.if-found.true);
+      sound_2 = c.requires.sound;
+      deep_value = λ node q d r. c.laid_found-found.ensures.deep_value node q d r.plans;
+      fault_value = λ i node q k h d u e r. (c.laid_found-found.ensures.found_in i node q k h d u e r.plans).fault;
+      laid_put = λ r. never-put (λ i n h u. not-deep n _ u.clean.forms (c.laid_found-found.ensures.deep_value n.node _ u.laid r.plans) c.if-found.true);
     }
 
 pub shape_of-env-then-fault : goal.shape_of-env-then-fault
@@ -52,10 +52,10 @@ shape_of-holds-then-fault c = c.laid_found-found.auto.holds
 pub returns-then-fault : goal.returns-then-fault
 returns-then-fault c =
     record {
-        sound_2 = c.requires.sound;
-        deep_value = λ node q d r. c.laid_found-found.ensures.deep_value node q d r.plans;
-        fault_value = λ i node q k h d u e r. (c.laid_found-found.ensures.found_in i node q k h d u e r.plans).fault;
-        laid_put = λ r. never-put (λ i n h u. not-faulty i n _ _ _ u.clean.clean (c.laid_found-found.ensures.found_in i n.node _ n.clocking h u.laid u.uses u.clean.forms r.plans).fault c.if-fault.true);
+      sound_2 = c.requires.sound;
+      deep_value = λ node q d r. c.laid_found-found.ensures.deep_value node q d r.plans;
+      fault_value = λ i node q k h d u e r. (c.laid_found-found.ensures.found_in i node q k h d u e r.plans).fault;
+      laid_put = λ r. never-put (λ i n h u. not-faulty i n _ _ _ u.clean.clean (c.laid_found-found.ensures.found_in i n.node _ n.clocking h u.laid u.uses u.clean.forms r.plans).fault c.if-fault.true);
     }
 
 pub shape_of-env-then-names : goal.shape_of-env-then-names
@@ -79,18 +79,18 @@ shape_of-holds-then-names c = c.laid_found-found.auto.holds
 pub returns-then-names : goal.returns-then-names
 returns-then-names c =
     record {
-        sound_2 = c.requires.sound;
-        deep_value = λ node q d r. c.laid_found-found.ensures.deep_value node q d r.plans;
-        fault_value = λ i node q k h d u e r. (c.laid_found-found.ensures.found_in i node q k h d u e r.plans).fault;
-        laid_put = λ r. full_put c.if-names.true;
+      sound_2 = c.requires.sound;
+      deep_value = λ node q d r. c.laid_found-found.ensures.deep_value node q d r.plans;
+      fault_value = λ i node q k h d u e r. (c.laid_found-found.ensures.found_in i node q k h d u e r.plans).fault;
+      laid_put = λ r. full_put c.if-names.true;
     }
 
 pub write_found-progress-requires : goal.write_found-progress-requires
 write_found-progress-requires c =
     record {
-        values_len = c.requires.values_len;
-        nodes_bound = c.requires.nodes_bound;
-        sound = c.requires.sound;
+      values_len = c.requires.values_len;
+      nodes_bound = c.requires.nodes_bound;
+      sound = c.requires.sound;
     }
 
 pub shape_of-env-then-fits-2 : goal.shape_of-env-then-fits-2
@@ -114,22 +114,22 @@ shape_of-holds-then-fits-2 c = c.laid_found-found.auto.holds
 pub returns-then-fits-2 : goal.returns-then-fits-2
 returns-then-fits-2 c =
     record {
-        sound_2 = c.write_found-progress.ensures.sound_2;
-        deep_value = λ node q d r. c.laid_found-found.ensures.deep_value node q d r.plans;
-        fault_value = λ i node q k h d u e r. (c.laid_found-found.ensures.found_in i node q k h d u e r.plans).fault;
-        laid_put = λ r. c.write_found-progress.ensures.laid_put c.if-names.false (c.laid_found-found.auto.holds ∙ r.hold-room) (record {
-            planned = λ i n h u. (c.laid_found-found.ensures.found_in i n.node _ n.clocking h u.laid u.uses u.clean.forms r.plans).planned refl u.clean.clean;
-            flag-room = c.fits.ensures c.if-fits.true;
-            first-room = c.fits-then-fits.ensures c.if-fits-2.true;
-          });
+      sound_2 = c.write_found-progress.ensures.sound_2;
+      deep_value = λ node q d r. c.laid_found-found.ensures.deep_value node q d r.plans;
+      fault_value = λ i node q k h d u e r. (c.laid_found-found.ensures.found_in i node q k h d u e r.plans).fault;
+      laid_put = λ r. c.write_found-progress.ensures.laid_put c.if-names.false (c.laid_found-found.auto.holds ∙ r.hold-room) (record {
+        planned = λ i n h u. (c.laid_found-found.ensures.found_in i n.node _ n.clocking h u.laid u.uses u.clean.forms r.plans).planned refl u.clean.clean;
+        flag-room = c.fits.ensures c.if-fits.true;
+        first-room = c.fits-then-fits.ensures c.if-fits-2.true;
+      });
     }
 
 pub write_wide-progress-requires : goal.write_wide-progress-requires
 write_wide-progress-requires c =
     record {
-        values_len = c.requires.values_len;
-        nodes_bound = c.requires.nodes_bound;
-        sound = c.requires.sound;
+      values_len = c.requires.values_len;
+      nodes_bound = c.requires.nodes_bound;
+      sound = c.requires.sound;
     }
 
 pub shape_of-env : goal.shape_of-env
@@ -153,14 +153,14 @@ shape_of-holds c = c.write_wide-progress.auto.holds ∙ c.laid_found-found.auto.
 pub returns : goal.returns
 returns c =
     record {
-        sound_2 = c.write_wide-progress.ensures.sound_2;
-        deep_value = λ node q d r. c.laid_found-found.ensures.deep_value node q d r.plans;
-        fault_value = λ i node q k h d u e r. (c.laid_found-found.ensures.found_in i node q k h d u e r.plans).fault;
-        laid_put = λ r. c.write_wide-progress.ensures.laid_put c.if-names.false (record {
-            sited = λ i n h u. (c.laid_found-found.ensures.found_in i n.node _ n.clocking h u.laid u.uses u.clean.forms r.plans).sited refl u.clean.clean;
-            few-tokens = r.plans.few-tokens;
-            typed = omega (arith, r.plans.typed, c.laid_found-found.auto.types);
-            noted = omega (arith, r.plans.planned, c.laid_found-found.auto.plan);
-            hold-room = c.laid_found-found.auto.holds ∙ r.hold-room;
-          });
+      sound_2 = c.write_wide-progress.ensures.sound_2;
+      deep_value = λ node q d r. c.laid_found-found.ensures.deep_value node q d r.plans;
+      fault_value = λ i node q k h d u e r. (c.laid_found-found.ensures.found_in i node q k h d u e r.plans).fault;
+      laid_put = λ r. c.write_wide-progress.ensures.laid_put c.if-names.false (record {
+        sited = λ i n h u. (c.laid_found-found.ensures.found_in i n.node _ n.clocking h u.laid u.uses u.clean.forms r.plans).sited refl u.clean.clean;
+        few-tokens = r.plans.few-tokens;
+        typed = omega (arith, r.plans.typed, c.laid_found-found.auto.types);
+        noted = omega (arith, r.plans.planned, c.laid_found-found.auto.plan);
+        hold-room = c.laid_found-found.auto.holds ∙ r.hold-room;
+      });
     }

@@ -21,10 +21,10 @@ loop-k-init c = (still-first _ _ _ _ _ _ _, omega arith, omega arith, c.requires
 pub walk_node-step-requires : goal.walk_node-step-requires
 walk_node-step-requires c =
     record {
-        values_len = c.requires.values_len;
-        nodes_bound = c.requires.nodes_bound;
-        sound = c.loop-k.invariant.3;
-        k_lt_nodes = c.loop-k-test.true;
+      values_len = c.requires.values_len;
+      nodes_bound = c.requires.nodes_bound;
+      sound = c.loop-k.invariant.3;
+      k_lt_nodes = c.loop-k-test.true;
     }
 
 pub shape_of-env-then-found : goal.shape_of-env-then-found
@@ -53,9 +53,9 @@ returns-then-found c =
     let l = c.loop-k in
     let few = c.loop-k-test.true in
     record {
-        by_index = λ m p e. never-faulty _ _ _ e;
-        walks = λ i h r. walk-deep i l.k (l.invariant.4 i h r) _ (omega (arith, few, h.nodes.count)) (λ n e. (c.walk_node-step.ensures.node_met (room-still l.invariant.0 r)).deep i n h e) _ _ c.if-found.true;
-        by_index_2 = λ m p bytes i ns e h r f held. never-faulty _ _ _ e;
+      by_index = λ m p e. never-faulty _ _ _ e;
+      walks = λ i h r. walk-deep i l.k (l.invariant.4 i h r) _ (omega (arith, few, h.nodes.count)) (λ n e. (c.walk_node-step.ensures.node_met (room-still l.invariant.0 r)).deep i n h e) _ _ c.if-found.true;
+      by_index_2 = λ m p bytes i ns e h r f held. never-faulty _ _ _ e;
     }
 
 pub add_fault-m-requires : goal.add_fault-m-requires
@@ -106,7 +106,7 @@ pub returns : goal.returns
 returns c =
     let l = c.loop-k in
     record {
-        by_index = λ m p e. as-faulty (λ (n : ℕ) (q : Progress). (n ≤ 16) × Sound l.lengths l.text q.names) _ m _ p e (omega (arith, l.invariant.1, l.invariant.2, c.requires.nodes_bound), l.invariant.3);
-        walks = λ i h r. walk_end i l.k (l.invariant.4 i h r) _ _ _ _ (omega (arith, c.loop-k-test.false, h.nodes.count)) (λ ns f. l.invariant.5 i ns h f r);
-        by_index_2 = λ m p bytes i ns e h r f held. as-faulty (λ (n : ℕ) (q : Progress). AllPut i ns l.lengths l.text q.names (out c.args.otags.now c.args.ovalues.now c.args.from.next) (out l.otags l.ovalues q.next)) _ m _ p e (all-put f l.k (omega (arith, c.loop-k-test.false, h.nodes.count)) (l.invariant.6 bytes i ns f h r held) (l.invariant.7 bytes i ns f h r held));
+      by_index = λ m p e. as-faulty (λ (n : ℕ) (q : Progress). (n ≤ 16) × Sound l.lengths l.text q.names) _ m _ p e (omega (arith, l.invariant.1, l.invariant.2, c.requires.nodes_bound), l.invariant.3);
+      walks = λ i h r. walk_end i l.k (l.invariant.4 i h r) _ _ _ _ (omega (arith, c.loop-k-test.false, h.nodes.count)) (λ ns f. l.invariant.5 i ns h f r);
+      by_index_2 = λ m p bytes i ns e h r f held. as-faulty (λ (n : ℕ) (q : Progress). AllPut i ns l.lengths l.text q.names (out c.args.otags.now c.args.ovalues.now c.args.from.next) (out l.otags l.ovalues q.next)) _ m _ p e (all-put f l.k (omega (arith, c.loop-k-test.false, h.nodes.count)) (l.invariant.6 bytes i ns f h r held) (l.invariant.7 bytes i ns f h r held));
     }

@@ -35,8 +35,8 @@ write-w-requires c =
     let g = length-take-le c.args.n c.args.tags.now (omega (arith, c.requires.tags_len.0)) in
     let v = length-take-le c.args.n c.args.values.now (omega (arith, c.requires.tags_len.1)) in
     record {
-        lengths_value = (used c.requires.sound, g ∙ sym v);
-        lengths_len_bound = (omega (arith, used-names c.requires.sound, c.requires.sound.few, c.requires.lengths_len.0), omega (arith, used-letters c.requires.sound, c.requires.sound.short, c.requires.lengths_len.1), omega (arith, g));
+      lengths_value = (used c.requires.sound, g ∙ sym v);
+      lengths_len_bound = (omega (arith, used-names c.requires.sound, c.requires.sound.few, c.requires.lengths_len.0), omega (arith, used-letters c.requires.sound, c.requires.sound.short, c.requires.lengths_len.1), omega (arith, g));
     }
 
 pub returns-in-Done : goal.returns-in-Done

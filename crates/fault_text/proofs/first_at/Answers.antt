@@ -5,8 +5,8 @@ use Rattle.fault_text.proofs.first_at.Goals as goal
 pub fault_in-requires : goal.fault_in-requires
 fault_in-requires c =
     record {
-        values_len = c.requires.values_len;
-        nodes_bound = c.requires.nodes_bound;
+      values_len = c.requires.values_len;
+      nodes_bound = c.requires.nodes_bound;
     }
 
 pub returns : goal.returns

@@ -13,9 +13,9 @@ pub lines_lent-requires : goal.lines_lent-requires
 lines_lent-requires c =
     let t = c.index_of-t.ensures.names_value in
     record {
-        values_len = c.requires.values_len;
-        nodes_bound = (t.1, t.2);
-        letters_len_bound = c.requires.given_value.2;
+      values_len = c.requires.values_len;
+      nodes_bound = (t.1, t.2);
+      letters_len_bound = c.requires.given_value.2;
     }
 
 pub returns : goal.returns

@@ -24,10 +24,10 @@ slice_bounds-put_lines-end-in-Next-2 c = sym (length-take-le _ _ c.if-out-n.fals
 pub put_lines-requires : goal.put_lines-requires
 put_lines-requires c =
     record {
-        values_len = c.requires.values_len;
-        nodes_bound = c.requires.nodes_bound;
-        out_len_bound = part_low _ _ c.args.out.now c.in-Next.is c.put_lines-measured.ensures.result_bound;
-        letters_len_bound = c.requires.letters_len_bound;
+      values_len = c.requires.values_len;
+      nodes_bound = c.requires.nodes_bound;
+      out_len_bound = part_low _ _ c.args.out.now c.in-Next.is c.put_lines-measured.ensures.result_bound;
+      letters_len_bound = c.requires.letters_len_bound;
     }
 
 pub returns-in-Deep : goal.returns-in-Deep

@@ -15,9 +15,9 @@ loop-k-init c = (still-first _ _ _ _ _ _ _, omega arith, omega arith, λ i h r. 
 pub first_at-found-requires : goal.first_at-found-requires
 first_at-found-requires c =
     record {
-        values_len = c.requires.values_len;
-        nodes_bound = c.requires.nodes_bound;
-        k_lt_nodes = c.loop-k-test.true;
+      values_len = c.requires.values_len;
+      nodes_bound = c.requires.nodes_bound;
+      k_lt_nodes = c.loop-k-test.true;
     }
 
 pub shape_of-out-then-found : goal.shape_of-out-then-found
@@ -46,17 +46,17 @@ returns-then-found c =
     let l = c.loop-k in
     let s = l.invariant.0 in
     record {
-        result_bound = omega arith;
-        lines_stand = λ i h e r. lines-deep i l.k _ _ (nodes-deep i l.k (l.invariant.3 i h r) _ (omega (arith, c.loop-k-test.true, h.nodes.count)) (λ n f. (c.first_at-found.ensures (room-kept s.env s.table s.sites s.types s.plan r)).deep i n h f) c.if-found.true);
+      result_bound = omega arith;
+      lines_stand = λ i h e r. lines-deep i l.k _ _ (nodes-deep i l.k (l.invariant.3 i h r) _ (omega (arith, c.loop-k-test.true, h.nodes.count)) (λ n f. (c.first_at-found.ensures (room-kept s.env s.table s.sites s.types s.plan r)).deep i n h f) c.if-found.true);
     }
 
 pub put_found-at-requires : goal.put_found-at-requires
 put_found-at-requires c =
     let l = c.loop-k in
     record {
-        out_len_bound = omega (arith, l.invariant.0.lent, c.requires.out_len_bound);
-        at_le_farthest = omega (arith, l.invariant.1, l.invariant.2, c.requires.nodes_bound);
-        letters_len_bound = c.requires.letters_len_bound;
+      out_len_bound = omega (arith, l.invariant.0.lent, c.requires.out_len_bound);
+      at_le_farthest = omega (arith, l.invariant.1, l.invariant.2, c.requires.nodes_bound);
+      letters_len_bound = c.requires.letters_len_bound;
     }
 
 pub overflow_add-k : goal.overflow_add-k
@@ -102,6 +102,6 @@ pub returns : goal.returns
 returns c =
     let l = c.loop-k in
     record {
-        result_bound = omega (arith, l.invariant.1, l.invariant.2, c.requires.nodes_bound);
-        lines_stand = λ i h e r. lines_end i l.k _ _ _ (l.invariant.3 i h r) (omega (arith, c.loop-k-test.false, h.nodes.count)) (omega (arith, l.invariant.1, c.requires.nodes_bound)) l.invariant.2 (λ ns f. l.invariant.4 i ns h f e r);
+      result_bound = omega (arith, l.invariant.1, l.invariant.2, c.requires.nodes_bound);
+      lines_stand = λ i h e r. lines_end i l.k _ _ _ (l.invariant.3 i h r) (omega (arith, c.loop-k-test.false, h.nodes.count)) (omega (arith, l.invariant.1, c.requires.nodes_bound)) l.invariant.2 (λ ns f. l.invariant.4 i ns h f e r);
     }

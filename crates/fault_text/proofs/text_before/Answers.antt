@@ -7,8 +7,8 @@ use Rattle.fault_text.proofs.text_before.Goals as goal
 pub fault_in-found-requires : goal.fault_in-found-requires
 fault_in-found-requires c =
     record {
-        values_len = c.requires.values_len;
-        nodes_bound = (c.requires.nodes_bound.0, c.requires.nodes_bound.1);
+      values_len = c.requires.values_len;
+      nodes_bound = (c.requires.nodes_bound.0, c.requires.nodes_bound.1);
     }
 
 pub shape_of-env-then-found : goal.shape_of-env-then-found

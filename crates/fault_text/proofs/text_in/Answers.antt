@@ -31,8 +31,8 @@ pub text_before-requires : goal.text_before-requires
 text_before-requires c =
     let t = c.index_of-t.ensures.names_value in
     record {
-        values_len = c.requires.values_len;
-        nodes_bound = (t.1, t.2, c.requires.given_value.2, omega (arith, c.narrow-before.ensures, c.narrow-before.type_inv));
+      values_len = c.requires.values_len;
+      nodes_bound = (t.1, t.2, c.requires.given_value.2, omega (arith, c.narrow-before.ensures, c.narrow-before.type_inv));
     }
 
 pub shape_of-env-in-At : goal.shape_of-env-in-At

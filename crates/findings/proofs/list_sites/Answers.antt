@@ -24,6 +24,6 @@ shape_of-rows c = c.loop-i.invariant.1
 pub returns : goal.returns
 returns c =
     record {
-        rows_len_unchanged = c.loop-i.invariant.1;
-        rows_hold = λ cs h. listed-all c.args.table.now c.args.n c.loop-i.i c.loop-i.rows c.loop-i.at cs c.loop-i.invariant.0 c.loop-i-test.false (c.loop-i.invariant.2 cs h);
+      rows_len_unchanged = c.loop-i.invariant.1;
+      rows_hold = λ cs h. listed-all c.args.table.now c.args.n c.loop-i.i c.loop-i.rows c.loop-i.at cs c.loop-i.invariant.0 c.loop-i-test.false (c.loop-i.invariant.2 cs h);
     }

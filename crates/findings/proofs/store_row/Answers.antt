@@ -28,7 +28,7 @@ shape_of-t c = c.store-2.ensures.t_len_unchanged ∙ (c.store.ensures.t_len_unch
 pub returns : goal.returns
 returns c = let r = row-stored c.args.t.now c.args.b c.args.w.kind c.args.w.name c.args.w.flag c.args.w.equation _ _ (value_of c.args.on) (value_of c.args.expected) c.requires c.store.ensures.b_after c.store.ensures.by_index c.store-2.ensures.b_after c.store-2.ensures.by_index in
     record {
-        t_len_unchanged = c.store-2.ensures.t_len_unchanged ∙ (c.store.ensures.t_len_unchanged ∙ simp length-set);
-        b_after = r.0;
-        by_index = r.1;
+      t_len_unchanged = c.store-2.ensures.t_len_unchanged ∙ (c.store.ensures.t_len_unchanged ∙ simp length-set);
+      b_after = r.0;
+      by_index = r.1;
     }

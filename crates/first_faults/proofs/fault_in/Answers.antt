@@ -7,20 +7,20 @@ use Rattle.first_faults.proofs.fault_in.Goals as goal
 pub laid_found-requires : goal.laid_found-requires
 laid_found-requires c =
     record {
-        values_len = c.requires.values_len;
-        nodes_bound = c.requires.nodes_bound;
+      values_len = c.requires.values_len;
+      nodes_bound = c.requires.nodes_bound;
     }
 
 pub returns-then-equations_use_clocks : goal.returns-then-equations_use_clocks
 returns-then-equations_use_clocks c =
     record {
-        deep_value = c.laid_found.ensures.deep_value;
-        fault_value = λ i n q k h d e r. (c.laid_found.ensures.found_in i n q k h d (sym (uses-by n _ (c.equations_use_clocks.ensures _ n.equations _ d.equations.items)) ∙ c.if-equations_use_clocks.true) e r).fault;
+      deep_value = c.laid_found.ensures.deep_value;
+      fault_value = λ i n q k h d e r. (c.laid_found.ensures.found_in i n q k h d (sym (uses-by n _ (c.equations_use_clocks.ensures _ n.equations _ d.equations.items)) ∙ c.if-equations_use_clocks.true) e r).fault;
     }
 
 pub returns : goal.returns
 returns c =
     record {
-        deep_value = λ n q d r. c.nothing_found.ensures.0 ∙ deep-unused n _ (c.equations_use_clocks.ensures _ n.equations _ d.equations.items) c.if-equations_use_clocks.false;
-        fault_value = λ i n q k h d e r. none-unclocked i n k _ _ (sym (uses-by n _ (c.equations_use_clocks.ensures _ n.equations _ d.equations.items)) ∙ c.if-equations_use_clocks.false) e c.nothing_found.ensures.1;
+      deep_value = λ n q d r. c.nothing_found.ensures.0 ∙ deep-unused n _ (c.equations_use_clocks.ensures _ n.equations _ d.equations.items) c.if-equations_use_clocks.false;
+      fault_value = λ i n q k h d e r. none-unclocked i n k _ _ (sym (uses-by n _ (c.equations_use_clocks.ensures _ n.equations _ d.equations.items)) ∙ c.if-equations_use_clocks.false) e c.nothing_found.ensures.1;
     }

@@ -9,8 +9,8 @@ returns-in-Deep c =
     let clocks = c.clock_laid-clocked.ensures.clocked_or_deep in
     let deep = c.in-Deep.is in
     record {
-        deep_value = λ node q d r. c.nothing_found.ensures.0 ∙ deep-told _ node _ _ _ (clocks node q d r.clocks r.few r.few r.found) deep;
-        found_in = λ i node q k h d u f r. absurd (none_deep _ _ _ node k _ f (clocks node q d r.clocks r.few r.few r.found) deep);
+      deep_value = λ node q d r. c.nothing_found.ensures.0 ∙ deep-told _ node _ _ _ (clocks node q d r.clocks r.few r.few r.found) deep;
+      found_in = λ i node q k h d u f r. absurd (none_deep _ _ _ node k _ f (clocks node q d r.clocks r.few r.few r.found) deep);
     }
 
 pub shape_of-env-in-Clocked : goal.shape_of-env-in-Clocked
@@ -25,6 +25,6 @@ returns-in-Clocked c =
     let sites = c.clock_laid-clocked.ensures.sites_told in
     let clocked = c.in-Clocked.is in
     record {
-        deep_value = λ node q d r. c.clocked_found.ensures.deep_value ∙ deep-not-told _ node _ _ _ (clocks node q d r.clocks r.few r.few r.found) _ _ clocked;
-        found_in = λ i node q k h d u f r. c.clocked_found.ensures.found_in i node q k _ _ h d u f (tells _ _ _ node k _ f (clocks node q d r.clocks r.few r.few r.found) _ _ clocked) (sites node q k d f r.clocks r.few r.few r.found r.sited) r.typed r.planned r.few-tokens;
+      deep_value = λ node q d r. c.clocked_found.ensures.deep_value ∙ deep-not-told _ node _ _ _ (clocks node q d r.clocks r.few r.few r.found) _ _ clocked;
+      found_in = λ i node q k h d u f r. c.clocked_found.ensures.found_in i node q k _ _ h d u f (tells _ _ _ node k _ f (clocks node q d r.clocks r.few r.few r.found) _ _ clocked) (sites node q k d f r.clocks r.few r.few r.found r.sited) r.typed r.planned r.few-tokens;
     }

@@ -6,9 +6,9 @@ use Rattle.first_faults.proofs.plan_of.Goals as goal
 pub plan_laid-requires : goal.plan_laid-requires
 plan_laid-requires c =
     record {
-        values_len = c.requires.values_len;
-        table_value = c.parts_table-table.ensures;
-        nodes_bound = c.requires.nodes_bound;
+      values_len = c.requires.values_len;
+      table_value = c.parts_table-table.ensures;
+      nodes_bound = c.requires.nodes_bound;
     }
 
 pub returns : goal.returns

@@ -13,8 +13,7 @@ loop-k-init c = (refl, refl, λ node clocks es q a b g. going_start _ _ node clo
 
 pub loop-k-preserved : goal.loop-k-preserved
 loop-k-preserved c =
-    let l = c.loop-k in
-    (
+    let l = c.loop-k in (
       c.check_one-found.auto.table ∙ l.invariant.0,
       c.check_one-found.auto.sites ∙ l.invariant.1,
       λ node clocks es q a b g. going_step _ _ node clocks c.args.env.now c.args.ports.now l.table _ _ _ _ _ q _ _ _ c.loop-k-test.true a b c.equation_at-l.ensures c.check_one-found.ensures.tallied (l.invariant.2 node clocks es q a b g) _ c.in-Count.is,
@@ -33,8 +32,8 @@ pub returns-in-Deep : goal.returns-in-Deep
 returns-in-Deep c =
     let l = c.loop-k in
     record {
-        tallied = λ node clocks es q a b g. going-deep _ _ node clocks c.args.env.now c.args.ports.now l.table _ _ _ _ _ q _ _ _ c.loop-k-test.true a b c.equation_at-l.ensures c.check_one-found.ensures.tallied (l.invariant.2 node clocks es q a b g) c.in-Deep.is;
-        by_index = λ m node clocks es q cs z. let x : ◌≡◌ {A = ℕ} 0 1 = cc in absurd (omega arith);
+      tallied = λ node clocks es q a b g. going-deep _ _ node clocks c.args.env.now c.args.ports.now l.table _ _ _ _ _ q _ _ _ c.loop-k-test.true a b c.equation_at-l.ensures c.check_one-found.ensures.tallied (l.invariant.2 node clocks es q a b g) c.in-Deep.is;
+      by_index = λ m node clocks es q cs z. let x : ◌≡◌ {A = ℕ} 0 1 = cc in absurd (omega arith);
     }
 
 pub shape_of-table : goal.shape_of-table
@@ -46,6 +45,6 @@ shape_of-sites c = c.loop-k.invariant.1
 pub returns : goal.returns
 returns c =
     record {
-        tallied = λ node clocks es q a b g. going_end _ _ node clocks _ _ _ _ _ q _ (omega (arith, c.loop-k-test.false)) (c.loop-k.invariant.2 node clocks es q a b g);
-        by_index = λ m node clocks es q cs z a g room h. siting-end _ _ _ _ node clocks _ _ _ _ q cs (omega (arith, c.loop-k-test.false)) (c.loop-k.invariant.3 node clocks es q cs a g room h);
+      tallied = λ node clocks es q a b g. going_end _ _ node clocks _ _ _ _ _ q _ (omega (arith, c.loop-k-test.false)) (c.loop-k.invariant.2 node clocks es q a b g);
+      by_index = λ m node clocks es q cs z a g room h. siting-end _ _ _ _ node clocks _ _ _ _ q cs (omega (arith, c.loop-k-test.false)) (c.loop-k.invariant.3 node clocks es q cs a g room h);
     }

@@ -18,9 +18,9 @@ use Rattle.inference.proofs.+natural.Goals.{first_found-then-end-place+then-is_f
 first-found-passed : (t : ℕ) (c : goal.first_found-Joined-end-place t) →
     Passed c.args.names (tokens c.args.tags.now c.args.values.now) c.args.env.now c.args.up c.operand_at-place.result c.if-end-place.end
 first-found-passed t c = elim c.if-end-place.branch [
-      | first_found-then-end-place+then-is_free w ↦ rw w.end-is (passed-walk _ _ _ _ _ _ (sym w.is_free.ensures ∙ w.if-is_free.true) w.operand_clock-f.ensures)
-      | first_found-else-end-place w ↦ rw w.end-is (passed-leaf _ _ _ _ _ _ w.if-end-place.false c.free_leaf-end.ensures)
-    ]
+  | first_found-then-end-place+then-is_free w ↦ rw w.end-is (passed-walk _ _ _ _ _ _ (sym w.is_free.ensures ∙ w.if-is_free.true) w.operand_clock-f.ensures)
+  | first_found-else-end-place w ↦ rw w.end-is (passed-leaf _ _ _ _ _ _ w.if-end-place.false c.free_leaf-end.ensures)
+]
 
 -- where operands begin behind it, the place is among the tokens
 found-at-inside : (t : ℕ) (c : goal.found_at-Else-first-at t) → c.args.at < length c.args.tags.now

@@ -13,8 +13,8 @@ loop-made-init c = (refl, refl, λ n q clocks m e g a. repeating-start _ n _ _ c
 pub one_pass-pass-requires : goal.one_pass-pass-requires
 one_pass-pass-requires c =
     record {
-        values_len = c.requires;
-        made_bound = omega (arith, c.ranges.count, c.loop-made-test.true);
+      values_len = c.requires;
+      made_bound = omega (arith, c.ranges.count, c.loop-made-test.true);
     }
 
 pub loop-made-smaller : goal.loop-made-smaller

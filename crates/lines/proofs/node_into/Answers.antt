@@ -12,8 +12,8 @@ slice_bounds-put_node-end-then-size-out c = sym (length-take-le _ _ c.if-size-ou
 pub put_node-requires : goal.put_node-requires
 put_node-requires c =
     record {
-        out_len_bound = omega (arith, length-take c.measure_node-size.result c.args.out.now, c.measure_node-size.ensures.upper_bound);
-        values_len = c.requires;
+      out_len_bound = omega (arith, length-take c.measure_node-size.result c.args.out.now, c.measure_node-size.ensures.upper_bound);
+      values_len = c.requires;
     }
 
 pub returns-then-size-out : goal.returns-then-size-out

@@ -22,6 +22,6 @@ shape_of-out c = c.loop-i.invariant.0
 pub returns : goal.returns
 returns c =
     record {
-        by_index = λ M cs q g h. lines_end M _ _ _ _ _ _ _ q _ (omega (arith, c.loop-i-test.false)) (c.loop-i.invariant.1 M cs q g h);
-        by_index_2 = λ M cs q g h. lines-low M _ _ _ _ _ _ _ q _ (omega (arith, c.loop-i-test.false)) (c.loop-i.invariant.1 M cs q g h);
+      by_index = λ M cs q g h. lines_end M _ _ _ _ _ _ _ q _ (omega (arith, c.loop-i-test.false)) (c.loop-i.invariant.1 M cs q g h);
+      by_index_2 = λ M cs q g h. lines-low M _ _ _ _ _ _ _ q _ (omega (arith, c.loop-i-test.false)) (c.loop-i.invariant.1 M cs q g h);
     }

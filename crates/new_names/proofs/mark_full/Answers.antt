@@ -6,7 +6,7 @@ use Rattle.new_names.proofs.mark_full.Goals as goal
 pub returns : goal.returns
 returns c =
     record {
-        full_value = refl;
-        sound = marked-sound c.requires refl refl;
-        names_held = λ all h. marked-full c.requires refl refl refl all h;
+      full_value = refl;
+      sound = marked-sound c.requires refl refl;
+      names_held = λ all h. marked-full c.requires refl refl refl all h;
     }

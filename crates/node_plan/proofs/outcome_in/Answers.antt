@@ -8,6 +8,6 @@ use Rattle.node_plan.proofs.outcome_in.Goals as goal
 pub returns : goal.returns
 returns c =
     record {
-        result_value = outcome-is c.args.tally.now _ _ _ _ c.word_in-x.ensures c.word_in-f.ensures c.fault_by-met.ensures;
-        counts_value = c.counts_in-counts.ensures;
+      result_value = outcome-is c.args.tally.now _ _ _ _ c.word_in-x.ensures c.word_in-f.ensures c.fault_by-met.ensures;
+      counts_value = c.counts_in-counts.ensures;
     }

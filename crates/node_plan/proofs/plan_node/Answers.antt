@@ -14,11 +14,11 @@ loop-i-init c = (omega arith, refl, refl, refl, refl, λ s'' r h. equations-star
 pub returns-then-next-place : goal.returns-then-next-place
 returns-then-next-place c =
     record {
-        plan_len_unchanged = c.equation-next.ensures.plan_len_unchanged ∙ c.loop-i.invariant.1;
-        flags_len_unchanged = c.equation-next.ensures.flags_len_unchanged ∙ c.loop-i.invariant.2;
-        firsts_len_unchanged = c.equation-next.ensures.firsts_len_unchanged ∙ c.loop-i.invariant.3;
-        holds_len_unchanged = c.equation-next.ensures.holds_len_unchanged ∙ c.loop-i.invariant.4;
-        walks_equations = c.loop-i.invariant.5 _ _ (equations-stop _ _ _ _ _ _ c.equation-next.ensures.walks_equation _ _ (omega (arith, c.loop-i-test.true)) c.if-next-place.true);
+      plan_len_unchanged = c.equation-next.ensures.plan_len_unchanged ∙ c.loop-i.invariant.1;
+      flags_len_unchanged = c.equation-next.ensures.flags_len_unchanged ∙ c.loop-i.invariant.2;
+      firsts_len_unchanged = c.equation-next.ensures.firsts_len_unchanged ∙ c.loop-i.invariant.3;
+      holds_len_unchanged = c.equation-next.ensures.holds_len_unchanged ∙ c.loop-i.invariant.4;
+      walks_equations = c.loop-i.invariant.5 _ _ (equations-stop _ _ _ _ _ _ c.equation-next.ensures.walks_equation _ _ (omega (arith, c.loop-i-test.true)) c.if-next-place.true);
     }
 
 pub loop-i-preserved : goal.loop-i-preserved
@@ -27,9 +27,9 @@ loop-i-preserved c = (omega (arith, c.loop-i-test.true), c.equation-next.ensures
 pub returns : goal.returns
 returns c =
     record {
-        plan_len_unchanged = c.loop-i.invariant.1;
-        flags_len_unchanged = c.loop-i.invariant.2;
-        firsts_len_unchanged = c.loop-i.invariant.3;
-        holds_len_unchanged = c.loop-i.invariant.4;
-        walks_equations = c.loop-i.invariant.5 _ _ (equations-none _ _ _ _ _ _ (omega (arith, c.loop-i-test.false)));
+      plan_len_unchanged = c.loop-i.invariant.1;
+      flags_len_unchanged = c.loop-i.invariant.2;
+      firsts_len_unchanged = c.loop-i.invariant.3;
+      holds_len_unchanged = c.loop-i.invariant.4;
+      walks_equations = c.loop-i.invariant.5 _ _ (equations-none _ _ _ _ _ _ (omega (arith, c.loop-i-test.false)));
     }

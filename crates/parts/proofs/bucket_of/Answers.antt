@@ -16,6 +16,6 @@ pub returns : goal.returns
 unfolding bucket_of
 returns c =
     record {
-        value = sym (rw (c.loop-i.invariant.2, hashed-end c.loop-i.hash c.args.name.now c.loop-i.i c.loop-i-test.false));
-        upper_bound = omega (arith, c.loop-i.invariant.1);
+      value = sym (rw (c.loop-i.invariant.2, hashed-end c.loop-i.hash c.args.name.now c.loop-i.i c.loop-i-test.false));
+      upper_bound = omega (arith, c.loop-i.invariant.1);
     }

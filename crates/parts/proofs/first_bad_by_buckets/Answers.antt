@@ -30,12 +30,12 @@ pub repeats_in_bucket-requires : goal.repeats_in_bucket-requires
 unfolding bucket_at
 repeats_in_bucket-requires c =
     record {
-        i_in_bounds = c.loop-i-test.true;
-        i_bound = omega (arith, c.loop-i-test.true, c.requires.lengths_len_bound);
-        at_value = c.loop-i.invariant.1;
-        lengths_in_bounds = c.requires.lengths_in_bounds;
-        chained = c.loop-i.invariant.3.chained;
-        last_value = last_of c.args.lengths.now c.args.letters.now c.loop-i.heads c.loop-i.next c.loop-i.starts c.loop-i.i c.loop-i.at c.bucket_of-b.result _ (omega (arith, c.loop-i-test.true, c.requires.lengths_len_bound)) c.loop-i.invariant.3 c.loop-i.invariant.1 (c.bucket_of-b.ensures.value ∙ ap bucket_of (part-name c.args.lengths.now c.args.letters.now c.loop-i.i c.loop-i.at _ c.loop-i.invariant.1 (ap (λ m. c.loop-i.at + m) c.wide1.ensures))) c.bucket_of-b.ensures.upper_bound refl;
+      i_in_bounds = c.loop-i-test.true;
+      i_bound = omega (arith, c.loop-i-test.true, c.requires.lengths_len_bound);
+      at_value = c.loop-i.invariant.1;
+      lengths_in_bounds = c.requires.lengths_in_bounds;
+      chained = c.loop-i.invariant.3.chained;
+      last_value = last_of c.args.lengths.now c.args.letters.now c.loop-i.heads c.loop-i.next c.loop-i.starts c.loop-i.i c.loop-i.at c.bucket_of-b.result _ (omega (arith, c.loop-i-test.true, c.requires.lengths_len_bound)) c.loop-i.invariant.3 c.loop-i.invariant.1 (c.bucket_of-b.ensures.value ∙ ap bucket_of (part-name c.args.lengths.now c.args.letters.now c.loop-i.i c.loop-i.at _ c.loop-i.invariant.1 (ap (λ m. c.loop-i.at + m) c.wide1.ensures))) c.bucket_of-b.ensures.upper_bound refl;
     }
 
 pub returns-then-repeats_in_bucket : goal.returns-then-repeats_in_bucket

@@ -13,9 +13,9 @@ loop-i-init c = (omega arith, refl, rest-start c.args.lengths.now c.args.letters
 pub is_fine-requires : goal.is_fine-requires
 is_fine-requires c =
     record {
-        i_in_bounds = c.loop-i-test.true;
-        at_value = c.loop-i.invariant.1;
-        lengths_in_bounds = c.requires;
+      i_in_bounds = c.loop-i-test.true;
+      at_value = c.loop-i.invariant.1;
+      lengths_in_bounds = c.requires;
     }
 
 pub returns-then-not-is_fine : goal.returns-then-not-is_fine

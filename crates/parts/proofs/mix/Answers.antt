@@ -8,6 +8,6 @@ pub returns : goal.returns
 unfolding mixed
 returns c =
     record {
-        value = rw c.wide1.ensures;
-        upper_bound = mod-lt _ (omega arith);
+      value = rw c.wide1.ensures;
+      upper_bound = mod-lt _ (omega arith);
     }

@@ -32,15 +32,15 @@ copy_values-requires c = omega (arith, fits (goal.at.copy_values-requires c).In-
 pub returns-in-Refused : goal.returns-in-Refused
 returns-in-Refused c =
     record {
-        answer = (sym c.in-Refused.is ∙ c.check_parts-a.ensures);
-        tags = tags-kept c.args.sheet.now c.in-Refused.r (sym c.in-Refused.is ∙ c.check_parts-a.ensures) c.args.tags.now;
-        values = values-kept c.args.sheet.now c.in-Refused.r (sym c.in-Refused.is ∙ c.check_parts-a.ensures) c.args.values.now;
+      answer = (sym c.in-Refused.is ∙ c.check_parts-a.ensures);
+      tags = tags-kept c.args.sheet.now c.in-Refused.r (sym c.in-Refused.is ∙ c.check_parts-a.ensures) c.args.tags.now;
+      values = values-kept c.args.sheet.now c.in-Refused.r (sym c.in-Refused.is ∙ c.check_parts-a.ensures) c.args.values.now;
     }
 
 pub returns-in-Parts : goal.returns-in-Parts
 returns-in-Parts c =
     record {
-        answer = (accepted (goal.at.returns-in-Parts c).In-Parts);
-        tags = c.copy_tags.ensures ∙ tags-over c.args.sheet.now _ (accepted (goal.at.returns-in-Parts c).In-Parts) c.args.tags.now;
-        values = c.copy_values.ensures ∙ values-over c.args.sheet.now _ (accepted (goal.at.returns-in-Parts c).In-Parts) c.args.values.now;
+      answer = (accepted (goal.at.returns-in-Parts c).In-Parts);
+      tags = c.copy_tags.ensures ∙ tags-over c.args.sheet.now _ (accepted (goal.at.returns-in-Parts c).In-Parts) c.args.tags.now;
+      values = c.copy_values.ensures ∙ values-over c.args.sheet.now _ (accepted (goal.at.returns-in-Parts c).In-Parts) c.args.values.now;
     }

@@ -14,13 +14,13 @@ stored c = sheet-stored c.args.lengths.now c.args.letters.now c.args.tags.now c.
 pub returns-then-out-needed : goal.returns-then-out-needed
 returns-then-out-needed c = let n = (sheet-long c.args.lengths.now c.args.letters.now c.args.tags.now c.args.values.now c.requires.lengths_value.0 c.requires.lengths_value.1) in
     record {
-        value = too_few _ c.args.out.now _ n (omega (arith, c.if-out-needed.true));
-        out_after = untouched _ c.args.out.now _ n (omega (arith, c.if-out-needed.true));
+      value = too_few _ c.args.out.now _ n (omega (arith, c.if-out-needed.true));
+      out_after = untouched _ c.args.out.now _ n (omega (arith, c.if-out-needed.true));
     }
 
 pub returns : goal.returns
 returns c = let n = (sheet-long c.args.lengths.now c.args.letters.now c.args.tags.now c.args.values.now c.requires.lengths_value.0 c.requires.lengths_value.1) in
     record {
-        value = enough _ c.args.out.now _ n (omega (arith, c.if-out-needed.false));
-        out_after = stored (goal.at.returns c).After-put_words ∙ filled _ c.args.out.now _ n (omega (arith, c.if-out-needed.false));
+      value = enough _ c.args.out.now _ n (omega (arith, c.if-out-needed.false));
+      out_after = stored (goal.at.returns c).After-put_words ∙ filled _ c.args.out.now _ n (omega (arith, c.if-out-needed.false));
     }

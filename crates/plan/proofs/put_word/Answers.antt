@@ -11,13 +11,13 @@ use Rattle.plan.proofs.put_word.Goals as goal
 pub returns-then-at-words : goal.returns-then-at-words
 returns-then-at-words c =
     record {
-        words_after = refl;
-        words_len_unchanged = simp length-set;
+      words_after = refl;
+      words_len_unchanged = simp length-set;
     }
 
 pub returns-else-at-words : goal.returns-else-at-words
 returns-else-at-words c =
     record {
-        words_after = sym (set_out c.args.words.now c.args.at c.args.word (omega (arith, c.if-at-words.false)));
-        words_len_unchanged = refl;
+      words_after = sym (set_out c.args.words.now c.args.at c.args.word (omega (arith, c.if-at-words.false)));
+      words_len_unchanged = refl;
     }

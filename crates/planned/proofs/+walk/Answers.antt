@@ -11,10 +11,10 @@ expr-returns-then-tags-at t c = λ W s. no_part c.args.tags.now c.args.values.no
 pub expr-opening-o-requires : goal.expr-opening-o-requires
 expr-opening-o-requires t c =
     record {
-        values_len = c.requires.values_len;
-        table_value = c.requires.table_value;
-        at_in_bounds = omega (arith, c.if-tags-at.false);
-        nodes_bound = c.requires.nodes_bound.0;
+      values_len = c.requires.values_len;
+      table_value = c.requires.table_value;
+      at_in_bounds = omega (arith, c.if-tags-at.false);
+      nodes_bound = c.requires.nodes_bound.0;
     }
 
 pub expr-returns-then-o-eq0 : goal.expr-returns-then-o-eq0
@@ -29,8 +29,8 @@ expr-returns-then-o-eq0-2 t c = λ W s. walked-bare c.args.tags.now c.args.value
 pub expr-put_defaults-end-requires : goal.expr-put_defaults-end-requires
 expr-put_defaults-end-requires t c =
     record {
-        values_len = c.requires.values_len;
-        types_bound = c.requires.nodes_bound.1;
+      values_len = c.requires.values_len;
+      types_bound = c.requires.nodes_bound.1;
     }
 
 pub expr-returns : goal.expr-returns

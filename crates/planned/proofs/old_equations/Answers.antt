@@ -14,9 +14,9 @@ loop-left-init c = λ W ids lay cs end g i free n h. left-all _ c.args.tags.now 
 pub one_equation-r-requires : goal.one_equation-r-requires
 one_equation-r-requires c =
     record {
-        values_len = c.requires.values_len;
-        table_value = c.parts_table-table.ensures;
-        nodes_bound = c.requires.nodes_bound;
+      values_len = c.requires.values_len;
+      table_value = c.parts_table-table.ensures;
+      nodes_bound = c.requires.nodes_bound;
     }
 
 pub loop-left-preserved : goal.loop-left-preserved

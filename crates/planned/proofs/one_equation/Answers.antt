@@ -15,8 +15,8 @@ use Rattle.planned.proofs.one_equation.Goals as goal
 pub put_behind-next-requires : goal.put_behind-next-requires
 put_behind-next-requires c =
     record {
-        values_len = c.requires.values_len;
-        types_bound = c.requires.nodes_bound.1;
+      values_len = c.requires.values_len;
+      types_bound = c.requires.nodes_bound.1;
     }
 
 pub returns : goal.returns

@@ -10,13 +10,13 @@ use Rattle.planned.proofs.part_end.Goals as goal
 pub returns-then-end-at : goal.returns-then-end-at
 returns-then-end-at c =
     record {
-        lower_bound = omega arith;
-        by_index = λ q o. absurd (omega (arith, c.past-end.ensures q o, owed-on o, c.if-end-at.true));
+      lower_bound = omega arith;
+      by_index = λ q o. absurd (omega (arith, c.past-end.ensures q o, owed-on o, c.if-end-at.true));
     }
 
 pub returns-else-end-at : goal.returns-else-end-at
 returns-else-end-at c =
     record {
-        lower_bound = omega (arith, c.if-end-at.false);
-        by_index = c.past-end.ensures;
+      lower_bound = omega (arith, c.if-end-at.false);
+      by_index = c.past-end.ensures;
     }

@@ -15,9 +15,9 @@ loop-j-init c = λ W hs ids n g h i. left-all _ c.args.tags.now c.args.values.no
 pub put_equation-to-requires : goal.put_equation-to-requires
 put_equation-to-requires c =
     record {
-        values_len = c.requires.values_len;
-        table_value = c.parts_table-table.ensures;
-        nodes_bound = c.requires.nodes_bound;
+      values_len = c.requires.values_len;
+      table_value = c.parts_table-table.ensures;
+      nodes_bound = c.requires.nodes_bound;
     }
 
 pub loop-j-preserved : goal.loop-j-preserved

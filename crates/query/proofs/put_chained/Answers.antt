@@ -10,8 +10,8 @@ put_told-requires c = c.requires
 pub returns : goal.returns
 returns c =
     record {
-        upper_bound = c.put_told.ensures.upper_bound;
-        put_text = λ n z a x y.
-      let w = ample-room _ _ _ a _ _ refl z.tells.room in
-      c.put_told.ensures.put_text n z (c.chain_rows-m.ensures w.0 w.1 (few _ w.2)) x y w.2;
+      upper_bound = c.put_told.ensures.upper_bound;
+      put_text = λ n z a x y.
+          let w = ample-room _ _ _ a _ _ refl z.tells.room in
+          c.put_told.ensures.put_text n z (c.chain_rows-m.ensures w.0 w.1 (few _ w.2)) x y w.2;
     }

@@ -19,6 +19,6 @@ shape_of-list c = faults-length _ c.args.table.now _ _ _ _ c.loop-i.invariant.2
 pub returns : goal.returns
 returns c = let w = faults-all _ c.args.table.now _ _ _ _ c.loop-i.invariant.2 _ c.loop-i.invariant.0 c.loop-i-test.false in
     record {
-        value = w.count;
-        list_after = w.written;
+      value = w.count;
+      list_after = w.written;
     }

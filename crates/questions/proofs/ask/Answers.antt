@@ -15,8 +15,8 @@ slice_bounds-ask_read-end-in-Sheet c = values-long c.read-answer.ensures refl
 pub ask_read-requires : goal.ask_read-requires
 ask_read-requires c =
     record {
-        accepted = accepted-sized c.read-answer.ensures _ c.in-Sheet.is;
-        in_bounds = (omega (arith, tags-long c.read-answer.ensures refl), omega (arith, values-long c.read-answer.ensures refl));
+      accepted = accepted-sized c.read-answer.ensures _ c.in-Sheet.is;
+      in_bounds = (omega (arith, tags-long c.read-answer.ensures refl), omega (arith, values-long c.read-answer.ensures refl));
     }
 
 pub returns-in-Refused : goal.returns-in-Refused

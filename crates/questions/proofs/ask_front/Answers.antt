@@ -31,8 +31,8 @@ ask_standing-requires c = let b = c.args.sheet.now in
     let s = c.args.sizes in
     let a = c.requires.accepted in
     record {
-        values_len = front b s a c.args.values.now c.requires.in_bounds.1 ∙ sym (front b s a c.args.tags.now c.requires.in_bounds.0);
-        given_value = (all-letters b s a, few b s a, few-letters b s a);
+      values_len = front b s a c.args.values.now c.requires.in_bounds.1 ∙ sym (front b s a c.args.tags.now c.requires.in_bounds.0);
+      given_value = (all-letters b s a, few b s a, few-letters b s a);
     }
 
 pub returns : goal.returns

@@ -7,7 +7,7 @@ use borrow.Author.Tests.{not-true}
 use Rattle.questions.proofs.ask_read.Goals as goal
 
 pub front_uses_clocks-requires : goal.front_uses_clocks-requires
-front_uses_clocks-requires c = 
+front_uses_clocks-requires c =
     let f = fit c.args.sheet.now c.args.sizes c.requires.accepted in
     (omega (arith, f), omega (arith, f, c.requires.in_bounds.0), omega (arith, f, c.requires.in_bounds.1))
 

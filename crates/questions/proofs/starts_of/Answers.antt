@@ -12,8 +12,8 @@ slice_bounds-fill_starts-end c = omega (arith, fit c.args.sheet.now c.args.sizes
 pub fill_starts-requires : goal.fill_starts-requires
 fill_starts-requires c =
     record {
-        lengths_in_bounds = omega (arith, few c.args.sheet.now c.args.sizes c.requires);
-        lengths_bound = omega (arith, summed c.args.sheet.now c.args.sizes c.requires);
+      lengths_in_bounds = omega (arith, few c.args.sheet.now c.args.sizes c.requires);
+      lengths_bound = omega (arith, summed c.args.sheet.now c.args.sizes c.requires);
     }
 
 pub returns : goal.returns

@@ -6,8 +6,8 @@ use Rattle.refusals.proofs.put_later_reason.Goals as goal
 pub put_question_reason-requires : goal.put_question_reason-requires
 put_question_reason-requires c =
     record {
-        out_len_bound = c.requires.out_len_bound;
-        bound = question c.args.r c.requires.bound c.in_default.not-Token c.in_default.not-Limit c.in_default.not-Cycle;
+      out_len_bound = c.requires.out_len_bound;
+      bound = question c.args.r c.requires.bound c.in_default.not-Token c.in_default.not-Limit c.in_default.not-Cycle;
     }
 
 pub returns-in-Token : goal.returns-in-Token

@@ -6,8 +6,8 @@ use Rattle.refusals.proofs.put_why.Goals as goal
 pub put_later_reason-requires : goal.put_later_reason-requires
 put_later_reason-requires c =
     record {
-        out_len_bound = c.requires;
-        bound = later c.args.r c.in_default.not-Short c.in_default.not-Size c.in_default.not-Length c.in_default.not-Name;
+      out_len_bound = c.requires;
+      bound = later c.args.r c.in_default.not-Short c.in_default.not-Size c.in_default.not-Length c.in_default.not-Name;
     }
 
 pub returns-in-Short : goal.returns-in-Short

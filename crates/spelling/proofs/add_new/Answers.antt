@@ -16,8 +16,8 @@ slice_bounds-add_name-end c =
 pub add_name-requires : goal.add_name-requires
 add_name-requires c =
     record {
-        sound = c.requires;
-        name_len_bound = new-short (stem_of c.args.stem) c.args.number refl c.put_new_name-n.ensures;
+      sound = c.requires;
+      name_len_bound = new-short (stem_of c.args.stem) c.args.number refl c.put_new_name-n.ensures;
     }
 
 pub returns : goal.returns

@@ -9,8 +9,8 @@ use Rattle.typing.proofs.clear.Goals as goal
 pub returns-then-types-n : goal.returns-then-types-n
 returns-then-types-n c =
     record {
-        types_len_unchanged = refl;
-        x_after = λ k. absurd (omega arith);
+      types_len_unchanged = refl;
+      x_after = λ k. absurd (omega arith);
     }
 
 pub loop-i-init : goal.loop-i-init
@@ -25,6 +25,6 @@ shape_of-types c = c.loop-i.invariant.1
 pub returns : goal.returns
 returns c =
     record {
-        types_len_unchanged = c.loop-i.invariant.1;
-        x_after = λ k x u. c.loop-i.invariant.2 x (omega arith);
+      types_len_unchanged = c.loop-i.invariant.1;
+      x_after = λ k x u. c.loop-i.invariant.2 x (omega arith);
     }

@@ -10,6 +10,6 @@ use Rattle.typing.proofs.put_word.Goals as goal
 pub returns-else-i-types : goal.returns-else-i-types
 returns-else-i-types c =
     record {
-        types_len_unchanged = refl;
-        types_after = sym (set_out c.args.types.now c.args.x c.args.word (omega (arith, c.if-i-types.false)));
+      types_len_unchanged = refl;
+      types_after = sym (set_out c.args.types.now c.args.x c.args.word (omega (arith, c.if-i-types.false)));
     }

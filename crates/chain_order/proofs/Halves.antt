@@ -3,17 +3,17 @@
 use mathlib.Core.Path.{◌≡◌, refl, sym, ◌∙◌, ap}
 use mathlib.Core.List.{List}
 use mathlib.Core.Bool.{Bool, true, false}
-use Prim.Native.Nat.{ℕ, zero, suc, ◌+◌, ◌-◌, ◌≤◌, ◌<◌, Ordering}
+use Prim.Native.Nat.{ℕ, zero, suc, ◌+◌, ◌≤◌, ◌<◌, Ordering}
 use native.Mathlib.Omega.{arith}
 use native.Mathlib.Numerals.{add-one}
 use lib.ListN.{get_or}
 use lib.Dec.{eqb, ltb}
 use borrow.Author.Tests.{eqb-true, eqb-false, ltb-true, ltb-false}
 use Rattle.definitions.specs.Lists.{Letters}
-use Rattle.definitions.specs.Clock.{Clock, chain_order, insert}
+use Rattle.definitions.specs.Clock.{Clock, chain_order}
 use Rattle.chain_order.specs.declared.Order.{Order}
 use Rattle.chain_order.specs.declared.Place.{Place}
-use Rattle.chain_order.specs.Order.{order_of, row_of, picked, InOrder, Sought}
+use Rattle.chain_order.specs.Order.{order_of, row_of, InOrder, Sought}
 use Rattle.chain_order.proofs.Laws.{Gone, gone-none, gone-more, sought-end, sought-less, sought-same}
 use Rattle.chain_order.proofs.Total.{chain-total}
 

@@ -12,11 +12,10 @@ use lib.Seq.{drop-cons, get_or-set_same, get_or-set_other}
 use lib.Dec.{eqb, ltb}
 use borrow.Author.Tests.{eqb-true, eqb-false, ltb-true, ltb-false}
 use Rattle.definitions.specs.declared.Condition.{Condition}
-use Rattle.definitions.specs.declared.Test.{Test}
 use Rattle.definitions.specs.Lists.{Letters, sum}
 use Rattle.definitions.specs.Bytes.{cut}
 use Rattle.definitions.specs.Output.{letters_of}
-use Rattle.definitions.specs.Clock.{Clock, base, ◌↓◌, conditions, and_then, lexical, condition_order, test_order, chain_order, insert, in_chain_order}
+use Rattle.definitions.specs.Clock.{Clock, conditions, and_then, lexical, condition_order, chain_order, insert, in_chain_order}
 use Rattle.clock_tables.specs.Value.{at, clock_at}
 use Rattle.clock_tables.specs.Flat.{condition_at, conditions_from}
 use Rattle.clock_tables.proofs.FlatLaws.{at_from}

@@ -7,12 +7,11 @@ use Prim.Native.Nat.{ℕ, zero, suc, ◌+◌, ◌-◌, ◌≤◌, ◌<◌}
 use native.Mathlib.Omega.{arith}
 use native.Mathlib.Nat.{add-zero}
 use native.Mathlib.Numerals.{add-one}
-use lib.ListN.{length, set, get_or, take, drop}
+use lib.ListN.{length, get_or, take, drop}
 use lib.Seq.{sets, sets-eq, take-append_seam}
 use lib.Dec.{ltb, leb}
 use borrow.Author.Tests.{lt-ltb, le-ltb, ltb-true, ltb-false, leb-true, leb-false}
 use Rattle.definitions.specs.declared.Token.{Token}
-use Rattle.definitions.specs.Lists.{choose}
 use Rattle.definitions.specs.Tokens.{TagValue, tag_value, code_of, tag_of, value_of}
 use Rattle.definitions.specs.Bytes.{tokens}
 use Rattle.emit.specs.Out.{Out, out, put, puts, emits}

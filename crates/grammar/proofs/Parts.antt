@@ -13,7 +13,7 @@ use Rattle.definitions.specs.declared.DefinitionToken.{DefinitionToken}
 use Rattle.definitions.specs.Lists.{choose}
 use Rattle.definitions.specs.Tokens.{TagValue, words, definition_token_of}
 use Rattle.definitions.specs.Reading.{Got, got, rejected, Reader, after, token, limited, times}
-use Rattle.definitions.specs.Grammar.{tagged, counted, count, name, ty, kind_at, declaration, declarations, definition, type_def, expr, equation, probe, node, sheet, most_counted}
+use Rattle.definitions.specs.Grammar.{tagged, counted, count, name, ty, kind_at, declaration, declarations, definition, type_def, expr, equation, probe, node, sheet}
 use Rattle.grammar.specs.declared.Read.{Read}
 use Rattle.grammar.specs.declared.Counted.{Counted}
 use Rattle.grammar.specs.declared.DefinitionHead.{DefinitionHead}

@@ -2,7 +2,7 @@
 use Rattle.std.specs.Prelude.{ℕ, ◌-◌, List, length}
 use Rattle.definitions.specs.Tree.{Declared, TypeDef, Equation, Probe, Node}
 use Rattle.definitions.specs.Reading.{Reader, ◌>>=◌, times}
-use Rattle.definitions.specs.Grammar.{count, counted, name, declaration, declarations, type_def, equation, probe, node, most_types, most_nodes, most_counted, most_declared}
+use Rattle.definitions.specs.Grammar.{counted, name, declaration, declarations, type_def, equation, probe, node, most_types, most_nodes, most_counted, most_declared}
 use Rattle.grammar.specs.declared.Item.{Item}
 
 -- what an item of a list is

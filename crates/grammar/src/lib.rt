@@ -462,7 +462,7 @@ pub fn value_of(t: Token) -> u32
 }
 
 // ---- The tokens of a sheet, one at a place: document 01, "A reader borrows the sheet's tags and values".
-// No function over a struct that holds references is covered, so `new`, `next` and `token_at` are proved by hand; the work is `step_at`'s.
+// The work is `step_at`'s.
 
 // The sheet's two arrays, and a place in both.
 #[derive(Clone, Copy)]
@@ -506,7 +506,7 @@ fn next<'a, 'b>(r: Reader<'a, 'b>) -> Step
     step_at(r.tags, r.values, r.at)
 }
 
-// A reader is made and asked: whoever calls this needs no walk by hand.
+// A reader is made and asked.
 fn token_at(tags: &[u8], values: &[u32], at: usize) -> Step
     requires { length values.now ≡ length tags.now }
     ensures { result ≡ step_at (tokens tags.now values.now) at }

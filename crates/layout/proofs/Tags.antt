@@ -1,7 +1,7 @@
 -- What a token that was read says: how many parts follow it, and its mark: a when or a merge, or a name that passes a test. Assumes nothing.
 use mathlib.Core.Path.{◌≡◌, ◌∙◌, ap, subst}
 use mathlib.Core.Option.{Option, some, none}
-use mathlib.Core.Bool.{Bool, true, false}
+use mathlib.Core.Bool.{Bool}
 use Prim.Native.Nat.{ℕ, ◌<◌}
 use lib.Dec.{eqb, ltb}
 use borrow.Author.Tests.{ltb-true}

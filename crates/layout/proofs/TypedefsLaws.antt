@@ -3,7 +3,7 @@
 use mathlib.Core.Path.{◌≡◌, refl, sym, ◌∙◌, ap}
 use mathlib.Core.List.{List, [], ◌∷◌}
 use mathlib.Core.Bool.{Bool, true, false}
-use mathlib.Core.Option.{Option, none, some}
+use mathlib.Core.Option.{none, some}
 use Prim.Native.Nat.{ℕ, zero, suc, ◌+◌, ◌-◌, ◌≤◌, ◌<◌}
 use native.Mathlib.Omega.{arith}
 use native.Mathlib.Numerals.{add-one}
@@ -17,7 +17,7 @@ use Rattle.definitions.specs.declared.Primitive.{Primitive}
 use Rattle.definitions.specs.declared.TypeToken.{TypeToken}
 use Rattle.definitions.specs.Lists.{choose, find, place_by}
 use Rattle.definitions.specs.Tokens.{TagValue, given, type_token_of, definition_token_of}
-use Rattle.definitions.specs.Tree.{Ty, Declared, Body, TypeDef}
+use Rattle.definitions.specs.Tree.{Ty, Declared, TypeDef}
 use Rattle.definitions.specs.Reading.{Got, got, rejected, Reader, token, times}
 use Rattle.definitions.specs.Grammar.{counted, count, name, tagged, ty, declaration, definition, type_def}
 use Rattle.definitions.specs.Bytes.{tokens}
@@ -26,7 +26,7 @@ use Rattle.grammar.specs.declared.Counted.{Counted}
 use Rattle.grammar.specs.declared.DefinitionHead.{DefinitionHead}
 use Rattle.grammar.specs.declared.TypeHead.{TypeHead}
 use Rattle.grammar.specs.Outcome.{outcome, counts, type_head, definition_head}
-use Rattle.grammar.proofs.Laws.{next-got, refused, count-got, count-refused, type-head-got, type-head-refused, definition-head-got, definition-head-refused, after-got, wrap-got, times-length, tokens-length}
+use Rattle.grammar.proofs.Laws.{count-got, count-refused, type-head-got, type-head-refused, definition-head-got, definition-head-refused, after-got, wrap-got, times-length, tokens-length}
 use Rattle.grammar.proofs.Longer.{token-got}
 use Rattle.grammar.proofs.Got.{definition-got, enum-got, record-got, alias-got, token-value, tagged-value, type-got, primitive-got, named-got, element-got, declaration-got, times-cons, no, same}
 use Rattle.layout.specs.declared.Defined.{Defined}

@@ -1,6 +1,6 @@
 -- Names in buckets: a name that repeats an earlier one is in its bucket.
 -- Assumes nothing.
-use Prim.Native.Nat.{ℕ, zero, suc, ◌+◌, ◌-◌, ◌*◌, ◌/◌, ◌%◌, ◌≤◌, ◌<◌}
+use Prim.Native.Nat.{ℕ, zero, suc, ◌+◌, ◌-◌, ◌*◌, ◌≤◌, ◌<◌}
 use mathlib.Core.Path.{◌≡◌, refl, sym, ap, ◌∙◌}
 use mathlib.Core.Bool.{Bool, true, false, ◌||◌}
 use mathlib.Core.List.{List, [], ◌∷◌}
@@ -10,10 +10,10 @@ use lib.ListN.{length, get_or, set, take, drop, replicate, length-set, length-re
 use lib.Seq.{drop-cons, get_or-set_same, get_or-set_other}
 use lib.Dec.{eqb}
 use borrow.Author.Tests.{eqb-true, eqb-false, eq-eqb, ne_eqb}
-use Rattle.definitions.specs.Lists.{Letters, choose, any, same_letters, sum}
+use Rattle.definitions.specs.Lists.{Letters, choose, any, same_letters}
 use Rattle.parts.specs.Places.{start, name_at, before}
 use Rattle.parts.specs.Buckets.{mixed, hashed, bucket_of, bucket_at, last_in, Chained, BucketHeads}
-use Rattle.parts.proofs.NamesLaws.{start-next, before_last, part-name}
+use Rattle.parts.proofs.NamesLaws.{before_last, part-name}
 
 -- ---- the hash of letters
 pub hashed-step : (h : ℕ) (l : List ℕ) (i : ℕ) → i < length l → hashed h (drop i l) ≡ hashed (mixed h (get_or l i 0)) (drop (i + 1) l)

@@ -12,7 +12,7 @@ use Rattle.definitions.specs.declared.Refusal.{Refusal}
 use Rattle.definitions.specs.declared.FaultRecord.{FaultRecord}
 use Rattle.definitions.specs.Lists.{sum, over}
 use Rattle.definitions.specs.Refusals.{Answer, accepted, refused, faulty, told, must, ◌>>=◌}
-use Rattle.definitions.specs.Bytes.{Parts, size, M, L, T, lengths, letters, tags, values, tokens, four_byte_words, cut, bad_name, parts}
+use Rattle.definitions.specs.Bytes.{Parts, size, M, L, T, lengths, letters, tags, values, four_byte_words, cut, bad_name, parts}
 use Rattle.parts.specs.declared.Sizes.{Sizes}
 use Rattle.parts.specs.declared.PartsAnswer.{PartsAnswer}
 use Rattle.parts.specs.Answers.{word_at, sizes_of, parts_of, answered, told_of, parts_answer, tags_after, values_after, SizedParts, Accepted}

@@ -1,4 +1,3 @@
-use Prim.Native.Nat.{◌-◌}
 use mathlib.Core.Path.{refl, sym}
 use native.Mathlib.Omega.{arith}
 use Rattle.chain_order.proofs.Laws.{letters-end, letters-less, letters-more, letter-less, letter-more, letter-same}

@@ -1,4 +1,3 @@
-use Prim.Native.Nat.{◌-◌}
 use mathlib.Core.Path.{sym, ◌∙◌}
 use Rattle.definitions.specs.Clock.{test_order}
 use Rattle.chain_order.proofs.Laws.{then_same, then-other}

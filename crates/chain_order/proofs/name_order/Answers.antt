@@ -1,4 +1,3 @@
-use Prim.Native.Nat.{◌-◌}
 use mathlib.Core.Path.{sym, ◌∙◌}
 use Rattle.spelling.specs.Places.{letters_at}
 use Rattle.chain_order.proofs.Laws.{letters-same, letters-both}

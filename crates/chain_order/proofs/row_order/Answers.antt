@@ -1,5 +1,5 @@
 -- `chain_order::row_order` meets its contract. The conditions before i are alike. Assumes nothing.
-use Prim.Native.Nat.{◌-◌, ◌+◌, ◌*◌}
+use Prim.Native.Nat.{◌+◌, ◌*◌}
 use mathlib.Core.Path.{sym, ap, ◌∙◌}
 use native.Mathlib.Omega.{arith}
 use Rattle.clock_tables.specs.Flat.{depth_in, conditions_from}

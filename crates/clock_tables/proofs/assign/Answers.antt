@@ -1,4 +1,3 @@
-use Prim.Native.Nat.{◌-◌}
 use Rattle.clock_tables.specs.Value.{value_of}
 use Rattle.clock_tables.proofs.EnvironmentLaws.{assign-out, assign-in}
 use Rattle.clock_tables.proofs.assign.Goals as goal

@@ -1,4 +1,3 @@
-use Prim.Native.Nat.{◌-◌}
 use mathlib.Core.Path.{refl}
 use Rattle.clock_tables.proofs.ClockLaws.{base-at}
 use Rattle.clock_tables.proofs.base.Goals as goal

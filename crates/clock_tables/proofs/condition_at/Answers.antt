@@ -1,4 +1,3 @@
-use Prim.Native.Nat.{◌-◌}
 use mathlib.Core.Path.{sym}
 use Rattle.clock_tables.proofs.FlatLaws.{condition-past}
 use Rattle.clock_tables.proofs.condition_at.Goals as goal

@@ -1,6 +1,4 @@
-use Prim.Native.Nat.{◌-◌}
 use native.Mathlib.Omega.{arith}
-use Rattle.definitions.specs.Clock.{depth}
 use Rattle.clock_tables.specs.Value.{capped}
 use Rattle.clock_tables.proofs.ClockLaws.{depth-at}
 use Rattle.clock_tables.proofs.depth_of.Goals as goal

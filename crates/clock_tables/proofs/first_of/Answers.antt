@@ -1,4 +1,3 @@
-use Prim.Native.Nat.{◌-◌}
 use Rattle.clock_tables.proofs.first_of.Goals as goal
 
 pub returns-in-Free : goal.returns-in-Free

@@ -1,9 +1,8 @@
-use Prim.Native.Nat.{◌<◌, ◌-◌}
+use Prim.Native.Nat.{◌<◌}
 use mathlib.Core.Path.{◌≡◌, refl, sym, ◌∙◌}
 use native.Mathlib.Omega.{arith}
 use borrow.Author.Rules.{rules}
-use lib.ListN.{length, length-map, length-set}
-use Rattle.clock_tables.specs.Value.{at}
+use lib.ListN.{length, length-set}
 use Rattle.clock_tables.proofs.ClockLaws.{base-at}
 use Rattle.clock_tables.proofs.FlatLaws.{clock-past, load-more, loaded}
 use Rattle.clock_tables.proofs.load.Goals as goal

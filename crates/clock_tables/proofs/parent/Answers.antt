@@ -1,7 +1,5 @@
-use Prim.Native.Nat.{◌-◌}
 use mathlib.Core.Path.{◌≡◌}
 use native.Mathlib.Omega.{arith}
-use Rattle.definitions.specs.Clock.{depth}
 use Rattle.clock_tables.specs.Value.{capped}
 use Rattle.clock_tables.proofs.ClockLaws.{capped-less, base-at, last-at}
 use Rattle.clock_tables.proofs.parent.Goals as goal

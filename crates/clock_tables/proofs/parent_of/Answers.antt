@@ -1,4 +1,3 @@
-use Prim.Native.Nat.{◌-◌}
 use mathlib.Core.Path.{sym, ◌∙◌}
 use Rattle.clock_tables.specs.Value.{value_of}
 use Rattle.clock_tables.proofs.ClockLaws.{parent-none, parent-some}

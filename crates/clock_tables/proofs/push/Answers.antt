@@ -1,9 +1,8 @@
-use Prim.Native.Nat.{◌≤◌, ◌-◌}
+use Prim.Native.Nat.{◌≤◌}
 use mathlib.Core.Path.{◌≡◌, ◌∙◌}
 use native.Mathlib.Omega.{arith}
 use borrow.Author.Tests.{le-ltb}
-use lib.ListN.{length, length-map}
-use Rattle.definitions.specs.Clock.{depth}
+use lib.ListN.{length}
 use Rattle.clock_tables.specs.Value.{capped}
 use Rattle.clock_tables.proofs.ClockLaws.{depth-at, value-push}
 use Rattle.clock_tables.proofs.push.Goals as goal

@@ -1,7 +1,5 @@
-use Prim.Native.Nat.{◌-◌}
 use mathlib.Core.Path.{◌≡◌, sym, ◌∙◌}
 use native.Mathlib.Omega.{arith}
-use Rattle.definitions.specs.Clock.{depth}
 use Rattle.clock_tables.specs.Value.{capped, value_of}
 use Rattle.clock_tables.proofs.ClockLaws.{other-depth, same_base, same-last, other_last}
 use Rattle.clock_tables.proofs.same_clock.Goals as goal

@@ -1,7 +1,6 @@
 -- `emit::emit_copy` meets its contract: what is left to copy makes the whole of what is written so far. The measure is the number left.
 -- Assumes nothing.
 use mathlib.Core.Path.{refl}
-use Prim.Native.Nat.{◌-◌}
 use native.Mathlib.Omega.{arith}
 use Rattle.emit.proofs.Laws.{copied_more, copied_all}
 use Rattle.emit.proofs.emit_copy.Goals as goal

@@ -2,7 +2,6 @@
 -- Assumes nothing.
 use mathlib.Core.Path.{sym, ◌∙◌, ap}
 use native.Mathlib.Omega.{arith}
-use Prim.Native.Nat.{◌-◌}
 use Rattle.definitions.specs.Lists.{any}
 use Rattle.definitions.specs.InferClocks.{is_too_deep}
 use Rattle.findings.proofs.Laws.{deep-here, deep-later, no-deep, all-rows}

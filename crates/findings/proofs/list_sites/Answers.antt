@@ -2,7 +2,6 @@
 -- Assumes nothing.
 use mathlib.Core.Path.{refl, ◌∙◌}
 use native.Mathlib.Omega.{arith}
-use Prim.Native.Nat.{◌-◌}
 use Rattle.findings.proofs.Laws.{sites-same, sites-base, sites-more, listed-none, listed_same, listed_more, listed-all, base-of}
 use Rattle.findings.proofs.list_sites.Goals as goal
 

@@ -2,7 +2,6 @@
 -- Assumes nothing.
 use mathlib.Core.Path.{sym, ◌∙◌, ap}
 use native.Mathlib.Omega.{arith}
-use Prim.Native.Nat.{◌-◌}
 use lib.ListN.{get_or}
 use mathlib.Core.List.{List}
 use Rattle.definitions.specs.InferClocks.{Finding, clock_faults}

@@ -4,7 +4,6 @@ use native.Mathlib.Omega.{arith}
 use Rattle.grammar.proofs.Laws.{expr-stop, expr-deep, exprs-none, exprs-more, exprs-stop, fields-none, fields-more, fields-stop, fields-no-name}
 use Rattle.grammar.proofs.Shapes.{expr-follows, follow-wide, follow-operands, follow-other, items_more, items-stop, record-more, record-stop, cast-more, cast-stop, iteration-more, iteration-start, iteration-stop}
 use Rattle.grammar.proofs.Longer.{grown, count-grown, head-grown, exprs-kept, falls as falls-on, type-grows, name-grows}
-use Prim.Native.Nat.{◌-◌}
 use Rattle.grammar.proofs.+reading.Goals as goal
 
 pub read_cast-read_exprs-requires : goal.read_cast-read_exprs-requires

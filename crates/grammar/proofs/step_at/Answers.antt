@@ -5,7 +5,6 @@ use mathlib.Core.Option.{Option}
 use Rattle.definitions.specs.Tokens.{TagValue}
 use Rattle.grammar.specs.Step.{step_of}
 use Rattle.grammar.proofs.ReaderLaws.{tokens-at, tokens-end}
-use borrow.Author.Rules.{rules}
 use Rattle.grammar.proofs.step_at.Goals as goal
 
 -- TODO need gone: overflow-mul-t9

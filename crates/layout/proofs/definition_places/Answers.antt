@@ -1,7 +1,6 @@
 -- `layout::definition_places` meets its contract: the places so far are those of the first definitions. The measure is what is left of n.
 -- Assumes nothing.
 use mathlib.Core.Path.{refl, ◌∙◌}
-use Prim.Native.Nat.{◌-◌}
 use native.Mathlib.Omega.{arith}
 use lib.ListN.{length-set}
 use Rattle.definitions.specs.Grammar.{type_def}

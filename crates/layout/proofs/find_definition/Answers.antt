@@ -1,7 +1,6 @@
 -- `layout::find_definition` meets its contract: the first definition of the name is none of those passed. The measure is what is left of n.
 -- Assumes nothing.
 use mathlib.Core.Path.{sym, ◌∙◌}
-use Prim.Native.Nat.{◌-◌}
 use native.Mathlib.Omega.{arith}
 use Rattle.layout.proofs.TypedefsLaws.{first-here, first-later, first-none}
 use Rattle.layout.proofs.find_definition.Goals as goal

@@ -9,7 +9,6 @@ use Rattle.definitions.specs.Tree.{Node}
 use Rattle.definitions.specs.Reading.{got, times}
 use Rattle.definitions.specs.Grammar.{node}
 use Rattle.layout.proofs.TypedefsLaws.{place_at}
-use Rattle.layout.proofs.Laws.{places}
 use Rattle.layout.proofs.node_places.Given as goal
 
 abbrev pub invariant-loop-i : goal.invariant-loop-i

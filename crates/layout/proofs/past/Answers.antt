@@ -1,7 +1,6 @@
 -- `layout::past` meets its contract: what is owed from here ends where all of it does. The measure is what is left of the tokens.
 -- Assumes nothing.
 use mathlib.Core.Path.{refl}
-use Prim.Native.Nat.{◌-◌}
 use native.Mathlib.Omega.{arith}
 use Rattle.layout.proofs.Owed.{owed_none, owed-step, owed-few}
 use Rattle.layout.proofs.past.Goals as goal

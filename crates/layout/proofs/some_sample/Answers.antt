@@ -2,7 +2,6 @@
 -- Assumes nothing.
 use mathlib.Core.Path.{sym, ◌∙◌, ap}
 use mathlib.Core.Bool.{Bool}
-use Prim.Native.Nat.{◌-◌}
 use Rattle.definitions.specs.Tokens.{given}
 use Rattle.layout.specs.Marks.{sampling, there}
 use Rattle.layout.proofs.Marks.{sample-mark, marks-none, marks-found, marks-past, marks-beyond}

@@ -1,5 +1,4 @@
 -- `parts::bucket_of` meets its contract. The loop has mixed the first i letters into the hash. Assumes nothing.
-use Prim.Native.Nat.{◌-◌}
 use mathlib.Core.Path.{refl, sym, ◌∙◌}
 use native.Mathlib.Omega.{arith}
 use Rattle.parts.specs.Buckets.{bucket_of}

@@ -1,5 +1,4 @@
 -- `parts::copy_tags` meets its contract. The loop has copied the first k bytes. Assumes nothing.
-use Prim.Native.Nat.{◌-◌}
 use mathlib.Core.Path.{refl, ◌∙◌}
 use native.Mathlib.Omega.{arith}
 use Rattle.parts.proofs.Words.{tags-step, tags-all}

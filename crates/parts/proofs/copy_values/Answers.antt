@@ -1,5 +1,4 @@
 -- `parts::copy_values` meets its contract. The loop has copied the first k words. Assumes nothing.
-use Prim.Native.Nat.{◌-◌}
 use mathlib.Core.Path.{refl, ap, ◌∙◌}
 use native.Mathlib.Omega.{arith}
 use lib.ListN.{set}

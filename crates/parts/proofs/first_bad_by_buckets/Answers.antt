@@ -1,5 +1,5 @@
 -- `parts::first_bad_by_buckets` meets its contract. The loop has found the first i names good, and they are in the tables. Assumes nothing.
-use Prim.Native.Nat.{◌+◌, ◌-◌}
+use Prim.Native.Nat.{◌+◌}
 use mathlib.Core.Path.{refl, sym, ap, ◌∙◌}
 use mathlib.Core.Bool.{not}
 use native.Mathlib.Omega.{arith}

@@ -1,5 +1,4 @@
 -- `parts::first_bad_by_pairs` meets its contract. The loop has found the first i names good, and name i starts at `at`. Assumes nothing.
-use Prim.Native.Nat.{◌-◌}
 use mathlib.Core.Path.{refl, sym, ◌∙◌}
 use native.Mathlib.Omega.{arith}
 use Rattle.parts.specs.Places.{start}

@@ -1,5 +1,4 @@
 -- `parts::put_bytes` meets its contract. The loop has stored the first k bytes. Assumes nothing.
-use Prim.Native.Nat.{◌-◌}
 use mathlib.Core.Path.{refl, ◌∙◌}
 use native.Mathlib.Omega.{arith}
 use lib.ListN.{length-set}

@@ -1,5 +1,4 @@
 -- `parts::put_words` meets its contract. The loop has stored the first k words. Assumes nothing.
-use Prim.Native.Nat.{◌-◌}
 use mathlib.Core.Path.{refl, ◌∙◌}
 use native.Mathlib.Omega.{arith}
 use Rattle.parts.proofs.Stores.{words_step, words-all}

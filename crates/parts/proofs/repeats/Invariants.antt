@@ -1,5 +1,5 @@
 -- `parts::repeats` meets its contract. The loop has compared the names from j on, and name j starts at `to`. Assumes nothing.
-use Prim.Native.Nat.{◌≤◌, ◌-◌}
+use Prim.Native.Nat.{◌≤◌}
 use mathlib.Core.Path.{◌≡◌}
 use Rattle.definitions.specs.Lists.{any, same_letters}
 use Rattle.parts.specs.Places.{start, name_at, before}

@@ -1,5 +1,4 @@
 -- `parts::repeats_in_bucket` meets its contract. The names of the bucket from p on are compared. Assumes nothing.
-use Prim.Native.Nat.{◌-◌}
 use Rattle.parts.proofs.Buckets.{Left}
 use Rattle.parts.proofs.repeats_in_bucket.Given as goal
 

@@ -1,5 +1,4 @@
 -- `parts::same` meets its contract. The loop has compared the first i letters. Assumes nothing.
-use Prim.Native.Nat.{◌-◌}
 use mathlib.Core.Path.{refl, sym, ◌∙◌}
 use native.Mathlib.Omega.{arith}
 use Rattle.parts.proofs.NamesLaws.{same-long, same_step, same-no, same_end}

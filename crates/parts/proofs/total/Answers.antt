@@ -1,5 +1,4 @@
 -- `parts::total` meets its contract. The sum is of the lengths from i on. Assumes nothing.
-use Prim.Native.Nat.{◌-◌}
 use mathlib.Core.Path.{◌≡◌, ◌∙◌}
 use native.Mathlib.Omega.{arith}
 use lib.Seq.{drop-length}

@@ -1,8 +1,7 @@
 -- `parts::well_formed` meets its contract. The loop has looked at the first i letters. Assumes nothing.
-use Prim.Native.Nat.{◌-◌}
 use mathlib.Core.Path.{sym, ◌∙◌}
 use native.Mathlib.Omega.{arith}
-use Rattle.parts.proofs.NamesLaws.{is_part, wf-none, wf-long, wf-first, wf-rest, all-step, all-no, all_end}
+use Rattle.parts.proofs.NamesLaws.{wf-none, wf-long, wf-first, wf-rest, all-step, all-no, all_end}
 use Rattle.parts.proofs.well_formed.Goals as goal
 
 pub returns-then-name-eq0 : goal.returns-then-name-eq0

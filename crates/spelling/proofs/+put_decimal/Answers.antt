@@ -1,5 +1,4 @@
 -- `spelling::put_decimal` meets its contract. Assumes nothing.
-use Prim.Native.Nat.{◌-◌}
 use mathlib.Core.Path.{◌∙◌}
 use native.Mathlib.Omega.{arith}
 use Rattle.spelling.proofs.Writing.{put-length}

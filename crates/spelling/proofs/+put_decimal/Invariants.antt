@@ -1,5 +1,4 @@
 -- `spelling::put_decimal` meets its contract. Assumes nothing.
-use Prim.Native.Nat.{◌-◌}
 use Rattle.spelling.proofs.+put_decimal.Given as goal
 
 abbrev pub decreases-put_decimal : goal.decreases-put_decimal

@@ -1,5 +1,4 @@
 -- `spelling::add_last` meets its contract. Assumes nothing.
-use Prim.Native.Nat.{◌-◌}
 use Rattle.spelling.proofs.Table.{added, no-letters, no_name}
 use Rattle.spelling.proofs.add_last.Goals as goal
 

@@ -1,5 +1,4 @@
 -- `spelling::add_name` meets its contract. Assumes nothing.
-use Prim.Native.Nat.{◌-◌}
 use Rattle.spelling.specs.Table.{names_of}
 use Rattle.spelling.proofs.Table.{used-names, used-letters, used-within, stays-full, stays-there, goes_on}
 use Rattle.spelling.proofs.add_name.Goals as goal

@@ -1,5 +1,4 @@
 -- `spelling::add_new` meets its contract. Assumes nothing.
-use Prim.Native.Nat.{◌-◌}
 use mathlib.Core.Path.{refl}
 use Rattle.spelling.specs.Stems.{stem_of}
 use Rattle.spelling.proofs.Buffer.{new-fits, new-counts, new-reads, new-short}

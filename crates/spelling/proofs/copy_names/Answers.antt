@@ -1,5 +1,4 @@
 -- `spelling::copy_names` meets its contract. Assumes nothing.
-use Prim.Native.Nat.{◌-◌}
 use Rattle.spelling.proofs.Table.{copied}
 use Rattle.spelling.proofs.copy_names.Goals as goal
 

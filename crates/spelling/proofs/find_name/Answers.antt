@@ -1,5 +1,5 @@
 -- `spelling::find_name` meets its contract. The loop has looked at the first i names. Assumes nothing.
-use Prim.Native.Nat.{◌+◌, ◌-◌}
+use Prim.Native.Nat.{◌+◌}
 use mathlib.Core.Path.{◌≡◌, refl, sym, ap, ◌∙◌}
 use native.Mathlib.Omega.{arith}
 use Rattle.definitions.specs.Lists.{same_letters}

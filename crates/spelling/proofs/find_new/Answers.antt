@@ -1,5 +1,4 @@
 -- `spelling::find_new` meets its contract. Assumes nothing.
-use Prim.Native.Nat.{◌-◌}
 use mathlib.Core.Path.{refl, ap, ◌∙◌}
 use Rattle.definitions.specs.Bytes.{cut}
 use Rattle.definitions.specs.Output.{id_of}

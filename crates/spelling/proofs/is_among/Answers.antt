@@ -1,5 +1,4 @@
 -- `spelling::is_among` meets its contract. The loop has looked at the first i ids. Assumes nothing.
-use Prim.Native.Nat.{◌-◌}
 use mathlib.Core.Path.{◌≡◌, refl, sym, ◌∙◌}
 use native.Mathlib.Omega.{arith}
 use lib.ListN.{get_or}

@@ -1,5 +1,4 @@
 -- `spelling::next_free` meets its contract. The numbers passed are taken; so many trials are left. Assumes nothing.
-use Prim.Native.Nat.{◌-◌}
 use mathlib.Core.Path.{refl, sym, ◌∙◌}
 use mathlib.Core.List.{map}
 use native.Mathlib.Omega.{arith}

@@ -1,5 +1,5 @@
 -- `spelling::next_free` meets its contract. The numbers passed are taken; so many trials are left. Assumes nothing.
-use Prim.Native.Nat.{◌+◌, ◌-◌}
+use Prim.Native.Nat.{◌+◌}
 use mathlib.Core.Path.{◌≡◌}
 use mathlib.Core.List.{map}
 use lib.ListN.{length}

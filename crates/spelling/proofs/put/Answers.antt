@@ -1,6 +1,4 @@
 -- `spelling::put` meets its contract. Assumes nothing.
-use Rattle.definitions.specs.Lists.{bytes}
-use Prim.Native.Nat.{◌-◌}
 use mathlib.Core.Path.{sym}
 use Rattle.spelling.proofs.Writing.{over-set, over-past}
 use Rattle.spelling.proofs.put.Goals as goal

@@ -1,5 +1,4 @@
 -- `spelling::put_each` meets its contract. The loop has put the first i bytes. Assumes nothing.
-use Prim.Native.Nat.{◌-◌}
 use native.Mathlib.Omega.{arith}
 use Rattle.spelling.proofs.Writing.{put-none, put-length, put_step, put-end}
 use Rattle.spelling.proofs.put_each.Goals as goal

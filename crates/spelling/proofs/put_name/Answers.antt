@@ -1,5 +1,4 @@
 -- `spelling::put_name` meets its contract. Assumes nothing.
-use Prim.Native.Nat.{◌-◌}
 use Rattle.spelling.proofs.put_name.Goals as goal
 
 pub slice_bounds-put_all-start : goal.slice_bounds-put_all-start

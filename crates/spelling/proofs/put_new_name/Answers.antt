@@ -1,5 +1,4 @@
 -- `spelling::put_new_name` meets its contract. Assumes nothing.
-use Prim.Native.Nat.{◌-◌}
 use Rattle.spelling.proofs.Writing.{put_then}
 use Rattle.spelling.proofs.put_new_name.Goals as goal
 

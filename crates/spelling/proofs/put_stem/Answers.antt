@@ -1,6 +1,5 @@
 -- `spelling::put_stem` meets its contract. Assumes nothing.
 use Rattle.definitions.specs.Lists.{bytes}
-use Prim.Native.Nat.{◌-◌}
 use Rattle.spelling.proofs.put_stem.Goals as goal
 
 pub returns-in-Ck : goal.returns-in-Ck

@@ -1,5 +1,5 @@
 -- `spelling::span_of` meets its contract. Assumes nothing.
-use Prim.Native.Nat.{◌+◌, ◌-◌}
+use Prim.Native.Nat.{◌+◌}
 use mathlib.Core.Path.{◌≡◌, ap, ◌∙◌}
 use lib.ListN.{get_or}
 use Rattle.spelling.proofs.Places.{span-fit, span-down, span-long}

@@ -1,5 +1,4 @@
 -- `spelling::word_at` meets its contract. Assumes nothing.
-use Prim.Native.Nat.{◌-◌}
 use mathlib.Core.Path.{sym}
 use lib.ListN.{get_or-eq_default}
 use Rattle.spelling.proofs.word_at.Goals as goal

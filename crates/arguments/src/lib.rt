@@ -128,7 +128,8 @@ pub fn read_full<R: Read>(reader: &mut R, bytes: &mut [u8]) -> io::Result<usize>
 pub fn read_on<R: Read>(reader: &mut R, start: &[u8], sheet: &mut [u8]) -> io::Result<usize>
     requires { length start.now ≤ length sheet.old }
     ensures prefix_len { ReadsAtMost result sheet.new }
-    ensures lower_bound { IfOk result (λ n. (length start.now ≤ n) × (take (length start.now) sheet.new ≡ start.now)) }
+    ensures start_kept { take (length start.now) sheet.new ≡ start.now }
+    ensures lower_bound { IfOk result (λ n. length start.now ≤ n) }
     ensures consumed { IfOk result (λ n. Consumes (R.remaining reader.old) (R.remaining reader.new) (drop (length start.now) (take n sheet.new))) }
     ensures end { IfOk result (λ n. n < length sheet.new → IsAtEnd (R.remaining reader.new)) }
 {

@@ -146,7 +146,7 @@ fn rewrite_words(sheet: &[u8], out: &mut [u8], words: &mut [u32; NODE_WORDS]) ->
 // `demand-three` of crate `runs` says the same of these bytes for every type of values.
 pub fn rewrite(sheet: &[u8], out: &mut [u8], faults: &mut [FaultRecord]) -> RewriteAnswer
     ensures rewrite_given { RewriteGiven (rewrite_answer sheet.now (length out.old)) out.old faults.old out.new faults.new result }
-    ensures by_index { (n : ℕ) → result ≡ RewriteAnswer.Written n → DemandThreeAt sheet.now (take n out.new) }
+    ensures demand_three { (n : ℕ) → result ≡ RewriteAnswer.Written n → DemandThreeAt sheet.now (take n out.new) }
 {
     let mut words = no_node_said();
     let answer = rewrite_words(sheet, out, &mut words);
@@ -185,7 +185,7 @@ pub fn clocks(
 }
 
 // The answer of a rewriting, and a list of sixteen fault records, one for each node that a sheet may have.
-#[derive(Drop)]
+#[derive(Clone, Copy)]
 pub struct RewriteTold {
     pub answer: RewriteAnswer,
     pub list: [FaultRecord; MOST_NODES],
@@ -205,7 +205,7 @@ fn no_records() -> [FaultRecord; MOST_NODES]
 // Rewriting a sheet with a list of sixteen records, for callers that lend none.
 pub fn rewrite_told(sheet: &[u8], out: &mut [u8]) -> RewriteTold
     ensures rewrite_given { RewriteGiven (rewrite_answer sheet.now (length out.old)) out.old (replicate 16 blank) out.new result.list result.answer }
-    ensures by_index { (n : ℕ) → result.answer ≡ RewriteAnswer.Written n → DemandThreeAt sheet.now (take n out.new) }
+    ensures demand_three { (n : ℕ) → result.answer ≡ RewriteAnswer.Written n → DemandThreeAt sheet.now (take n out.new) }
 {
     let mut list = no_records();
     let answer = rewrite(sheet, out, &mut list);
@@ -216,7 +216,7 @@ pub fn rewrite_told(sheet: &[u8], out: &mut [u8]) -> RewriteTold
 }
 
 // The answer of a clock query, and a list of 256 fault records.
-#[derive(Drop)]
+#[derive(Clone, Copy)]
 pub struct ClocksTold {
     pub answer: ClocksAnswer,
     pub list: [FaultRecord; 256],

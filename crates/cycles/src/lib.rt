@@ -28,7 +28,7 @@ struct Marks {
 }
 
 // The table `go`, and a byte for each definition's name: 1 where it has a default as soon as all that it goes on to have one.
-#[derive(Drop)]
+#[derive(Clone, Copy)]
 pub struct Graph {
     pub go: [u8; TYPE_PAIRS],
     pub own: [u8; MOST_TYPES],

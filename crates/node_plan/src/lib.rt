@@ -246,7 +246,7 @@ fn equation(
     ensures flags_len_unchanged { length flags.new ≡ length flags.old }
     ensures firsts_len_unchanged { length firsts.new ≡ length firsts.old }
     ensures holds_len_unchanged { length holds.new ≡ length holds.old }
-    ensures walks_equation { WalksEquation (record { names = k.names; nodes = k.nodes; types = k.types; tags = tags.now; values = values.now; sites = sites.now; places = places.now; defs = defs.now; has = has.now; typed = types.now }) condact (record { plan = plan.entry.now; flags = flags.old; firsts = firsts.old; holds = holds.old; tally = tally.old }) (record { plan = plan.exit.now; flags = flags.new; firsts = firsts.new; holds = holds.new; tally = tally.new }) at result }
+    ensures walks_equation { WalksEquation (record { names = k.names; nodes = k.nodes; types = k.types; tags = tags.now; values = values.now; sites = sites.now; places = places.now; defs = defs.now; has = has.now; typed = types.now }) condact (record { plan = plan.old; flags = flags.old; firsts = firsts.old; holds = holds.old; tally = tally.old }) (record { plan = plan.new; flags = flags.new; firsts = firsts.new; holds = holds.new; tally = tally.new }) at result }
 {
     let left = layout::names_at(tags, values, k.names, at);
     let right = left.end;
@@ -299,7 +299,7 @@ fn plan_node(
     ensures flags_len_unchanged { length flags.new ≡ length flags.old }
     ensures firsts_len_unchanged { length firsts.new ≡ length firsts.old }
     ensures holds_len_unchanged { length holds.new ≡ length holds.old }
-    ensures walks_equations { WalksEquations (record { names = k.names; nodes = k.nodes; types = k.types; tags = tags.now; values = values.now; sites = sites.now; places = places.now; defs = defs.now; has = has.now; typed = types.now }) condact (record { plan = plan.entry.now; flags = flags.old; firsts = firsts.old; holds = holds.old; tally = tally.old }) (record { plan = plan.exit.now; flags = flags.new; firsts = firsts.new; holds = holds.new; tally = tally.new }) l.equations.count l.equations.at 0 result }
+    ensures walks_equations { WalksEquations (record { names = k.names; nodes = k.nodes; types = k.types; tags = tags.now; values = values.now; sites = sites.now; places = places.now; defs = defs.now; has = has.now; typed = types.now }) condact (record { plan = plan.old; flags = flags.old; firsts = firsts.old; holds = holds.old; tally = tally.old }) (record { plan = plan.new; flags = flags.new; firsts = firsts.new; holds = holds.new; tally = tally.new }) l.equations.count l.equations.at 0 result }
 {
     let e = l.equations;
     let n = e.count as usize;

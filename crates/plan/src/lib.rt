@@ -331,7 +331,7 @@ pub fn expr(
     ensures flags_len_unchanged { length flags.new ≡ length flags.old }
     ensures firsts_len_unchanged { length firsts.new ≡ length firsts.old }
     ensures holds_len_unchanged { length holds.new ≡ length holds.old }
-    ensures walks { Walks (record { names = k.names; nodes = k.nodes; types = k.types; tags = tags.now; values = values.now; sites = sites.now; places = places.now; defs = defs.now; has = has.now; typed = types.now }) (record { plan = plan.entry.now; flags = flags.old; firsts = firsts.old; holds = holds.old; tally = tally.old }) (record { plan = plan.exit.now; flags = flags.new; firsts = firsts.new; holds = holds.new; tally = tally.new }) at result }
+    ensures walks { Walks (record { names = k.names; nodes = k.nodes; types = k.types; tags = tags.now; values = values.now; sites = sites.now; places = places.now; defs = defs.now; has = has.now; typed = types.now }) (record { plan = plan.old; flags = flags.old; firsts = firsts.old; holds = holds.old; tally = tally.old }) (record { plan = plan.new; flags = flags.new; firsts = firsts.new; holds = holds.new; tally = tally.new }) at result }
 {
     if tags.len() <= at {
         return 0;
@@ -514,7 +514,7 @@ fn both(
     ensures flags_len_unchanged { length flags.new ≡ length flags.old }
     ensures firsts_len_unchanged { length firsts.new ≡ length firsts.old }
     ensures holds_len_unchanged { length holds.new ≡ length holds.old }
-    ensures walks_both { WalksBoth (record { names = k.names; nodes = k.nodes; types = k.types; tags = tags.now; values = values.now; sites = sites.now; places = places.now; defs = defs.now; has = has.now; typed = types.now }) (record { plan = plan.entry.now; flags = flags.old; firsts = firsts.old; holds = holds.old; tally = tally.old }) (record { plan = plan.exit.now; flags = flags.new; firsts = firsts.new; holds = holds.new; tally = tally.new }) at result }
+    ensures walks_both { WalksBoth (record { names = k.names; nodes = k.nodes; types = k.types; tags = tags.now; values = values.now; sites = sites.now; places = places.now; defs = defs.now; has = has.now; typed = types.now }) (record { plan = plan.old; flags = flags.old; firsts = firsts.old; holds = holds.old; tally = tally.old }) (record { plan = plan.new; flags = flags.new; firsts = firsts.new; holds = holds.new; tally = tally.new }) at result }
 {
     let next = expr(
         tags, values, table, sites, places, defs, has, types, plan, flags, firsts, holds, tally, k,
@@ -556,7 +556,7 @@ fn exprs(
     ensures flags_len_unchanged { length flags.new ≡ length flags.old }
     ensures firsts_len_unchanged { length firsts.new ≡ length firsts.old }
     ensures holds_len_unchanged { length holds.new ≡ length holds.old }
-    ensures walks_all { WalksAll (record { names = k.names; nodes = k.nodes; types = k.types; tags = tags.now; values = values.now; sites = sites.now; places = places.now; defs = defs.now; has = has.now; typed = types.now }) (record { plan = plan.entry.now; flags = flags.old; firsts = firsts.old; holds = holds.old; tally = tally.old }) (record { plan = plan.exit.now; flags = flags.new; firsts = firsts.new; holds = holds.new; tally = tally.new }) many at result }
+    ensures walks_all { WalksAll (record { names = k.names; nodes = k.nodes; types = k.types; tags = tags.now; values = values.now; sites = sites.now; places = places.now; defs = defs.now; has = has.now; typed = types.now }) (record { plan = plan.old; flags = flags.old; firsts = firsts.old; holds = holds.old; tally = tally.old }) (record { plan = plan.new; flags = flags.new; firsts = firsts.new; holds = holds.new; tally = tally.new }) many at result }
 {
     let mut left = many;
     let mut from = at;

@@ -374,7 +374,7 @@ pub fn ask(
 // clause is demand 3: every run of a rewritten plain node, kept to each name's clock, is a run of the source node.
 pub fn rewrite(sheet: &[u8], out: &mut [u8], faults: &mut [u32]) -> RewriteAnswer
     ensures rewrite_in_words { RewriteInWords (rewrite_answer sheet.now (length out.old)) out.old faults.old out.new faults.new result }
-    ensures by_index { (n : ℕ) → result ≡ RewriteAnswer.Written n → DemandThreeAt sheet.now (take n out.new) }
+    ensures demand_three { (n : ℕ) → result ≡ RewriteAnswer.Written n → DemandThreeAt sheet.now (take n out.new) }
 {
     let mut equations = [0u32; 1];
     let mut chains = [0u32; 1];

@@ -83,7 +83,6 @@ module _ (M N : ℕ) (small : M ≤ N) (ts : List TagValue) (wide : All (λ k. W
 
   -- definitions
   abbrev pub defined : TypeDef → List Token
-  unfolding definition_tokens
   defined d = definition_tokens d.name d.body
 
   definition-ends : (k : DefinitionToken) → ProperDefinition N k → Ends (ShapedDefinition N) defined (Token.Definition k ∷ []) (definition M k)

@@ -7,5 +7,5 @@ pub returns : goal.returns
 returns c =
     record {
       rewrite_given = rewrite-listed _ _ _ _ _ _ _ (c.rewrite_words-answer.ensures.0 c.no_node_said-words.ensures) c.put_node_said.ensures;
-      by_index = c.rewrite_words-answer.ensures.1;
+      demand_three = c.rewrite_words-answer.ensures.1;
     }

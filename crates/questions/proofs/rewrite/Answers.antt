@@ -10,5 +10,5 @@ returns c = let b = c.args.sheet.now in
     let g = subst⁻¹ (RewriteInWords _ _ _ _ _) c.rewrite_answer.ensures c.ask-reply.ensures in
     record {
       rewrite_in_words = g;
-      by_index = written-demand b _ _ _ _ _ (bytes_below b (λ k. omega (arith, c.shared_slice_known-1.given k))) g;
+      demand_three = written-demand b _ _ _ _ _ (bytes_below b (λ k. omega (arith, c.shared_slice_known-1.given k))) g;
     }

@@ -60,12 +60,13 @@ void *unheard(int signal, void *handler) {
     return NULL;
 }
 
+/* There are no arguments. */
 size_t rattle_arg_count(void) { return 1; }
-size_t rattle_arg(size_t k, void *to, size_t n) {
+ssize_t rattle_arg(size_t k, void *to, size_t n) {
     (void)k;
     (void)to;
     (void)n;
-    return 0;
+    return -1;
 }
 
 __attribute__((noinline)) void measured(void) { program(); }

@@ -39,7 +39,7 @@ extern "C" {
 
 /* Stack for any call: more than twice the most that we measured; it is measured (bench/stack) and not proved. A usual sheet takes less.
  * What calls itself: walks, down the levels of an expression, of which there are at most 32; reading, also once an operand; writing a
- * default, down the type and once a field. The most, on 334 sheets that go deep in these ways: declock_rewrite 2.1 MB, declock_clocks,
+ * default, down the type and once a field. The most, on 334 sheets that go deep in these ways: declock_rewrite 1.7 MB, declock_clocks,
  * declock_listing, declock_listings and declock_text 1.6 MB. */
 #define DECLOCK_STACK_BYTES 4194304
 

@@ -2,7 +2,7 @@
 -- Assumes nothing.
 use Prim.Native.Nat.{ℕ, zero, suc, ◌+◌, ◌≤◌, ◌<◌}
 use mathlib.Core.Path.{◌≡◌, refl, sym, ◌∙◌, ap, subst}
-use mathlib.Core.List.{List, [], ◌∷◌, ◌++◌, map, Memᴰ}
+use mathlib.Core.List.{List, [], ◌∷◌, ◌++◌, map}
 use mathlib.Core.Bool.{Bool, true, false}
 use native.Mathlib.Omega.{arith}
 use lib.Dec.{eqb, leb}
@@ -14,11 +14,10 @@ use Rattle.definitions.specs.Tokens.{TagValue}
 use Rattle.definitions.specs.Tree.{Equation, Node, Sheet}
 use Rattle.definitions.specs.Reading.{Got, got, rejected, times}
 use Rattle.definitions.specs.Grammar.{equation, node, sheet}
-use Rattle.definitions.specs.Bytes.{parts}
 use Rattle.definitions.specs.Types.{first_cycle}
 use Rattle.definitions.specs.InferClocks as infer
 use Rattle.definitions.specs.InferClocks.{Formed, deep, formed, Natural, Clocks, Inferred, Fault, left_elsewhere, used_elsewhere, when_elsewhere, clock_name_elsewhere, undeclared, no_default, no_output_default, not_single_call, pre_untyped, fault_number, NodeFault, Finding, found, site, too_deep, Clocked, Clocking, natural, or_base, inferred, clocked_by, check_equation, is_too_deep, clocking, clock_faults}
-use Rattle.definitions.specs.Refusals.{Answer, accepted, refused, faulty, must, lending, down, told, ◌>>=◌}
+use Rattle.definitions.specs.Refusals.{Answer, accepted, refused, faulty, must, lending, told, ◌>>=◌}
 use Rattle.definitions.specs.Output.{ClockedNode, node_faults, names_out, sheet_out, within_limits, written}
 use Rattle.definitions.specs.Answer.{Input, answered, input, clockings, fault_record, first_of, unless_faulty, first_faults, rewrite_answer, item_at, node_at, NodeClocks, node_clocks, clocks_answer}
 use Rattle.shapes.specs.Shape.{All}
@@ -30,7 +29,6 @@ use Rattle.grammar.proofs.Parts.{counted-within}
 use Rattle.grammar.proofs.Longer.{keeps, times-keeps, equation-grows}
 use Rattle.grammar.proofs.Got.{node-got, sheet-got}
 use Rattle.checking.proofs.Size.{equations-fit}
-use Rattle.stateless.specs.Sheets.{Formings}
 use Rattle.stateless.proofs.Nodes.{clockings-form}
 use Rattle.stateless.proofs.Answers.{input-refused}
 use Rattle.clock_pass.proofs.Laws.{Real}

@@ -1,25 +1,24 @@
 -- A plan made under one id of `condact` serves under another, as every id of the input is of `condact` in both or in neither.
 -- Assumes nothing.
-use Prim.Native.Nat.{ℕ, ◌+◌, ◌<◌}
-use mathlib.Core.Path.{◌≡◌, refl, sym, ap, ◌∙◌}
+use Prim.Native.Nat.{ℕ, ◌<◌}
+use mathlib.Core.Path.{◌≡◌, refl, ap, ◌∙◌}
 use mathlib.Core.Bool.{Bool}
 use mathlib.Core.List.Memᴰ
 use mathlib.Core.List.{List, [], ◌∷◌}
 use lib.Dec.{eqb}
-use lib.ListN.{length}
 use Rattle.definitions.specs.Lists.{choose}
-use Rattle.definitions.specs.Tree.{TypeDef, Expr, Equation, Node}
+use Rattle.definitions.specs.Tree.{TypeDef, Expr, Node}
 use Rattle.definitions.specs.Clock.{Clock, is_base}
 use Rattle.definitions.specs.InferClocks.{Clocked}
 use Rattle.definitions.specs.Declock.{Shape}
 use Rattle.shapes.specs.Shape.{Shaped, ShapedEquation}
 use Rattle.shapes.proofs.Facts.{All}
-use Rattle.stateless.specs.Yield.{Ids, shape_after, right_yield}
+use Rattle.stateless.specs.Yield.{Ids, shape_after}
 use Rattle.stateless.proofs.Condact.{Alike, both-bare, both-other, both-call, both-gate, shape-alike, itself}
 use Rattle.planned.specs.Writes.{Writer}
 use Rattle.planned.specs.declared.Frame.{Frame}
 use Rattle.planned.specs.Framed.{several_frame, flagged_frame, frame_of}
-use Rattle.planned.specs.Planned.{EquationPlanned, EquationsPlanned}
+use Rattle.planned.specs.Planned.{EquationsPlanned}
 
 module _ (types : List TypeDef) (nodes : List Node) (node : Node) (N k k' : ℕ) (same : (f : ℕ) → f < N → eqb f k ≡ eqb f k') where
   several-frame : (flag : ℕ) {u v : Shape} → Alike types nodes node N k k' same u v → several_frame k flag u ≡ several_frame k' flag v

@@ -1,10 +1,9 @@
 -- A planned node written with its tables filled is the node of the output.
 -- Assumes nothing.
-use Prim.Native.Nat.{ℕ, ◌+◌, ◌*◌, ◌≤◌, ◌<◌}
+use Prim.Native.Nat.{ℕ, ◌*◌, ◌≤◌, ◌<◌}
 use mathlib.Core.Path.{◌≡◌, refl, sym, ap, ap₂, ◌∙◌, subst}
 use mathlib.Core.Bool.{Bool, true, false, true≢false}
 use mathlib.Core.List.{List, []}
-use mathlib.Core.Option.{none}
 use native.Mathlib.Omega.{arith}
 use lib.Dec.{eqb}
 use lib.ListN.{length, length-map}
@@ -21,7 +20,7 @@ use Rattle.definitions.specs.Output.{letters_of, new_id, condact_id, ClockedNode
 use Rattle.grammar.proofs.Laws.{times-length}
 use Rattle.grammar.proofs.Parts.{counted-within}
 use Rattle.grammar.proofs.Got.{node-got}
-use Rattle.shapes.proofs.Facts.{All, Goes, goes-trans}
+use Rattle.shapes.proofs.Facts.{All, goes-trans}
 use Rattle.shapes.proofs.Inference.{Forms}
 use Rattle.shapes.proofs.ClockNames.{NamedEquation, clocking-named}
 use Rattle.runs.proofs.Names.{names_apart}
@@ -38,7 +37,6 @@ use Rattle.lines.proofs.Laws.{clocked-many}
 use Rattle.stateless.specs.declared.Counts as needed
 use Rattle.stateless.specs.Need.{Needs, Counted}
 use Rattle.stateless.specs.Yield.{Ids, old_yield}
-use Rattle.stateless.specs.Faults.{old_fault}
 use Rattle.stateless.specs.Whole.{no_needs, old_needs}
 use Rattle.stateless.specs.Locals.{ids_in, Agree}
 use Rattle.stateless.specs.Rewritten.{node_by}
@@ -55,7 +53,6 @@ use Rattle.new_names.proofs.Named.{named_none, named-old}
 use Rattle.new_names.proofs.Many.{too_many}
 use Rattle.new_names.proofs.Written.{output-standing}
 use Rattle.planned.specs.declared.Sizes.{Sizes}
-use Rattle.planned.specs.Writes.{Writer}
 use Rattle.plan.specs.Planned.{Whole}
 use Rattle.new_names.specs.declared.Tables.{Tables}
 use Rattle.new_names.specs.Filled.{HasRows, Filled, FilledOrFull}

@@ -1,9 +1,9 @@
 -- A node that is planned and meets no fault, and the names that it stands among.
-use Rattle.std.specs.Prelude.{ℕ, ◌≤◌, ◌≡◌, List, [], ◌++◌, true, length}
+use Rattle.std.specs.Prelude.{ℕ, ◌≡◌, List, [], ◌++◌, true, length}
 use Rattle.std.proofs.Math.Option.{none}
 use Rattle.definitions.specs.Lists.{Letters}
 use Rattle.definitions.specs.Bytes.{bad_name, tokens}
-use Rattle.definitions.specs.Tree.{Node, Sheet}
+use Rattle.definitions.specs.Tree.{Sheet}
 use Rattle.definitions.specs.Reading.{got}
 use Rattle.definitions.specs.Grammar.{node}
 use Rattle.definitions.specs.InferClocks.{formed, clocking, uses_clocks}

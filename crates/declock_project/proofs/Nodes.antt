@@ -1,13 +1,12 @@
 -- A node written, and node after node: the names so far and the tokens so far.
 -- Assumes nothing.
-use Prim.Native.Nat.{ℕ, suc, ◌+◌, ◌*◌, ◌≤◌, ◌<◌}
+use Prim.Native.Nat.{ℕ, ◌+◌, ◌*◌, ◌≤◌, ◌<◌}
 use mathlib.Core.Path.{◌≡◌, refl, sym, ap, ap₂, ◌∙◌, subst}
 use mathlib.Core.Bool.{Bool, true, false, true≢false, ◌&&◌}
 use mathlib.Core.List.Memᴰ
 use mathlib.Core.List.{List, [], ◌∷◌, ◌++◌, map, Memᴰ}
 use mathlib.Core.Option.{none, some, none-ne-some}
 use native.Mathlib.Omega.{arith}
-use native.Mathlib.Numerals.{add-one}
 use lib.Dec.{leb}
 use borrow.Author.Tests.{le-leb, leb-true}
 use lib.ListN.{length, get_or, get_elem?, take, drop, length-append}
@@ -19,9 +18,9 @@ use Rattle.definitions.specs.Tree.{Node, Sheet}
 use Rattle.definitions.specs.Reading.{got}
 use Rattle.definitions.specs.Grammar.{node}
 use Rattle.definitions.specs.Clock.{Clock}
-use Rattle.definitions.specs.InferClocks.{Fault, NodeFault, Clocked, Clocking, formed, clocking, uses_clocks}
+use Rattle.definitions.specs.InferClocks.{Fault, NodeFault, Clocked, formed, clocking, uses_clocks}
 use Rattle.definitions.specs.Refusals.{accepted}
-use Rattle.definitions.specs.Output.{condact_id, ClockedNode, node_faults, with_new_names, output_names, names_out, output_node, definition_tokens, node_tokens, sheet_out, sheet_tokens}
+use Rattle.definitions.specs.Output.{condact_id, ClockedNode, node_faults, with_new_names, output_names, names_out, definition_tokens, node_tokens, sheet_out, sheet_tokens}
 use Rattle.definitions.specs.Answer.{Input, clockings}
 use Rattle.shapes.proofs.Facts.{Goes}
 use Rattle.shapes.proofs.Source.{read-facts}
@@ -40,7 +39,6 @@ use Rattle.stateless.proofs.Output.{names-by-needs}
 use Rattle.stateless.proofs.Condact.{sheet-fault}
 use Rattle.emit.proofs.NodePartsLaws.{after}
 use Rattle.stateless.specs.declared.Counts as needed
-use Rattle.planned.specs.declared.Sizes.{Sizes}
 use Rattle.index.specs.declared.Index.{Index}
 use Rattle.index.specs.Indexed.{Indexed}
 use Rattle.clock_tables.specs.Rows.{RowsHold}

@@ -6,7 +6,6 @@ use Rattle.std.proofs.Math.ListN.{get_elem?}
 use Rattle.definitions.specs.declared.Refusal.{Refusal}
 use Rattle.definitions.specs.Lists.{Letters}
 use Rattle.definitions.specs.Bytes.{bad_name, tokens}
-use Rattle.definitions.specs.Tree.{Node}
 use Rattle.definitions.specs.Reading.{got}
 use Rattle.definitions.specs.Grammar.{node}
 use Rattle.definitions.specs.InferClocks.{formed, clocking, uses_clocks}

@@ -10,7 +10,6 @@ use lib.ListN.{length, get_or, replicate, get_or-replicate}
 use lib.Dec.{eqb}
 use Rattle.definitions.specs.declared.Primitive.{Primitive}
 use Rattle.definitions.specs.Tree.{Ty, TypeDef, Head, Expr}
-use Rattle.definitions.specs.Grammar.{name}
 use Rattle.definitions.specs.Types.{copies, definition_of, default_by, default_of, default_named, default}
 use Rattle.layout.specs.Table.{nowhere, def_at, name_at, is_named, first_of}
 use Rattle.layout.proofs.TypedefsLaws.{find_none, find-some}

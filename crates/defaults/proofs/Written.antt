@@ -24,7 +24,7 @@ use Rattle.grammar.proofs.Got.{times-nil, times-cons}
 use Rattle.layout.specs.declared.Defined.{Defined}
 use Rattle.layout.specs.Table.{def_at, first_of, Table, Described}
 use Rattle.layout.proofs.TypedefsLaws.{name-value}
-use Rattle.emit.specs.Out.{Out, out, emits}
+use Rattle.emit.specs.Out.{Out, emits}
 use Rattle.emit.proofs.Laws.{emits-append, emits_none}
 use Rattle.defaults.specs.declared.Plain.{Plain}
 use Rattle.defaults.specs.Depth.{Enough}

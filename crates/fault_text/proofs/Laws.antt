@@ -8,9 +8,7 @@ use native.Mathlib.Omega.{arith}
 use lib.ListN.{length, take, drop, get_elem?, length-take}
 use Rattle.definitions.specs.declared.Refusal.{Refusal}
 use Rattle.definitions.specs.Lists.{choose, Letters}
-use Rattle.definitions.specs.Tree.{Node}
-use Rattle.definitions.specs.Grammar.{node}
-use Rattle.definitions.specs.InferClocks.{Fault, NodeFault, clocking}
+use Rattle.definitions.specs.InferClocks.{Fault, NodeFault}
 use Rattle.definitions.specs.Refusals.{accepted, refused, down, told}
 use Rattle.definitions.specs.Output.{letters_of, ClockedNode, node_faults}
 use Rattle.definitions.specs.Texts.{fault_line}

@@ -14,7 +14,7 @@ use Rattle.definitions.specs.Tree.{TypeDef, Node}
 use Rattle.definitions.specs.Reading.{got}
 use Rattle.definitions.specs.Grammar.{node}
 use Rattle.definitions.specs.Refusals.{accepted}
-use Rattle.definitions.specs.InferClocks.{Formed, formed, Clocks, Fault, NodeFault, Clocked, Clocking, Finding, clocking, clock_faults, uses_clocks}
+use Rattle.definitions.specs.InferClocks.{Formed, formed, Fault, NodeFault, Clocked, Clocking, Finding, clocking, clock_faults, uses_clocks}
 use Rattle.definitions.specs.Output.{condact_id, ClockedNode, node_faults}
 use Rattle.definitions.specs.Answer.{Input, clockings}
 use Rattle.shapes.proofs.Clockless.{no-node-faults}

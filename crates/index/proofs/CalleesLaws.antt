@@ -17,13 +17,12 @@ use Rattle.definitions.specs.Tokens.{TagValue, kind_of}
 use Rattle.grammar.specs.declared.FoundKind.{FoundKind}
 use Rattle.grammar.specs.Found.{kind_option}
 use Rattle.definitions.specs.Bytes.{tokens}
-use Rattle.definitions.specs.Tree.{Declared, Node}
-use Rattle.definitions.specs.Reading.{got, times}
+use Rattle.definitions.specs.Tree.{Node}
+use Rattle.definitions.specs.Reading.{got}
 use Rattle.definitions.specs.Grammar.{declaration, equation, probe, node}
 use Rattle.definitions.specs.Declock.{is_operator_kind, operator_outputs}
 use Rattle.layout.specs.declared.Span.{Span}
 use Rattle.layout.specs.Spans.{past_in, kind_in, kind_or, Spanned, Spans}
-use Rattle.layout.specs.Laid.{Places}
 use Rattle.layout.proofs.Laws.{nowhere, laid, spanned-by}
 use Rattle.index.specs.declared.Callee.{Callee}
 use Rattle.index.specs.Callees.{first_named, operator_in, is_there, NodesStand, OutputsStand}

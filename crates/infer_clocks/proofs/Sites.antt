@@ -17,7 +17,7 @@ use Rattle.definitions.specs.Clock.{Clock}
 use Rattle.definitions.specs.InferClocks.{Natural, deep, formed, ◌>>=◌, Formed, Clocks, Clocked, Clocking, Finding, Inferred, inferred, natural, or_base, clocked_by, check_equation, is_too_deep, clocking}
 use Rattle.grammar.proofs.Got.{times-nil, times-cons}
 use Rattle.clock_tables.specs.Flat.{clock_in}
-use Rattle.skeleton.specs.Sites.{EquationSited, EquationsSited, EquationsOn}
+use Rattle.skeleton.specs.Sites.{EquationsSited, EquationsOn}
 use Rattle.checking.specs.Walk.{only_sites, EquationStored}
 use Rattle.checking.proofs.Only.{only-both, only-right}
 use Rattle.infer_clocks.specs.Clocked.{is_deep, ClockedOrDeep, SitesTold}

@@ -1,21 +1,20 @@
 -- An equation whose names are settled changes nothing, whatever the other equations of a pass do.
 -- Assumes nothing.
-use Prim.Native.Nat.{ℕ, zero, suc, ◌+◌, ◌≤◌, ◌<◌}
+use Prim.Native.Nat.{ℕ, ◌≤◌, ◌<◌}
 use mathlib.Core.Path.{◌≡◌, refl, sym, ◌∙◌, ap, subst}
 use mathlib.Core.List.{List, [], ◌∷◌}
 use mathlib.Core.Bool.{Bool, true, false, ◌||◌}
 use mathlib.Core.Option.{Option, none, some}
 use native.Mathlib.Omega.{arith}
-use lib.Dec.{eqb}
-use lib.ListN.{length, get_or, set, length-set}
+use lib.ListN.{length, set, length-set}
 use lib.Seq.{get_or-set_same, get_or-set_other}
-use borrow.Author.Tests.{ne_eqb, eqb-true, eqb-false}
+use borrow.Author.Tests.{ne_eqb}
 use Rattle.definitions.specs.Lists.{choose}
 use Rattle.definitions.specs.Tree.{Equation, Node}
 use Rattle.definitions.specs.Clock.{Clock, same_clock}
-use Rattle.definitions.specs.InferClocks.{Natural, Formed, deep, formed, ◌>>=◌, Clocks, clock_of, Pass, natural, is_port, has_clock, give, give_natural}
+use Rattle.definitions.specs.InferClocks.{Natural, formed, ◌>>=◌, Clocks, clock_of, Pass, natural, is_port, has_clock, give, give_natural}
 use Rattle.inference.specs.Passes.{given, stepped}
-use Rattle.inference.specs.Settled.{Unchanged, EachOf, Each, Names, KeepsClocks, Idle, Calm, dated, dates, Moves}
+use Rattle.inference.specs.Settled.{Unchanged, EachOf, Names, KeepsClocks, Idle, Calm, dated, dates, Moves}
 use Rattle.inference.proofs.Naming.{names-map, Same, natural-same}
 
 -- ---- what a change of clocks leaves as it was

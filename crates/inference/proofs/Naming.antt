@@ -6,18 +6,16 @@ use mathlib.Core.List.{List, [], ◌∷◌}
 use mathlib.Core.Bool.{Bool, true, false}
 use mathlib.Core.Option.{Option, none, some}
 use native.Mathlib.Omega.{arith}
-use native.Mathlib.Numerals.{sub-one}
 use lib.Dec.{eqb, ltb}
 use lib.ListN.{length, get_or}
 use borrow.Author.Tests.{eqb-true}
 use Rattle.definitions.specs.declared.ExprToken.{ExprToken}
 use Rattle.definitions.specs.Lists.{choose}
 use Rattle.definitions.specs.Bytes.{tokens}
-use Rattle.definitions.specs.Tokens.{TagValue, given, mapped, unary_of, binary_of, expr_token_of}
+use Rattle.definitions.specs.Tokens.{given, mapped, unary_of, binary_of, expr_token_of}
 use Rattle.definitions.specs.Tree.{Expr, Exprs, Equation}
-use Rattle.definitions.specs.Reading.{got, token, times}
+use Rattle.definitions.specs.Reading.{got, times}
 use Rattle.definitions.specs.Grammar.{name, equation}
-use Rattle.definitions.specs.Clock.{Clock, base}
 use Rattle.definitions.specs.InferClocks.{Natural, Clocks, clock_of, formed, ◌or◌, condition_over, parent_of, natural, naturals}
 use Rattle.grammar.proofs.Laws.{tokens-length}
 use Rattle.grammar.proofs.Longer.{counted-grows, expr-grows}

@@ -6,7 +6,6 @@ use Rattle.definitions.specs.Tree.{Equation, Node}
 use Rattle.definitions.specs.Clock.{Clock, base, same_clock}
 use Rattle.definitions.specs.InferClocks.{Formed, deep, formed, ◌>>=◌, Pass, Inferred, natural, is_port, has_clock, give_natural}
 use Rattle.clock_tables.specs.Environment.{env_at, Agrees}
-use Rattle.inference.specs.declared.Passing.{Passing}
 use Rattle.inference.specs.declared.Inference.{Inference}
 
 -- of the names below m, those of l are marked

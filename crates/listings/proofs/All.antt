@@ -2,7 +2,7 @@
 use mathlib.Core.Path.{◌≡◌, refl, sym, subst, ◌∙◌, ap}
 use mathlib.Core.List.{List, [], ◌∷◌, append-nil}
 use mathlib.Core.Bool.{Bool, true, false}
-use Prim.Native.Nat.{ℕ, zero, suc, ◌-◌, ◌≤◌, ◌<◌}
+use Prim.Native.Nat.{ℕ, ◌-◌, ◌≤◌, ◌<◌}
 use native.Mathlib.Omega.{arith}
 use lib.Dec.{leb}
 use lib.ListN.{length, take}
@@ -13,7 +13,7 @@ use Rattle.definitions.specs.Tokens.{TagValue}
 use Rattle.definitions.specs.Tree.{Node}
 use Rattle.definitions.specs.Reading.{got, times}
 use Rattle.definitions.specs.Grammar.{node}
-use Rattle.definitions.specs.Refusals.{Answer, accepted, refused}
+use Rattle.definitions.specs.Refusals.{accepted, refused}
 use Rattle.definitions.specs.InferClocks.{Formed, deep, formed, Clocking, clocking}
 use Rattle.definitions.specs.Output.{letters_of, ClockedNode}
 use Rattle.definitions.specs.Answer.{Input, clockings, node_at, node_listing}

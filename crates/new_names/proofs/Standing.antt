@@ -6,11 +6,11 @@ use mathlib.Core.Bool.{Bool, true, false, ◌||◌, false≢true}
 use mathlib.Core.List.{List, [], ◌∷◌, ◌++◌, map}
 use native.Mathlib.Omega.{arith}
 use lib.ListN.{length}
-use Rattle.definitions.specs.Lists.{choose, any, place_by, up_from, Letters, same_letters, bytes}
+use Rattle.definitions.specs.Lists.{choose, any, place_by, Letters, same_letters, bytes}
 use Rattle.definitions.specs.Tree.{Node}
 use Rattle.definitions.specs.Clock.{Clock, in_chain_order, same_clock}
 use Rattle.definitions.specs.Declock.{Stem, ck, first, hold, clock_place}
-use Rattle.definitions.specs.Output.{id_of, condact_id, letters_of, new_letters, new_id, add_names, add_name}
+use Rattle.definitions.specs.Output.{id_of, condact_id, letters_of, new_letters, new_id, add_names}
 use Rattle.shapes.proofs.Facts.{Goes}
 use Rattle.runs.proofs.Names.{Apart}
 use Rattle.clock_tables.proofs.Distinct.{Distinct}

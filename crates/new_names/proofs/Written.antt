@@ -8,15 +8,15 @@ use mathlib.Core.Option.{none}
 use lib.Dec.{eqb}
 use lib.ListN.{length}
 use Rattle.definitions.specs.Lists.{Letters}
-use Rattle.definitions.specs.Tree.{Equation, Node, Sheet}
+use Rattle.definitions.specs.Tree.{Sheet}
 use Rattle.definitions.specs.InferClocks.{uses_clocks}
 use Rattle.definitions.specs.Output.{new_id, condact_id, ClockedNode, output_node}
 use Rattle.shapes.proofs.Facts.{Goes}
 use Rattle.runs.proofs.Names.{Apart}
 use Rattle.clock_tables.proofs.Distinct.{Distinct}
 use Rattle.stateless.specs.Need.{Needs}
-use Rattle.stateless.specs.Yield.{Ids, Yield, old_yield}
-use Rattle.stateless.specs.Whole.{no_needs, old_needs}
+use Rattle.stateless.specs.Yield.{Ids, old_yield}
+use Rattle.stateless.specs.Whole.{no_needs}
 use Rattle.stateless.specs.Locals.{Agree}
 use Rattle.stateless.specs.Rewritten.{names_by, node_by}
 use Rattle.stateless.proofs.Stops.{fault_of}

@@ -9,7 +9,7 @@ use native.Mathlib.Omega.{arith}
 use lib.Dec.{eqb}
 use lib.ListN.{length, get_or, set}
 use borrow.Author.Tests.{eq-eqb, ne_eqb}
-use Rattle.definitions.specs.Lists.{choose, or_else, any}
+use Rattle.definitions.specs.Lists.{choose, any}
 use Rattle.definitions.specs.Bytes.{tokens}
 use Rattle.definitions.specs.Tree.{TypeDef, Expr, Equation, Node}
 use Rattle.definitions.specs.Reading.{got}
@@ -28,18 +28,16 @@ use Rattle.stateless.specs.Need.{Needs, with_flag, with_gate, needed}
 use Rattle.stateless.specs.Yield.{shape_after}
 use Rattle.stateless.specs.Faults.{fault_in, flagged_fault, right_fault}
 use Rattle.stateless.specs.Whole.{several_needs, flagged_needs, right_needs}
-use Rattle.stateless.specs.Locals.{ids_in}
 use Rattle.stateless.proofs.Growth.{has-parents}
 use Rattle.skeleton.specs.Lies.{LiesAt}
 use Rattle.skeleton.specs.Sites.{EquationSited}
 use Rattle.skeleton.proofs.Laws.{seen_at}
-use Rattle.plan.specs.Planned.{met_in, Whole, Ahead, writer, Begun, Planned, Ended, tree_codes, tree_holds}
+use Rattle.plan.specs.Planned.{met_in, Ahead, Begun, Ended, tree_codes, tree_holds}
 use Rattle.plan.specs.Walks.{Arrays, Tables, Setting, ground_of, Known, Roomy, Site, Leaves, Walks}
 use Rattle.plan.proofs.Closing.{ended_some, beside, there}
 use Rattle.plan.proofs.Walk.{ended-then, ended-stop, Sized}
 use Rattle.planned.specs.declared.Frame.{Frame}
 use Rattle.planned.specs.Framed.{frame_in, flagged_frame, several_frame, frame_of}
-use Rattle.planned.specs.Planned.{frame_by}
 use Rattle.node_plan.specs.Noted.{gates_call, gates_right, Typed, Flagged}
 use Rattle.node_plan.specs.Equations.{EquationNoted, WalksEquation}
 use Rattle.node_plan.proofs.Noting.{sited-on}

@@ -1,50 +1,39 @@
 -- Equations one after another, and one by its right side and its flag.
 -- Assumes nothing.
-use mathlib.Core.Path.{◌≡◌, refl, sym, ◌∙◌, ap, subst}
+use mathlib.Core.Path.{◌≡◌, refl, sym, ◌∙◌, subst}
 use mathlib.Core.Bool.{Bool, true, false}
-use mathlib.Core.List.{List, [], ◌∷◌, ◌++◌, map, append-nil}
-use mathlib.Core.Option.{Option, none, some}
+use mathlib.Core.List.{List, [], ◌∷◌}
+use mathlib.Core.Option.{Option}
 use mathlib.Core.Logic.{◌⊎◌, inl, inr}
-use Prim.Native.Nat.{ℕ, zero, suc, ◌+◌, ◌-◌, ◌*◌, ◌≤◌, ◌<◌}
+use Prim.Native.Nat.{ℕ, suc, ◌+◌, ◌-◌, ◌*◌, ◌≤◌, ◌<◌}
 use native.Mathlib.Omega.{arith}
 use lib.Dec.{eqb}
-use lib.ListN.{length, get_or}
+use lib.ListN.{length}
 use Rattle.definitions.specs.Lists.{choose, or_else}
 use Rattle.definitions.specs.Bytes.{tokens}
-use Rattle.definitions.specs.Tokens.{TagValue, code_of}
 use Rattle.definitions.specs.Tree.{TypeDef, Expr, Equation, Node}
-use Rattle.definitions.specs.Reading.{got, times}
-use Rattle.definitions.specs.Grammar.{name, equation}
+use Rattle.definitions.specs.Grammar.{equation}
 use Rattle.definitions.specs.Clock.{Clock, is_base}
 use Rattle.definitions.specs.InferClocks.{Fault, NodeFault, Clocked}
-use Rattle.definitions.specs.Declock.{Hold, Shape, bare, other, calls, add_with_parents}
-use Rattle.definitions.specs.Output.{expr_tokens}
-use Rattle.clock_tables.specs.Flat.{clock_in}
-use Rattle.grammar.proofs.Got.{times-nil, times-cons, equation-got}
-use Rattle.layout.specs.declared.Span.{Span}
+use Rattle.definitions.specs.Declock.{Shape, bare, other, calls}
 use Rattle.layout.specs.declared.NodeLayout.{NodeLayout}
-use Rattle.layout.specs.Spans.{Spanned, Spans, past_in}
 use Rattle.layout.specs.Laid.{LaidNode}
-use Rattle.layout.proofs.Laws.{span-at}
-use Rattle.typing.proofs.Laws.{label_is}
 use Rattle.layout.proofs.Owed.{owed-on}
 use Rattle.stateless.specs.Need.{Needs, with_flag, with_gate, needed}
-use Rattle.stateless.specs.Yield.{Ids, shape_after, yield, right_yield, old_yield}
-use Rattle.stateless.specs.Faults.{fault_in, flagged_fault, right_fault, at_equation, old_fault}
+use Rattle.stateless.specs.Yield.{Ids, shape_after, right_yield, old_yield}
+use Rattle.stateless.specs.Faults.{at_equation, old_fault}
 use Rattle.stateless.specs.Whole.{several_needs, flagged_needs, right_needs, old_needs}
 use Rattle.stateless.specs.Locals.{ids_in}
-use Rattle.skeleton.specs.Lies.{LiesAt}
 use Rattle.skeleton.specs.Sites.{EquationSited, EquationsSited}
-use Rattle.skeleton.proofs.Laws.{lies-owed, seen_at}
-use Rattle.planned.specs.Writes.{Writes}
+use Rattle.skeleton.proofs.Laws.{lies-owed}
 use Rattle.planned.specs.Held.{HeldFrom}
-use Rattle.plan.specs.Planned.{met_in, Whole, Ahead, Agrees, Kept, writer, Begun, Planned, Ended, tree_codes, tree_holds}
-use Rattle.plan.specs.Walks.{Arrays, Tables, Setting, ground_of, Known, Roomy, Site, Walks}
+use Rattle.plan.specs.Planned.{Ahead, writer, Begun, Ended}
+use Rattle.plan.specs.Walks.{Arrays, Tables, Setting, ground_of, Known, Roomy}
 use Rattle.plan.proofs.Growth.{ahead-self, ahead-trans, ahead-flag, ahead-needed, yield-holds, yield-count}
 use Rattle.plan.proofs.Laws.{held-append}
 use Rattle.plan.proofs.Walk.{Sized, roomy_after}
-use Rattle.planned.specs.Planned.{EquationPlanned, EquationsPlanned}
-use Rattle.node_plan.specs.Equations.{EquationNoted, EquationsNoted, Counts, WalksEquation, WalksEquations}
+use Rattle.planned.specs.Planned.{EquationsPlanned}
+use Rattle.node_plan.specs.Equations.{EquationsNoted, Counts, WalksEquation, WalksEquations}
 
 -- ---- what an equation needs besides its right side
 flag-ahead : (b : Bool) (c : Clock) (z : Needs) → Ahead z (choose b (with_flag c z) (with_gate c z))

@@ -1,7 +1,6 @@
 -- What planning a node met, and what it left where it met no fault.
 -- Assumes nothing.
 use mathlib.Core.Path.{◌≡◌, refl, sym, ◌∙◌, ap, subst}
-use mathlib.Core.Bool.{Bool, true, false}
 use mathlib.Core.List.{List, [], ◌∷◌}
 use mathlib.Core.Option.{Option, none, some, none-ne-some, some-injective}
 use Prim.Native.Nat.{ℕ, suc, ◌+◌, ◌≤◌, ◌<◌}
@@ -17,7 +16,7 @@ use Rattle.layout.specs.declared.NodeLayout.{NodeLayout}
 use Rattle.layout.specs.Laid.{LaidNode}
 use Rattle.clock_tables.proofs.RowsLaws.{has-none}
 use Rattle.stateless.specs.declared.Counts as needed
-use Rattle.stateless.specs.Need.{Needs, Counted}
+use Rattle.stateless.specs.Need.{Counted}
 use Rattle.stateless.specs.Faults.{right_fault, at_equation, old_fault}
 use Rattle.stateless.specs.Whole.{no_needs, old_needs}
 use Rattle.skeleton.specs.Sites.{EquationsSited}
@@ -28,7 +27,7 @@ use Rattle.plan.proofs.Closing.{word-in}
 use Rattle.plan.proofs.Walk.{Sized}
 use Rattle.node_plan.specs.declared.Outcome.{Outcome}
 use Rattle.node_plan.specs.Equations.{EquationsNoted, Counts, WalksEquations}
-use Rattle.node_plan.specs.Outcomes.{in_equation, met_by, NodePlanned, PlansNode}
+use Rattle.node_plan.specs.Outcomes.{in_equation, met_by, PlansNode}
 
 -- ---- the fault that a tally names
 module _ (k x f : ℕ) (u : Fault) where

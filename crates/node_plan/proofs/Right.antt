@@ -1,38 +1,36 @@
 -- An equation by its right side: where it stands, and what is noted of it.
 -- Assumes nothing.
 use mathlib.Core.Path.{◌≡◌, refl, sym, ◌∙◌, ap, subst}
-use mathlib.Core.Bool.{Bool, true, false}
-use mathlib.Core.List.{List, [], ◌∷◌, ◌++◌, map, append-nil}
+use mathlib.Core.Bool.{Bool}
+use mathlib.Core.List.{List, [], append-nil}
 use mathlib.Core.Logic.{◌⊎◌, inl, inr}
 use Prim.Native.Nat.{ℕ, zero, suc, ◌+◌, ◌-◌, ◌*◌, ◌≤◌, ◌<◌}
 use native.Mathlib.Omega.{arith}
 use lib.ListN.{length, get_or}
 use borrow.Author.Tests.{lt-ltb}
-use Rattle.definitions.specs.Lists.{choose, or_else}
+use Rattle.definitions.specs.Lists.{choose}
 use Rattle.definitions.specs.Bytes.{tokens}
-use Rattle.definitions.specs.Tokens.{TagValue, code_of}
-use Rattle.definitions.specs.Tree.{Expr, Equation}
+use Rattle.definitions.specs.Tokens.{TagValue}
+use Rattle.definitions.specs.Tree.{Equation}
 use Rattle.definitions.specs.Reading.{got, times}
 use Rattle.definitions.specs.Grammar.{name, equation}
 use Rattle.definitions.specs.Clock.{Clock, is_base}
-use Rattle.definitions.specs.Output.{expr_tokens}
 use Rattle.grammar.proofs.Got.{times-nil, times-cons, equation-got}
 use Rattle.layout.specs.declared.Span.{Span}
-use Rattle.layout.specs.Spans.{Spanned, Spans, past_in}
+use Rattle.layout.specs.Spans.{Spanned, Spans}
 use Rattle.layout.proofs.Laws.{span-at}
 use Rattle.typing.proofs.Laws.{label_is}
 use Rattle.stateless.specs.Need.{Needs, needed}
-use Rattle.stateless.specs.Yield.{shape_after, yield, right_yield}
+use Rattle.stateless.specs.Yield.{shape_after, right_yield}
 use Rattle.stateless.specs.Whole.{right_needs}
 use Rattle.stateless.specs.Locals.{ids_in}
-use Rattle.skeleton.specs.Lies.{LiesAt}
 use Rattle.skeleton.specs.Sites.{EquationSited}
 use Rattle.planned.specs.Writes.{Writes}
 use Rattle.plan.specs.Planned.{Whole, Ahead, Agrees, writer, Begun, Planned, tree_codes, tree_holds}
 use Rattle.plan.specs.Closed.{Beside}
 use Rattle.plan.specs.Walks.{Arrays, Tables, Setting, ground_of}
 use Rattle.plan.proofs.Growth.{ahead-trans}
-use Rattle.planned.specs.Planned.{frame_by, EquationPlanned}
+use Rattle.planned.specs.Planned.{frame_by}
 use Rattle.planned.specs.Framed.{frame_of}
 use Rattle.node_plan.specs.Equations.{EquationNoted}
 use Rattle.node_plan.proofs.Noting.{right-ahead, right-holds}

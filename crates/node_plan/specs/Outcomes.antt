@@ -14,7 +14,6 @@ use Rattle.stateless.specs.Yield.{old_yield}
 use Rattle.stateless.specs.Faults.{old_fault}
 use Rattle.stateless.specs.Whole.{no_needs, old_needs}
 use Rattle.stateless.specs.Locals.{ids_in}
-use Rattle.planned.specs.Writes.{Writer}
 use Rattle.planned.specs.Held.{HeldFrom}
 use Rattle.plan.specs.Planned.{Whole}
 use Rattle.planned.specs.Planned.{EquationsPlanned}

@@ -1,7 +1,6 @@
 -- The tree that has a role: what an arm of a match on the role knows.
 -- Assumes nothing.
 use mathlib.Core.Path.{◌≡◌, refl, sym, ◌∙◌}
-use mathlib.Core.List.{List}
 use Prim.Native.Nat.{ℕ}
 use Rattle.definitions.specs.declared.Literal.{Literal}
 use Rattle.definitions.specs.Tree.{Head, Expr, Exprs}

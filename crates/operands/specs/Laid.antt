@@ -1,5 +1,5 @@
 -- Where the operands of a first token stand, in the code's terms.
-use Rattle.std.specs.Prelude.{ℕ, ◌+◌, List, Bool, eqb, length}
+use Rattle.std.specs.Prelude.{ℕ, ◌+◌, List, eqb, length}
 use Rattle.definitions.specs.Lists.{choose}
 use Rattle.definitions.specs.Tokens.{TagValue}
 use Rattle.definitions.specs.Tree.{Ty, Expr}

@@ -1,5 +1,4 @@
 -- What an expression does, by its first token and by its tree, and the tree's operands.
-use Rattle.std.specs.Prelude.{ℕ}
 use Rattle.definitions.specs.declared.Test.{Test}
 use Rattle.definitions.specs.declared.ExprToken.{ExprToken}
 use Rattle.definitions.specs.Tree.{Head, Expr, Exprs}

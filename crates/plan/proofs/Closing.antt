@@ -20,7 +20,7 @@ use Rattle.clock_tables.specs.Rows.{RowsHold}
 use Rattle.index.specs.Callees.{is_there}
 use Rattle.stateless.specs.declared.Turn.{Turn}
 use Rattle.stateless.specs.declared.Counts.{Counts}
-use Rattle.stateless.specs.Need.{Needs, Counted, pre_turn, call_turn, settled}
+use Rattle.stateless.specs.Need.{Needs, Counted, pre_turn, settled}
 use Rattle.stateless.specs.Yield.{gate_of}
 use Rattle.stateless.specs.Faults.{pre_fault, outputs_fault, gate_fault}
 use Rattle.plan.specs.Planned.{counts_in, met_in, word_in, Kept, Begun, Ended}

@@ -6,27 +6,22 @@ use mathlib.Core.List.{List, [], ◌∷◌}
 use mathlib.Core.Option.{Option, none, some}
 use Prim.Native.Nat.{ℕ, zero, suc, ◌+◌}
 use lib.Dec.{eqb}
-use lib.ListN.{get_or}
 use native.Mathlib.Omega.{arith}
 use borrow.Author.Tests.{ne_eqb}
 use Rattle.definitions.specs.Lists.{or_else}
 use Rattle.definitions.specs.Tokens.{TagValue}
 use Rattle.definitions.specs.Tree.{Ty, Declared, TypeDef, Node}
-use Rattle.definitions.specs.Reading.{got, times}
-use Rattle.definitions.specs.Grammar.{declaration}
 use Rattle.definitions.specs.declared.Primitive.{Primitive}
 use Rattle.definitions.specs.Clock.{is_base}
 use Rattle.definitions.specs.Types.{default}
 use Rattle.definitions.specs.InferClocks.{Fault, no_output_default}
-use Rattle.clock_tables.specs.Value.{capped, clock_at}
+use Rattle.clock_tables.specs.Value.{clock_at}
 use Rattle.clock_tables.specs.Flat.{conditions_from, depth_in, clock_in}
 use Rattle.index.specs.Callees.{is_there}
 use Rattle.defaults.specs.Has.{is_some}
 use Rattle.typing.specs.declared.TypeFound.{TypeFound}
 use Rattle.typing.specs.Found.{IsFound}
 use Rattle.stateless.specs.Faults.{unless, outputs_fault}
-use Rattle.plan.specs.declared.Lack.{Lack}
-use Rattle.plan.specs.Closed.{lack_fault}
 
 -- the clock of a row is base where it has no conditions
 pub base-depth : (t : List ℕ) (b d : ℕ) → d ≡ depth_in t b → eqb d 0 ≡ is_base (clock_in t b)

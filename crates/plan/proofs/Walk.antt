@@ -5,7 +5,7 @@ use mathlib.Core.Bool.{Bool, true, false}
 use mathlib.Core.List.{List, [], ◌∷◌, ◌++◌, map, append-nil}
 use mathlib.Core.Option.{Option, none, some}
 use mathlib.Core.Logic.{◌⊎◌, inl, inr}
-use Prim.Native.Nat.{ℕ, zero, suc, ◌+◌, ◌-◌, ◌*◌, ◌≤◌, ◌<◌}
+use Prim.Native.Nat.{ℕ, suc, ◌+◌, ◌-◌, ◌*◌, ◌≤◌, ◌<◌}
 use native.Mathlib.Omega.{arith}
 use lib.Dec.{eqb}
 use lib.ListN.{length, get_or}
@@ -33,15 +33,15 @@ use Rattle.stateless.specs.Need.{Needs, is_bare, pre_turn, arrow_turn, call_turn
 use Rattle.stateless.specs.Yield.{Ids, Yield, type_or, gate_of, output_trees, pre_yield, call_tree, yield, yields}
 use Rattle.stateless.specs.Faults.{pre_fault, gate_fault, fault_in, fault_among}
 use Rattle.skeleton.specs.Around.{around}
-use Rattle.skeleton.specs.Lies.{Frame, weave, code_at, parts_at, Computes, Framed, Lies, LiesAt}
+use Rattle.skeleton.specs.Lies.{Frame, weave, code_at, Computes, Framed, Lies, LiesAt}
 use Rattle.skeleton.proofs.Codes.{codes-append}
 use Rattle.skeleton.proofs.Laws.{lies-owed, lies-none, sign-first, expr-first, seen_at, bare-is, previous-in, follow-in, calls-in, sample_in, join-in, plain_in}
 use Rattle.planned.specs.Writes.{named, gate_codes}
 use Rattle.plan.specs.Planned.{Begun, Ahead, Kept, Ground, Says, Planned, Ended, tree_codes, tree_holds, both_codes, both_holds, frame_codes, frame_holds}
 use Rattle.plan.specs.Closed.{Beside, Followed, Gated, Preceded}
 use Rattle.plan.specs.Walks.{Arrays, Tables, Setting, ground_of, Known, Roomy, Site, Leaves, Walks, WalksBoth, WalksAll}
-use Rattle.plan.proofs.Growth.{ahead-needed, ahead-all, ahead-settled, arrow-holds, call-holds, yield-holds, all-holds, yield-count, all-count}
-use Rattle.plan.proofs.Laws.{Stays, stays-but, says_none, says-as, says_then, says-stay, says-drop, says-join, says-follow, says-call, says-previous, hold_of, arrow_codes, pre_codes, call_codes, defaults_in, pre_holds}
+use Rattle.plan.proofs.Growth.{ahead-needed, ahead-all, ahead-settled, arrow-holds, call-holds, yield-holds, yield-count}
+use Rattle.plan.proofs.Laws.{stays-but, says_none, says-as, says_then, says-stay, says-drop, says-join, says-follow, says-call, says-previous, arrow_codes, pre_codes, call_codes, defaults_in, pre_holds}
 
 -- ---- tokens and holds of rewritten expressions
 module _ (G : Ground) where

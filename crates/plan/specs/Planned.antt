@@ -1,10 +1,10 @@
 -- A plan by place that is right: what it says is what rewriting yields, whatever else is needed in the end and whatever ids the new names get.
-use Rattle.std.specs.Prelude.{ℕ, suc, ◌+◌, ◌-◌, ◌*◌, ◌≤◌, ◌<◌, ◌≡◌, Bool, true, false, List, ◌++◌, map, ◌⊎◌, eqb, ltb, length, get_or}
+use Rattle.std.specs.Prelude.{ℕ, ◌+◌, ◌-◌, ◌*◌, ◌≤◌, ◌<◌, ◌≡◌, true, List, ◌++◌, map, ◌⊎◌, eqb, ltb, length, get_or}
 use Rattle.std.proofs.Math.Option.{Option, none, some}
 use Rattle.definitions.specs.Lists.{choose, any}
 use Rattle.definitions.specs.Tokens.{TagValue, code_of}
 use Rattle.definitions.specs.Tree.{TypeDef, Expr, Exprs, Node}
-use Rattle.definitions.specs.Clock.{Clock, is_base, same_clock}
+use Rattle.definitions.specs.Clock.{Clock, same_clock}
 use Rattle.definitions.specs.InferClocks.{Fault, undeclared, no_default, no_output_default, not_single_call, pre_untyped}
 use Rattle.definitions.specs.Declock.{Hold, clock_place}
 use Rattle.definitions.specs.Output.{expr_tokens, operand_tokens}

@@ -1,13 +1,11 @@
 -- What a plan says: the tokens that are written for parts.
 use Rattle.std.specs.Prelude.{ℕ, suc, ◌+◌, ◌-◌, ◌<◌, ◌≡◌, List, [], ◌∷◌, ◌++◌, map, eqb, length, get_or}
 use Rattle.std.proofs.Math.Option.{none, some}
-use Rattle.definitions.specs.declared.ExprToken.{ExprToken}
-use Rattle.definitions.specs.declared.Token.{Token}
 use Rattle.definitions.specs.Lists.{choose, join}
 use Rattle.definitions.specs.Tokens.{TagValue, tag_value, code_of}
 use Rattle.definitions.specs.Tree.{Declared, TypeDef, Node}
 use Rattle.definitions.specs.Declock.{operator_outputs}
-use Rattle.definitions.specs.Output.{e, operand_tokens}
+use Rattle.definitions.specs.Output.{operand_tokens}
 use Rattle.layout.specs.Owed.{Owed}
 use Rattle.stateless.specs.Yield.{output_trees}
 use Rattle.stateless.specs.Faults.{outputs_fault}

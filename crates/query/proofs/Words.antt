@@ -7,7 +7,7 @@ use native.Mathlib.Numerals.{add-one}
 use mathlib.Core.Bool.{Bool, true, false}
 use lib.Dec.{eqb}
 use borrow.Author.Tests.{eqb-true, eqb-false}
-use lib.ListN.{length, get_or, take, set, length-append, get_or-append, get_or-eq_default}
+use lib.ListN.{length, get_or, take, set, length-append, get_or-append}
 use lib.Seq.{take-suc, take_all, length-take-le, get_or-append-add}
 use Rattle.definitions.specs.declared.Condition.{Condition}
 use Rattle.definitions.specs.Lists.{join, over}

@@ -10,7 +10,7 @@ use Rattle.definitions.specs.declared.Refusal.{Refusal}
 use Rattle.definitions.specs.Lists.{Letters}
 use Rattle.definitions.specs.Tokens.{TagValue}
 use Rattle.definitions.specs.Refusals.{Answer, accepted, refused, faulty, Told, fine, down, told}
-use Rattle.definitions.specs.Bytes.{Parts, T, tokens, parts}
+use Rattle.definitions.specs.Bytes.{Parts, T, tokens}
 use Rattle.definitions.specs.Answer.{Input, input}
 use Rattle.definitions.specs.Output.{sheet_bytes, written}
 use Rattle.parts.specs.declared.Sizes.{Sizes}

@@ -5,7 +5,7 @@ use Rattle.definitions.specs.Tokens.{TagValue}
 use Rattle.definitions.specs.Tree.{Sheet}
 use Rattle.definitions.specs.Refusals.{Answer, accepted, Told, fine, down, told, must, ◌>>=◌}
 use Rattle.definitions.specs.Reading.{got}
-use Rattle.definitions.specs.Bytes.{M, L, T, lengths, letters, tags, values, cut, tokens, parts}
+use Rattle.definitions.specs.Bytes.{M, T, lengths, letters, tags, values, cut, tokens, parts}
 use Rattle.definitions.specs.Grammar.{sheet}
 use Rattle.definitions.specs.Types.{first_cycle}
 use Rattle.definitions.specs.Answer.{Input, answered, input}

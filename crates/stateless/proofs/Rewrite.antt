@@ -1,20 +1,17 @@
 -- What `rewrite` needs is what is needed, whatever ids new names and `condact` have.
 -- Assumes nothing.
 use Prim.Native.Nat.{ℕ, ◌+◌}
-use mathlib.Core.Path.{◌≡◌, refl, sym, ◌∙◌, ap, subst}
+use mathlib.Core.Path.{◌≡◌, refl, ◌∙◌, ap}
 use mathlib.Core.List.{List, [], ◌∷◌, ◌++◌}
-use mathlib.Core.Bool.{Bool, true, false}
+use mathlib.Core.Bool.{Bool, true}
 use mathlib.Core.Option.{Option, none, some}
-use native.Mathlib.Omega.{arith}
 use lib.ListN.{length, length-append}
-use Rattle.definitions.specs.Lists.{choose}
 use Rattle.definitions.specs.Tree.{Ty, Declared, TypeDef, Expr, Exprs, Node}
-use Rattle.definitions.specs.Clock.{Clock, base, ◌↓◌, parent, is_on, is_not, is_base}
+use Rattle.definitions.specs.Clock.{Clock, base, ◌↓◌, parent, is_on, is_not}
 use Rattle.definitions.specs.Types.{default}
-use Rattle.definitions.specs.InferClocks.{Fault, pre_untyped, no_output_default}
-use Rattle.definitions.specs.Declock.{State, Hold, Rewritten, stopped, done, Rewriter, after, need as require, clock_place, add_with_parents, Stem, ck, hold, flag, first_flag, new_hold, gated, output_defaults, operator_outputs, call_on, held_pre, pre_on, arrow_on, rewrite, rewrites, Shape, bare, other, calls, shape_of, operand_type, declared, if_of}
+use Rattle.definitions.specs.InferClocks.{pre_untyped, no_output_default}
+use Rattle.definitions.specs.Declock.{State, Hold, Rewritten, stopped, done, Rewriter, after, need as require, clock_place, add_with_parents, Stem, ck, hold, flag, first_flag, new_hold, gated, output_defaults, operator_outputs, call_on, held_pre, pre_on, arrow_on, rewrite, rewrites, operand_type, declared, if_of}
 use Rattle.index.specs.Callees.{is_there}
-use Rattle.stateless.specs.declared.Turn.{Turn}
 use Rattle.stateless.specs.Need.{Needs, needs_of, with_flag, with_hold, with_first, with_gate, settled, is_bare, pre_turn, arrow_turn, call_turn, needed, needed_all}
 
 -- where no fault was met, this is needed then

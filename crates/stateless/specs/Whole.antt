@@ -2,7 +2,7 @@
 use Rattle.std.specs.Prelude.{ℕ, false, eqb}
 use mathlib.Core.List.{List, [], ◌∷◌}
 use Rattle.definitions.specs.Lists.{choose}
-use Rattle.definitions.specs.Tree.{TypeDef, Expr, Equation, Node}
+use Rattle.definitions.specs.Tree.{TypeDef, Expr, Node}
 use Rattle.definitions.specs.Clock.{Clock, is_base}
 use Rattle.definitions.specs.InferClocks.{Clocked}
 use Rattle.definitions.specs.Declock.{Shape, bare, other, calls}

@@ -1,12 +1,12 @@
 -- Rewriting an expression without a state: the ids of new names are known, and so is how many holds there are before.
-use Rattle.std.specs.Prelude.{ℕ, suc, Bool, true, false, eqb}
+use Rattle.std.specs.Prelude.{ℕ, suc, Bool, eqb}
 use mathlib.Core.List.{List, [], ◌∷◌, ◌++◌}
 use Rattle.std.proofs.Math.Option.{Option, none, some}
 use Rattle.definitions.specs.declared.Primitive.{Primitive}
 use Rattle.definitions.specs.declared.Literal.{Literal}
 use Rattle.definitions.specs.Lists.{choose}
-use Rattle.definitions.specs.Tree.{Ty, Declared, TypeDef, Head, Expr, Exprs, Equation, Node}
-use Rattle.definitions.specs.Clock.{Clock, base, ◌↓◌, parent, is_on, is_not, is_base}
+use Rattle.definitions.specs.Tree.{Ty, Declared, TypeDef, Expr, Exprs, Equation, Node}
+use Rattle.definitions.specs.Clock.{Clock, ◌↓◌, parent, is_on, is_not, is_base}
 use Rattle.definitions.specs.Types.{default}
 use Rattle.definitions.specs.InferClocks.{Clocked}
 use Rattle.definitions.specs.Declock.{Hold, Shape, bare, other, calls, shape_of, if_of, declared, last_type, operand_type, operator_outputs}

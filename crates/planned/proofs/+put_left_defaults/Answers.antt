@@ -1,8 +1,6 @@
 -- `planned::put_left_defaults` meets its contract: the first, then the others. The measure is how many are left.
 -- Assumes nothing.
 use Rattle.planned.proofs.LeftDefaultsLaws.{first-name, no_name, wrote-lefts, wrote-no-left}
-use borrow.Author.Rules.{rules}
-use Prim.Native.Nat.{ℕ}
 use Rattle.planned.proofs.+put_left_defaults.Goals as goal
 
 pub returns-then-count-eq0 : goal.returns-then-count-eq0

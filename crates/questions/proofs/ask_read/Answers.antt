@@ -3,7 +3,6 @@ use mathlib.Core.Path.{sym, ◌∙◌}
 use native.Mathlib.Omega.{arith}
 use Rattle.questions.proofs.Front.{fit, tree-there}
 use Rattle.questions.proofs.Asked.{rewrite-asked}
-use borrow.Author.Tests.{not-true}
 use Rattle.questions.proofs.ask_read.Goals as goal
 
 pub front_uses_clocks-requires : goal.front_uses_clocks-requires

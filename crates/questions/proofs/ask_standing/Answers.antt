@@ -1,6 +1,5 @@
 -- `questions::ask_standing` meets its contract. Assumes nothing.
 use native.Mathlib.Omega.{arith}
-use borrow.Author.Tests.{leb-true}
 use Rattle.questions.proofs.ask_standing.Goals as goal
 
 pub returns-then-names-le-SMALL_NAMES : goal.returns-then-names-le-SMALL_NAMES

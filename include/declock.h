@@ -38,9 +38,8 @@ extern "C" {
 #define DECLOCK_FAULTS 16
 
 /* Stack for any call: more than twice the most that we measured; it is measured (bench/stack) and not proved. A usual sheet takes less.
- * What calls itself: walks, down the levels of an expression, of which there are at most 32; reading, also once an operand; writing a
- * default, down the type and once a field. The most, on 334 sheets that go deep in these ways: declock_rewrite 1.7 MB, declock_clocks,
- * declock_listing, declock_listings and declock_text 1.6 MB. */
+ * What calls itself: walks and reading, down the levels of an expression, of which there are at most 32; writing a default, down the
+ * type. The most, on 334 sheets that go deep in these ways: 1.6 MB, of each function. */
 #define DECLOCK_STACK_BYTES 4194304
 
 /* Why a sheet is turned down, in checking order: the first that applies is answered. After each, what *place is. */

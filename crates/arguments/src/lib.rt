@@ -1,13 +1,18 @@
-// What the programs share: what a word of a command line says, the front of lent bytes, bytes read until a buffer is full.
+// What the programs share: what a word of a command line says, the front of lent bytes, a refusal's line, bytes read until a buffer is
+// full.
 #![tactic(auto)]
 
-ghost use Rattle.std.specs.Prelude.{◌≡◌, ◌+◌, ◌*◌, ◌-◌, ◌≤◌, ◌<◌, min, length, take, drop, IfOk, OnOk, IfSome};
+ghost use Rattle.std.specs.Prelude.{◌≡◌, ◌+◌, ◌*◌, ◌-◌, ◌≤◌, ◌<◌, ℕ, min, length, take, drop, replicate, IfOk, OnOk, IfSome};
 ghost use Rattle.std.specs.Io.{ReadsAtMost};
 ghost use Rattle.std.specs.Io.KnownBytes.{Appends, Consumes, IsAtEnd};
 ghost use Rattle.definitions.specs.Lists.{Letters};
 ghost use Rattle.definitions.specs.Bytes.{is_digit};
+ghost use Rattle.spelling.specs.Writing.{Put};
+ghost use Rattle.refusals.specs.Reasons.{reason_line};
 ghost use Rattle.arguments.specs.Words.{most, number_of, meaning_of};
 
+use definitions::Refusal;
+use spelling::TextWriter;
 use std::env::{Env, FillError};
 use std::io;
 use std::io::{Read, Write};
@@ -26,20 +31,14 @@ const MOST: usize = 1000000000000000000;
 fn is_digit(b: u8) -> bool
     ensures { result ≡ is_digit b }
 {
-    if b < 48 {
-        return false;
-    }
-    b <= 57
+    b.is_ascii_digit()
 }
 
 // What a digit stands for.
 fn worth(b: u8) -> usize
     ensures { (result ≡ b - 48) × (result ≤ 255) }
 {
-    if b < 48 {
-        return 0;
-    }
-    (b - 48) as usize
+    b.saturating_sub(b'0') as usize
 }
 
 // A number with one digit more behind it.
@@ -47,11 +46,11 @@ fn extended(n: usize, b: u8) -> usize
     requires { n ≤ most }
     ensures { result ≡ min (n * 10 + (b - 48)) most }
 {
-    let m = n * 10 + worth(b);
-    if m < MOST { m } else { MOST }
+    (n * 10 + worth(b)).min(MOST)
 }
 
 // The number that a word writes in decimal, if it does.
+// Stays (no plainer): str::parse takes a sign before the digits, and turns down numbers that are to be told as the largest.
 fn number(word: &[u8]) -> Word
     ensures { result ≡ number_of word.now }
 {
@@ -72,7 +71,7 @@ fn number(word: &[u8]) -> Word
 pub fn meaning(word: &[u8]) -> Word
     ensures { result ≡ meaning_of word.now }
 {
-    if parts::same(word, b"--help") {
+    if word == b"--help".as_slice() {
         return Word::Help;
     }
     number(word)
@@ -94,10 +93,7 @@ pub fn argument(env: &impl Env, i: usize) -> Option<Word>
 pub fn front(bytes: &[u8], n: usize) -> &[u8]
     ensures { result.now ≡ take n bytes.now }
 {
-    if n < bytes.len() {
-        return &bytes[..n];
-    }
-    bytes
+    &bytes[..n.min(bytes.len())]
 }
 
 // Writes the first n bytes, or all where there are fewer.
@@ -107,6 +103,20 @@ pub fn show<W: Write>(writer: &mut W, bytes: &[u8], n: usize) -> io::Result<()>
     writer.write_all(front(bytes, n))
 }
 
+// Writes a refusal's line, `refused NUMBER PLACE: REASON`.
+pub fn refuse<W: Write>(errors: &mut W, r: Refusal) -> io::Result<()>
+    ensures { OnOk result ((line : Letters) × (n : ℕ) × Put (reason_line r) 0 (replicate 256 0) n line × Appends (W.contents errors.old) (W.contents errors.new) (take n line)) }
+{
+    let mut line = [0u8; 256];
+    let mut text = TextWriter {
+        out: &mut line,
+        at: 0,
+    };
+    refusals::put_reason(&mut text, r);
+    let n = text.place();
+    show(errors, &line, n)
+}
+
 // Reads until these bytes are full or the input ends: how many were read.
 pub fn read_full<R: Read>(reader: &mut R, bytes: &mut [u8]) -> io::Result<usize>
     ensures prefix_len { ReadsAtMost result bytes.new }
@@ -114,6 +124,7 @@ pub fn read_full<R: Read>(reader: &mut R, bytes: &mut [u8]) -> io::Result<usize>
     ensures end { IfOk result (λ n. n < length bytes.new → IsAtEnd (R.remaining reader.new)) }
 {
     let mut done = 0;
+    // Stays (no plainer): each reading says how far the place goes on, and one that is refused ends it.
     while done < bytes.len() {
         let n = reader.read(&mut bytes[done..])?;
         if n == 0 {

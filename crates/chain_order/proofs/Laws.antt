@@ -7,25 +7,30 @@ use Prim.Native.Nat.compare
 use Prim.Native.Nat.{ℕ, zero, suc, ◌+◌, ◌-◌, ◌*◌, ◌≤◌, ◌<◌, compare, Ordering}
 use native.Mathlib.Omega.{arith}
 use native.Mathlib.Numerals.{add-one, sub-one}
-use lib.ListN.{length, get_or, set, drop, length-set}
-use lib.Seq.{drop-cons, get_or-set_same, get_or-set_other}
+use lib.ListN.{length, get_or}
 use lib.Dec.{eqb, ltb}
 use borrow.Author.Tests.{eqb-true, eqb-false, ltb-true, ltb-false}
 use Rattle.definitions.specs.declared.Condition.{Condition}
+use Rattle.definitions.specs.declared.Test.{Test}
+use Rattle.definitions.specs.contracts.TestOrd.TheImpl as derived
 use Rattle.definitions.specs.Lists.{Letters, sum}
 use Rattle.definitions.specs.Bytes.{cut}
 use Rattle.definitions.specs.Output.{letters_of}
-use Rattle.definitions.specs.Clock.{Clock, conditions, and_then, lexical, condition_order, chain_order, insert, in_chain_order}
+use Rattle.definitions.specs.Clock.{Clock, conditions, and_then, lexical, condition_order, test_order, chain_order, insert, in_chain_order}
 use Rattle.clock_tables.specs.Value.{at, clock_at}
 use Rattle.clock_tables.specs.Flat.{condition_at, conditions_from}
 use Rattle.clock_tables.proofs.FlatLaws.{at_from}
 use Rattle.spelling.specs.Places.{starts_from, letters_at}
 use Rattle.spelling.proofs.Places.{letters-name}
-use Rattle.clock_tables.specs.Rows.{clocks_from, clocks_in}
+use Rattle.clock_tables.specs.Rows.{clocks_from}
 use Rattle.clock_tables.proofs.RowsLaws.{from-none, from_more}
-use Rattle.chain_order.specs.declared.Order.{Order}
-use Rattle.chain_order.specs.declared.Place.{Place}
-use Rattle.chain_order.specs.Order.{order_of, is_same, row_of, picked, FirstBelow, Shifted, Sought}
+use Rattle.std.proofs.Common.{nat_cmp, Ok, Err, min}
+use Rattle.std.specs.declared.cmp.Ordering as cmp
+use Rattle.std.specs.declared.cmp.Ordering.TheVariants.{Less, Equal, Greater}
+use Rattle.std.specs.Cmp.{nat_cmp_is}
+use Rattle.std.specs.Ordering.{is_ne, ordering_then}
+use Rattle.std.specs.Cmp.Lexicographic.{slice_cmp}
+use Rattle.chain_order.specs.Order.{answer_of, row_of, picked, FirstBelow, Shifted, Sought}
 
 -- ---- numbers
 pub compare-less : (a b : ℕ) → a < b → compare a b ≡ Ordering.lt
@@ -46,64 +51,55 @@ compare_same zero (suc b) h l = absurd (omega arith)
 compare_same (suc a) zero h l = absurd (omega arith)
 compare_same (suc a) (suc b) h l = compare.suc-suc a b ∙ compare_same a b (omega arith) (omega arith)
 
--- ---- letters
-pub letters-same : (l : Letters) → lexical compare l l ≡ Ordering.eq
+-- std's order of numbers and of letters
+pub numbers-cmp : (a b : ℕ) → nat_cmp a b ≡ answer_of (compare a b)
+numbers-cmp a b = go (ltb a b) refl (ltb b a) refl
+  where
+    go : (t : Bool) → ltb a b ≡ t → (u : Bool) → ltb b a ≡ u → nat_cmp a b ≡ answer_of (compare a b)
+    go true p u q = let l : a < b = ltb-true a b p in sym (nat_cmp_is a b Less l) ∙ ap answer_of (sym (compare-less a b l))
+    go false p true q = let l : b < a = ltb-true b a q in sym (nat_cmp_is a b Greater l) ∙ ap answer_of (sym (compare-more a b l))
+    go false p false q =
+        let l : b ≤ a = ltb-false a b p in
+        let m : a ≤ b = ltb-false b a q in
+        let e : a ≡ b = omega arith in
+        sym (nat_cmp_is a b Equal e) ∙ ap answer_of (sym (compare_same a b l m))
+
+then-answer : (o p : Ordering) → ordering_then (answer_of o) (answer_of p) ≡ answer_of (and_then o p)
+then-answer Ordering.lt p = refl
+then-answer Ordering.eq p = refl
+then-answer Ordering.gt p = refl
+
+pub letters-cmp : (x y : Letters) → slice_cmp nat_cmp x y ≡ answer_of (lexical compare x y)
 unfolding lexical
-letters-same [] = refl
-letters-same (a ∷ l) = rw (compare_same a a (omega arith) (omega arith)) (letters-same l)
+letters-cmp [] [] = refl
+letters-cmp [] (b ∷ y) = refl
+letters-cmp (a ∷ x) [] = refl
+letters-cmp (a ∷ x) (b ∷ y) = rw (numbers-cmp a b, letters-cmp x y) (then-answer (compare a b) (lexical compare x y))
 
-drop_past : (x : List ℕ) (i : ℕ) → length x ≤ i → drop i x ≡ []
-drop_past [] zero h = refl
-drop_past [] (suc i) h = refl
-drop_past (a ∷ x) zero h = absurd (omega arith)
-drop_past (a ∷ x) (suc i) h = drop_past x i (omega arith)
+-- "on before not"
+pub tests-cmp : (a b : Test) → derived.cmp-value.it a b ≡ answer_of (test_order a b)
+tests-cmp Test.On Test.On = refl
+tests-cmp Test.On Test.Not = refl
+tests-cmp Test.Not Test.On = refl
+tests-cmp Test.Not Test.Not = refl
 
-module _ (x y : List ℕ) where
-  -- the letters from i on decide
-  abbrev pub Alike : ℕ → Type 0
-  Alike i = lexical compare x y ≡ lexical compare (drop i x) (drop i y)
+-- names, and then tests
+pub conditions-cmp : (letters : ℕ → Letters) (k l : Condition) {x y : Letters} {o p r : cmp.Ordering} → x ≡ letters k.name → y ≡ letters l.name → o ≡ slice_cmp nat_cmp x y
+    → p ≡ answer_of (test_order k.test l.test) → r ≡ ordering_then o p → r ≡ answer_of (condition_order letters k l)
+conditions-cmp letters k l {x} {y} a b e f g =
+    g ∙ rw (e, f, a, b, letters-cmp (letters k.name) (letters l.name)) (then-answer (lexical compare (letters k.name) (letters l.name)) (test_order k.test l.test))
 
-  module _ (i : ℕ) (h : Alike i) where
-    pub letters-end : length x ≤ i → length y ≤ i → lexical compare x y ≡ Ordering.eq
-    unfolding lexical
-    letters-end p q = h ∙ rw (drop_past x i p, drop_past y i q)
+-- an answer is `Equal` where the orders are
+pub answer-eq : (o : Ordering) {r : cmp.Ordering} {t : Bool} → r ≡ answer_of o → t ≡ is_ne r → t ≡ false → o ≡ Ordering.eq
+answer-eq Ordering.lt e f g = absurd (let z : ◌≡◌ {A = ℕ} 0 1 = cc in omega arith)
+answer-eq Ordering.eq e f g = refl
+answer-eq Ordering.gt e f g = absurd (let z : ◌≡◌ {A = ℕ} 0 1 = cc in omega arith)
 
-    pub letters-less : length x ≤ i → i < length y → lexical compare x y ≡ Ordering.lt
-    unfolding lexical
-    letters-less p q = h ∙ rw (drop_past x i p, drop-cons y i 0 q)
-
-    module _ (p : i < length x) where
-      pub letters-more : length y ≤ i → lexical compare x y ≡ Ordering.gt
-      unfolding lexical
-      letters-more q = h ∙ rw (drop-cons x i 0 p, drop_past y i q)
-
-      module _ (q : i < length y) where
-        step : lexical compare x y ≡ and_then (compare (get_or x i 0) (get_or y i 0)) (lexical compare (drop (suc i) x) (drop (suc i) y))
-        unfolding lexical
-        step = h ∙ rw (drop-cons x i 0 p, drop-cons y i 0 q)
-
-        pub letter-less : get_or x i 0 < get_or y i 0 → lexical compare x y ≡ Ordering.lt
-        letter-less u = step ∙ rw (compare-less _ _ u)
-
-        pub letter-more : get_or y i 0 < get_or x i 0 → lexical compare x y ≡ Ordering.gt
-        letter-more u = step ∙ rw (compare-more _ _ u)
-
-        pub letter-same : get_or y i 0 ≤ get_or x i 0 → get_or x i 0 ≤ get_or y i 0 → Alike (i + 1)
-        letter-same u v = step ∙ rw (compare_same _ _ u v, add-one i)
-
-pub letters-both : (x y x' y' : Letters) → x ≡ x' → y ≡ y' → lexical compare x y ≡ lexical compare x' y'
-letters-both x y x' y' p q = rw (p, q)
-
--- ---- the first order, and where it says same, the second
-pub then_same : (o : Order) (r : Ordering) → is_same o ≡ true → and_then (order_of o) r ≡ r
-then_same Order.Less r h = absurd (let z : ◌≡◌ {A = ℕ} 0 1 = cc in omega arith)
-then_same Order.Same r h = refl
-then_same Order.More r h = absurd (let z : ◌≡◌ {A = ℕ} 0 1 = cc in omega arith)
-
-pub then-other : (o : Order) (r : Ordering) → is_same o ≡ false → and_then (order_of o) r ≡ order_of o
-then-other Order.Less r h = refl
-then-other Order.Same r h = absurd (let z : ◌≡◌ {A = ℕ} 0 1 = cc in omega arith)
-then-other Order.More r h = refl
+-- the first order decides where it does not say same
+then-other : (o p : Ordering) {r : cmp.Ordering} {t : Bool} → r ≡ answer_of o → t ≡ is_ne r → t ≡ true → and_then o p ≡ o
+then-other Ordering.lt p e f g = refl
+then-other Ordering.eq p e f g = absurd (let z : ◌≡◌ {A = ℕ} 0 1 = cc in omega arith)
+then-other Ordering.gt p e f g = refl
 
 -- ---- conditions
 -- n conditions, from i on
@@ -169,34 +165,42 @@ module _ (letters : ℕ → Letters) (ks ls : List Condition) (d e : ℕ) where
           let z : e - i ≡ 0 = omega arith in
           h ∙ rw (firsts_more ks i (d - i) y, firsts-none ls i (e - i) z)
 
-      module _ (q : i < e) (o : Order) (r : order_of o ≡ condition_order letters (at ks i) (at ls i)) where
-        chain-step : chain_order letters (clock_at ks d) (clock_at ls e) ≡ and_then (order_of o) (lexical (condition_order letters) (firsts ks (i + 1) (d - (i + 1))) (firsts ls (i + 1) (e - (i + 1))))
+      module _ (q : i < e) where
+        chain-step : chain_order letters (clock_at ks d) (clock_at ls e) ≡ and_then (condition_order letters (at ks i) (at ls i)) (lexical (condition_order letters) (firsts ks (i + 1) (d - (i + 1))) (firsts ls (i + 1) (e - (i + 1))))
         unfolding lexical
         chain-step =
             let y : 0 < d - i = omega arith in
             let z : 0 < e - i = omega arith in
             let m : d - i - 1 ≡ d - (i + 1) = omega arith in
             let n : e - i - 1 ≡ e - (i + 1) = omega arith in
-            h ∙ rw (firsts_more ks i (d - i) y, firsts_more ls i (e - i) z, m, n, r)
+            h ∙ rw (firsts_more ks i (d - i) y, firsts_more ls i (e - i) z, m, n)
 
-        pub chain_same : is_same o ≡ true → Decides (i + 1)
-        chain_same u = chain-step ∙ then_same o _ u
+        module _ {r : cmp.Ordering} {t : Bool} (f : r ≡ answer_of (condition_order letters (at ks i) (at ls i))) (g : t ≡ is_ne r) where
+          pub chain_same : t ≡ false → Decides (i + 1)
+          chain_same u = let v : condition_order letters (at ks i) (at ls i) ≡ Ordering.eq = answer-eq (condition_order letters (at ks i) (at ls i)) f g u in chain-step ∙ rw v
 
-        pub chain-other : is_same o ≡ false → chain_order letters (clock_at ks d) (clock_at ls e) ≡ order_of o
-        chain-other u = chain-step ∙ then-other o _ u
+          pub chain-other : t ≡ true → r ≡ answer_of (chain_order letters (clock_at ks d) (clock_at ls e))
+          chain-other u = f ∙ ap answer_of (sym (chain-step ∙ then-other (condition_order letters (at ks i) (at ls i)) _ f g u))
+
+    -- all conditions of one are passed: the depths decide
+    pub chain-depths : i ≡ min d e → nat_cmp d e ≡ answer_of (chain_order letters (clock_at ks d) (clock_at ls e))
+    chain-depths f = go (ltb d e) refl (ltb e d) refl
+      where
+        go : (t : Bool) → ltb d e ≡ t → (u : Bool) → ltb e d ≡ u → nat_cmp d e ≡ answer_of (chain_order letters (clock_at ks d) (clock_at ls e))
+        go true p u q = let l : d < e = ltb-true d e p in sym (nat_cmp_is d e Less l) ∙ ap answer_of (sym (chain-less (omega arith) (omega arith)))
+        go false p true q = let l : e < d = ltb-true e d q in sym (nat_cmp_is d e Greater l) ∙ ap answer_of (sym (chain_more (omega arith) (omega arith)))
+        go false p false q =
+            let l : e ≤ d = ltb-false d e p in
+            let m : d ≤ e = ltb-false e d q in
+            let n : d ≡ e = omega arith in
+            sym (nat_cmp_is d e Equal n) ∙ ap answer_of (sym (chain-end (omega arith) (omega arith)))
 
 -- the condition in a row of a table
 pub row-condition : (rows : List ℕ) (a x i : ℕ) (k : Condition) → a ≡ 17 * x → i < 8 → k ≡ condition_at rows (a + 1 + 2 * i) → k ≡ at (conditions_from rows (17 * x + 1) 8) i
 row-condition rows a x i k e l h = h ∙ rw e (sym (at_from rows (17 * x + 1) 8 i l))
 
-pub conditions-both : (letters : ℕ → Letters) (o : Order) (k l k' l' : Condition) → order_of o ≡ condition_order letters k l → k ≡ k' → l ≡ l' → order_of o ≡ condition_order letters k' l'
-conditions-both letters o k l k' l' h p q = h ∙ rw (p, q)
-
-pub under_same : (d e i : ℕ) → d ≡ e → i < d → i < e
-under_same d e i p h = omega arith
-
-pub over-same : (d e i : ℕ) → d ≡ e → d ≤ i → e ≤ i
-over-same d e i p h = omega arith
+pub conditions-both : (letters : ℕ → Letters) {r : cmp.Ordering} (k l k' l' : Condition) → r ≡ answer_of (condition_order letters k l) → k ≡ k' → l ≡ l' → r ≡ answer_of (condition_order letters k' l')
+conditions-both letters k l k' l' h p q = h ∙ rw (p, q)
 
 -- ---- words of a list
 module _ (f : ℕ → Clock) where
@@ -267,7 +271,7 @@ module _ (letters : ℕ → Letters) (rows o : List ℕ) (k : ℕ) (c : Clock) w
   gone-none = let e : k - 0 ≡ k = omega arith in rw (e, picked_none (row_of rows) o 0 0 refl)
 
   module _ (j : ℕ) (h : Gone j) where
-    pub sought-end : k ≤ j → j ≤ k → Sought letters rows o k c (Place.Before k)
+    pub sought-end : k ≤ j → j ≤ k → Sought letters rows o k c (Err k)
     unfolding Sought
     sought-end p q =
         let e : j ≡ k = omega arith in
@@ -275,7 +279,7 @@ module _ (letters : ℕ → Letters) (rows o : List ℕ) (k : ℕ) (c : Clock) w
         let y : k - k ≡ 0 = omega arith in
         (omega arith, h ∙ rw (picked_none (row_of rows) o j (k - j) z, insert-none letters c, picked_none (row_of rows) o k (k - k) y, e))
 
-    module _ (l : j < k) (d : Clock) (e : d ≡ row_of rows (get_or o j 0)) (r : Order) (q : order_of r ≡ chain_order letters c d) where
+    module _ (l : j < k) (d : Clock) (e : d ≡ row_of rows (get_or o j 0)) where
       tail : List Clock
       tail = picked (row_of rows) o (j + 1) (k - j - 1)
 
@@ -283,25 +287,22 @@ module _ (letters : ℕ → Letters) (rows o : List ℕ) (k : ℕ) (c : Clock) w
       unfolding tail
       head = let z : 0 < k - j = omega arith in picked_more (row_of rows) o j (k - j) z ∙ rw e
 
-      pub sought-less : r ≡ Order.Less → Sought letters rows o k c (Place.Before j)
+      pub sought-less : chain_order letters c d ≡ Ordering.lt → Sought letters rows o k c (Err j)
       unfolding Sought
-      sought-less u =
-          let v : chain_order letters c d ≡ Ordering.lt = sym q ∙ ap order_of u in
+      sought-less v =
           (omega arith, h ∙ rw (head, insert-less letters c d tail v))
 
-      pub sought-same : r ≡ Order.Same → Sought letters rows o k c Place.There
+      pub sought-same : (i : ℕ) → chain_order letters c d ≡ Ordering.eq → Sought letters rows o k c (Ok i)
       unfolding Sought
-      sought-same u =
-          let v : chain_order letters c d ≡ Ordering.eq = sym q ∙ ap order_of u in
+      sought-same i v =
           let n : j + (k - j) ≡ k = omega arith in
           let m : 0 + j ≡ j = omega arith in
           let s : picked (row_of rows) o 0 k ≡ picked (row_of rows) o 0 j ++ picked (row_of rows) o j (k - j) = rw (n, m) at (picked-split (row_of rows) o 0 j (k - j)) in
           h ∙ (ap (λ (x : List Clock). picked (row_of rows) o 0 j ++ x) (ap (insert letters c) head ∙ (insert-same letters c d tail v ∙ sym head)) ∙ sym s)
 
-      pub gone-more : r ≡ Order.More → Gone (j + 1)
+      pub gone-more : chain_order letters c d ≡ Ordering.gt → Gone (j + 1)
       unfolding tail
-      gone-more u =
-          let v : chain_order letters c d ≡ Ordering.gt = sym q ∙ ap order_of u in
+      gone-more v =
           let m : 0 + j ≡ j = omega arith in
           let n : k - j - 1 ≡ k - (j + 1) = omega arith in
           let s : picked (row_of rows) o 0 (j + 1) ≡ picked (row_of rows) o 0 j ++ (d ∷ []) = rw (add-one j) (picked_last (row_of rows) o 0 j ∙ rw (m, e)) in
@@ -316,32 +317,6 @@ module _ (o t : List ℕ) (k i : ℕ) where
   abbrev pub High : Type 0
   High = (m : ℕ) → i ≤ m → m < k → get_or t (m + 1) 0 ≡ get_or o m 0
 
-module _ (o t : List ℕ) (k i : ℕ) (z : 0 < i) (l : i < length t) (p : Low o t k i) (q : High o t k i) where
-  pub low-less : Low o (set t i (get_or t (i - 1) 0)) k (i - 1)
-  low-less m u = let n : m ≡ i → ⊥ = omega arith in get_or-set_other t i m (get_or t (i - 1) 0) 0 n ∙ p m (omega arith)
-
-  pub high-less : High o (set t i (get_or t (i - 1) 0)) k (i - 1)
-  high-less m u v = go (eqb m (i - 1)) refl
-    where
-      go : (b : Bool) → eqb m (i - 1) ≡ b → get_or (set t i (get_or t (i - 1) 0)) (m + 1) 0 ≡ get_or o m 0
-      go true w =
-          let e : m ≡ i - 1 = eqb-true m (i - 1) w in
-          let f : m + 1 ≡ i = omega arith in
-          rw (f, get_or-set_same t i (get_or t (i - 1) 0) 0 l, ← e) (p m (omega arith))
-      go false w =
-          let e : m ≡ i - 1 → ⊥ = eqb-false m (i - 1) w in
-          let n : m + 1 ≡ i → ⊥ = omega arith in
-          get_or-set_other t i (m + 1) (get_or t (i - 1) 0) 0 n ∙ q m (omega arith) v
-
-pub shifted : (o t : List ℕ) (j k i x : ℕ) → i ≡ j → j < length t → length t ≡ length o → Low o t k i → High o t k i → Shifted o (set t j x) j k x
-shifted o t j k i x e l n p q =
-    record {
-      same_length = simp length-set n;
-      before = λ m u. let d : m ≡ j → ⊥ = omega arith in get_or-set_other t j m x 0 d ∙ p m (omega arith);
-      here = get_or-set_same t j x 0 l;
-      after = λ m u v. let d : m + 1 ≡ j → ⊥ = omega arith in get_or-set_other t j (m + 1) x 0 d ∙ q m (omega arith) v;
-    }
-
 pub below-shifted : (o o' : List ℕ) (j k x m : ℕ) → Shifted o o' j k x → x < m → FirstBelow o k m → j ≤ k → FirstBelow o' (k + 1) m
 below-shifted o o' j k x m s l b w i u = go (ltb i j) refl (eqb i j) refl
   where
@@ -355,12 +330,12 @@ below-shifted o o' j k x m s l b w i u = go (ltb i j) refl (eqb i j) refl
         rw e (b (i - 1) (omega arith))
 
 -- ---- putting a row into its place
-pub sought-within : (letters : ℕ → Letters) (rows o : List ℕ) (k : ℕ) (c : Clock) (j : ℕ) → Sought letters rows o k c (Place.Before j) → j ≤ k
+pub sought-within : (letters : ℕ → Letters) (rows o : List ℕ) (k : ℕ) (c : Clock) (j : ℕ) → Sought letters rows o k c (Err j) → j ≤ k
 unfolding Sought
 sought-within letters rows o k c j s = s.0
 
 module _ (letters : ℕ → Letters) (rows o : List ℕ) (k x : ℕ) (c : Clock) (e : c ≡ row_of rows x) where
-  pub inserted : (o' : List ℕ) (j : ℕ) → Sought letters rows o k c (Place.Before j) → Shifted o o' j k x → picked (row_of rows) o' 0 (k + 1) ≡ insert letters (row_of rows x) (picked (row_of rows) o 0 k)
+  pub inserted : (o' : List ℕ) (j : ℕ) → Sought letters rows o k c (Err j) → Shifted o o' j k x → picked (row_of rows) o' 0 (k + 1) ≡ insert letters (row_of rows x) (picked (row_of rows) o 0 k)
   unfolding Sought
   inserted o' j (l, h) s =
       let f = row_of rows in
@@ -375,9 +350,9 @@ module _ (letters : ℕ → Letters) (rows o : List ℕ) (k x : ℕ) (c : Clock)
       further : (i : ℕ) → i < k - j → get_or o' (j + 1 + i) 0 ≡ get_or o (j + i) 0
       further i u = let w : j + 1 + i ≡ j + i + 1 = omega arith in rw w (s.after (j + i) (omega arith) (omega arith))
 
-  pub stays : Sought letters rows o k c Place.There → picked (row_of rows) o 0 k ≡ insert letters (row_of rows x) (picked (row_of rows) o 0 k)
+  pub stays : (i : ℕ) → Sought letters rows o k c (Ok i) → picked (row_of rows) o 0 k ≡ insert letters (row_of rows x) (picked (row_of rows) o 0 k)
   unfolding Sought
-  stays h = sym (rw e at h)
+  stays i h = sym (rw e at h)
 
 -- ---- sorting
 module _ (letters : ℕ → Letters) (rows : List ℕ) (n : ℕ) where
@@ -392,9 +367,6 @@ module _ (letters : ℕ → Letters) (rows : List ℕ) (n : ℕ) where
       let b : i - 1 + 1 ≡ i = omega arith in
       let d : n - (i - 1) - 1 ≡ n - i = omega arith in
       rw (from_more rows (i - 1) (n - (i - 1)) a, b, d)
-
-  pub sort-all : (i : ℕ) → i ≡ 0 → in_chain_order letters (clocks_from rows i (n - i)) ≡ in_chain_order letters (clocks_in rows n)
-  sort-all i z = let e : n - 0 ≡ n = omega arith in rw (z, e)
 
 -- the letters by starts are those of the sheet's names
 pub letters-of : (lens letters : List ℕ) → sum lens ≤ length letters → letters_at (starts_from 0 lens) letters ≡ letters_of (cut lens letters)

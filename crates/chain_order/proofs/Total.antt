@@ -16,7 +16,7 @@ use Rattle.chain_order.specs.Order.{row_of, picked, InOrder}
 use Rattle.chain_order.proofs.Laws.{compare-more}
 
 -- the order of the two the other way round
-abbrev swap : Ordering → Ordering
+abbrev pub swap : Ordering → Ordering
 swap Ordering.lt = Ordering.gt
 swap Ordering.eq = Ordering.eq
 swap Ordering.gt = Ordering.lt

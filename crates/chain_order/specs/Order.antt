@@ -1,22 +1,18 @@
 -- The order of chains over tables.
 use Prim.Native.Nat.{ℕ, zero, suc, ◌+◌, ◌-◌, ◌*◌, ◌≤◌, ◌<◌, Ordering}
-use Rattle.std.specs.Prelude.{◌≡◌, Bool, true, false, List, [], ◌∷◌, ◌++◌, length, get_or}
+use Rattle.std.specs.Prelude.{◌≡◌, Result, Ok, Err, List, [], ◌∷◌, ◌++◌, length, get_or}
 use Rattle.definitions.specs.Lists.{Letters}
 use Rattle.definitions.specs.Clock.{Clock, chain_order, insert}
 use Rattle.clock_tables.specs.Flat.{clock_in}
-use Rattle.chain_order.specs.declared.Order.{Order}
-use Rattle.chain_order.specs.declared.Place.{Place}
+use Rattle.chain_order.specs.declared.OrderedClocks.{OrderedClocks}
+use Rattle.std.specs.declared.cmp.Ordering as cmp
+use Rattle.std.specs.declared.cmp.Ordering.TheVariants.{Less, Equal, Greater}
 
--- the order that an enum stands for
-abbrev pub order_of : Order → Ordering
-order_of Order.Less = Ordering.lt
-order_of Order.Same = Ordering.eq
-order_of Order.More = Ordering.gt
-
-abbrev pub is_same : Order → Bool
-is_same Order.Less = false
-is_same Order.Same = true
-is_same Order.More = false
+-- an order as std's `Ordering` says it
+abbrev pub answer_of : Ordering → cmp.Ordering
+answer_of Ordering.lt = Less
+answer_of Ordering.eq = Equal
+answer_of Ordering.gt = Greater
 
 -- the clock in a row
 abbrev pub row_of : List ℕ → ℕ → Clock
@@ -26,6 +22,10 @@ row_of rows x = clock_in rows (17 * x)
 unfoldable pub picked : (ℕ → Clock) → List ℕ → ℕ → ℕ → List Clock
 picked f o i zero = []
 picked f o i (suc n) = f (get_or o i 0) ∷ picked f o (i + 1) n
+
+-- the clocks of ordered rows
+abbrev pub ordered_clocks : OrderedClocks → List Clock
+ordered_clocks o = picked (row_of o.rows.now) o.order.now 0 o.count
 
 -- the first k words are below m
 abbrev pub FirstBelow : List ℕ → ℕ → ℕ → Type 0
@@ -42,9 +42,9 @@ pub record Shifted (o o' : List ℕ) (j k x : ℕ) : Type 0 where
 abbrev pub InOrder : (ℕ → Letters) → List ℕ → List ℕ → ℕ → Type 0
 InOrder letters rows o k = (i j : ℕ) → i < j → j < k → chain_order letters (row_of rows (get_or o j 0)) (row_of rows (get_or o i 0)) ≡ Ordering.gt
 
--- a clock goes before the j-th of k rows, or is there
-unfoldable pub Sought : (ℕ → Letters) → List ℕ → List ℕ → ℕ → Clock → Place → Type 0
+-- a clock is there among k rows, or goes before the j-th of them
+unfoldable pub Sought : (ℕ → Letters) → List ℕ → List ℕ → ℕ → Clock → Result ℕ ℕ → Type 0
 unfolding insert
-Sought letters rows o k c (Place.Before j) =
+Sought letters rows o k c (Ok i) = insert letters c (picked (row_of rows) o 0 k) ≡ picked (row_of rows) o 0 k
+Sought letters rows o k c (Err j) =
     (j ≤ k) × (insert letters c (picked (row_of rows) o 0 k) ≡ picked (row_of rows) o 0 j ++ (c ∷ picked (row_of rows) o j (k - j)))
-Sought letters rows o k c Place.There = insert letters c (picked (row_of rows) o 0 k) ≡ picked (row_of rows) o 0 k

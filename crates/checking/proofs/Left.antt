@@ -1,5 +1,4 @@
 -- Left names among the tokens, and an equation's findings.
--- Assumes nothing.
 use mathlib.Core.Path.{◌≡◌, refl, sym, ◌∙◌, ap, subst}
 use mathlib.Core.List.{List, [], ◌∷◌, ◌++◌, append_assoc, append-nil}
 use mathlib.Core.Bool.{Bool, true, false}
@@ -18,15 +17,15 @@ use Rattle.definitions.specs.Tree.{Expr, Equation, Node}
 use Rattle.definitions.specs.Reading.{got, rejected, Reader, times}
 use Rattle.definitions.specs.Grammar.{counted, value_at, tagged, name, equation, most_left}
 use Rattle.definitions.specs.Clock.{Clock}
-use Rattle.definitions.specs.InferClocks.{Clocks, is_port, left_elsewhere, Finding, must_be_on, check, check_left, check_equation}
+use Rattle.definitions.specs.InferClocks.{Clocks, clock_of, is_port, left_elsewhere, Finding, must_be_on, check, check_left, check_equation}
 use Rattle.findings.specs.Findings.{FindingsHeld}
 use Rattle.grammar.proofs.Laws.{after-got, wrap-got, tokens-length}
 use Rattle.grammar.proofs.Longer.{token-got, counted-grows}
 use Rattle.grammar.proofs.Got.{counted-value}
 use Rattle.operands.specs.Spread.{tree}
 use Rattle.operands.proofs.Laws.{token-there}
-use Rattle.checking.specs.declared.CheckedTo.{CheckedTo}
-use Rattle.checking.specs.Walk.{Checked}
+use Rattle.clock_tables.specs.Environment.{env_at, Agrees}
+use Rattle.checking.specs.Walk.{PortMarks}
 
 -- no reading, and one before others
 pub times-nil : {A : Type 0} (r : Reader A) (ts : List TagValue) (n p : ℕ) (l : List A) (q : ℕ) → n ≡ 0 → times n r ts p ≡ got l q → (l ≡ []) × (q ≡ p)
@@ -58,16 +57,62 @@ name-there M gs vs same p x s g =
     go true false h e = let z : ◌≡◌ {A = ℕ} 0 1 = cc in absurd (omega arith)
     go false u h e = let z : ◌≡◌ {A = ℕ} 0 1 = cc in absurd (omega arith)
 
--- no left name, and one before others
-module _ (clocks : Clocks) (i : ℕ) (node : Node) (c : Clock) (t : List ℕ) (r : CheckedTo) (q : ℕ) (fs : List Finding) (xs : List ℕ) where
-  pub left-none : (p n : ℕ) → xs ≡ [] → q ≡ p → r ≡ record { end = p; count = n } → FindingsHeld t n fs → Checked t r q (fs ++ check_left clocks i node c xs)
-  unfolding check_left
-  left-none p n e j k h = rw (e, append-nil fs, j, k) (record { end = refl; holds = h })
+-- a left name, then those behind it
+left-more : (ports : List Bool) (i : ℕ) (c : Clock) (xs : List ℕ) (clocks : Clocks) (node : Node) (so_far fs : List Finding) (x y : ℕ) (rest all : List ℕ) → all ≡ x ∷ rest → y ≡ x → get_or ports y false ≡ is_port node x → so_far ++ check_left clocks i node c all ≡ fs ++ check_left clocks i node c xs →
+    (so_far ++ must_be_on clocks i c y (λ d. left_elsewhere y d c (get_or ports y false))) ++ check_left clocks i node c rest ≡ fs ++ check_left clocks i node c xs
+unfolding check_left
+left-more ports i c xs clocks node so_far fs x y rest all e j b h =
+    let p : must_be_on clocks i c y (λ d. left_elsewhere y d c (get_or ports y false)) ≡ must_be_on clocks i c x (λ d. left_elsewhere x d c (is_port node x)) =
+    ap (λ (u : Bool). must_be_on clocks i c y (λ d. left_elsewhere y d c u)) b ∙ ap (λ (u : ℕ). must_be_on clocks i c u (λ d. left_elsewhere u d c (is_port node x))) j in
+    ap (λ (l : List Finding). (so_far ++ l) ++ check_left clocks i node c rest) p
+    ∙ (append_assoc so_far (must_be_on clocks i c x (λ d. left_elsewhere x d c (is_port node x))) (check_left clocks i node c rest) ∙ (rw e at h))
 
-  pub left-more : (x y : ℕ) (rest : List ℕ) (b : Bool) → xs ≡ x ∷ rest → y ≡ x → b ≡ is_port node x
-      → Checked t r q ((fs ++ must_be_on clocks i c y (λ d. left_elsewhere y d c b)) ++ check_left clocks i node c rest) → Checked t r q (fs ++ check_left clocks i node c xs)
+-- what is still to do where some left names were gone over: those left stand there, and what is met of them is met behind all before
+pub record LeftGoing (M : ℕ) (gs vs env : List ℕ) (ports : List Bool) (i : ℕ) (c : Clock) (t : List ℕ) (n : ℕ) (t' : List ℕ) (n' : ℕ) (xs : List ℕ) (q left place : ℕ) : Type 0 where
+  pub rest : List ℕ
+  pub items : times left (name M) (tokens gs vs) place ≡ got rest q
+  pub held : (node : Node) (clocks : Clocks) (fs : List Finding) → Agrees env M clocks → PortMarks ports M node → FindingsHeld t n fs →
+      (so_far : List Finding) × FindingsHeld t' n' so_far × (so_far ++ check_left clocks i node c rest ≡ fs ++ check_left clocks i node c xs)
+
+module _ (M : ℕ) (gs vs env : List ℕ) (ports : List Bool) (i : ℕ) (c : Clock) (t : List ℕ) (n : ℕ) where
+  pub left-start : (count at : ℕ) (xs : List ℕ) (q : ℕ) → times count (name M) (tokens gs vs) at ≡ got xs q → LeftGoing M gs vs env ports i c t n t n xs q (count - 0) at
+  left-start count at xs q g = let k : count - 0 ≡ count = omega arith in record { rest = xs; items = rw k g; held = λ node clocks fs a b h. (fs, h, refl) }
+
+  module _ (t' : List ℕ) (n' : ℕ) (xs : List ℕ) (q count k place : ℕ) (l : k < count) (same : length vs ≡ length gs) (w : LeftGoing M gs vs env ports i c t n t' n' xs q (count - k) place) where
+    first-left : (a : ℕ) × (s : ℕ) × (rest : List ℕ) × (name M (tokens gs vs) place ≡ got a s) × (times (count - k - 1) (name M) (tokens gs vs) s ≡ got rest q) × (w.rest ≡ a ∷ rest)
+    first-left = times-cons (name M) (tokens gs vs) (count - k) place w.rest q (λ z. omega (arith, z)) w.items
+
+    pub left-there : place < length gs
+    left-there = let a = first-left in (name-there M gs vs same place a.0 a.1 a.3).1
+
+    -- one more
+    pub left_step : (t'' : List ℕ) (n'' : ℕ) →
+        ((clocks : Clocks) (fs : List Finding) → env_at env (get_or vs place 0) ≡ clock_of clocks (get_or vs place 0) → FindingsHeld t' n' fs → FindingsHeld t'' n'' (fs ++ must_be_on clocks i c (get_or vs place 0) (λ d. left_elsewhere (get_or vs place 0) d c (get_or ports (get_or vs place 0) false)))) →
+        LeftGoing M gs vs env ports i c t n t'' n'' xs q (count - (k + 1)) (place + 1)
+    left_step t'' n'' f =
+        let a = first-left in
+        let b = name-there M gs vs same place a.0 a.1 a.3 in
+        let u : count - k - 1 ≡ count - (k + 1) = omega arith in
+        record {
+          rest = a.2;
+          items = rw u at (rw b.0 at a.4);
+          held = λ node clocks fs g h e.
+              let z = w.held node clocks fs g h e in
+              let y = f clocks z.0 (rw b.2 (g.same a.0 b.3)) z.1 in
+              (_, y, left-more ports i c xs clocks node z.0 fs a.0 (get_or vs place 0) a.2 w.rest a.5 b.2 (ap (λ (x : ℕ). get_or ports x false) b.2 ∙ h.same a.0 b.3) z.2);
+        }
+
+  pub left-end : (t' : List ℕ) (n' : ℕ) (xs : List ℕ) (q left place : ℕ) → left ≡ 0 → LeftGoing M gs vs env ports i c t n t' n' xs q left place →
+      (place ≡ q) × ((node : Node) (clocks : Clocks) (fs : List Finding) → Agrees env M clocks → PortMarks ports M node → FindingsHeld t n fs → FindingsHeld t' n' (fs ++ check_left clocks i node c xs))
   unfolding check_left
-  left-more x y rest b e j k h = rw e (rw (j, k, append_assoc fs (must_be_on clocks i c x (λ d. left_elsewhere x d c (is_port node x))) (check_left clocks i node c rest)) at h)
+  left-end t' n' xs q left place z w =
+      let a = times-nil (name M) (tokens gs vs) left place w.rest q z w.items in (
+        sym a.1,
+        λ node clocks fs g h e.
+            let y = w.held node clocks fs g h e in
+            let b : y.0 ≡ fs ++ check_left clocks i node c xs = sym (append-nil y.0) ∙ (ap (λ (l : List ℕ). y.0 ++ check_left clocks i node c l) (sym a.0) ∙ y.2) in
+            rw b at y.1,
+      )
 
 -- an equation's parts
 pub equation-parts : (M : ℕ) (ts : List TagValue) (p : ℕ) (e : Equation) (q n s : ℕ) → equation M ts p ≡ got e q → counted 3 1 most_left ts p ≡ got n s →
@@ -120,7 +165,7 @@ equation-none M ts p e q t g h =
     let z : ◌≡◌ {A = ℕ} 0 1 = cc a.2 in omega arith
 
 -- its left names, then its right side
-pub equation-whole : (node : Node) (clocks : Clocks) (i : ℕ) (c : Clock) (e : Equation) (t : List ℕ) (r : CheckedTo) (q : ℕ) (fs : List Finding)
-    → Checked t r q ((fs ++ check_left clocks i node c e.left) ++ check clocks i c e.right) → Checked t r q (fs ++ check_equation node clocks i (record { clock = c; equation = e }))
+pub equation-whole : (node : Node) (clocks : Clocks) (i : ℕ) (c : Clock) (e : Equation) (t : List ℕ) (n : ℕ) (fs : List Finding)
+    → FindingsHeld t n ((fs ++ check_left clocks i node c e.left) ++ check clocks i c e.right) → FindingsHeld t n (fs ++ check_equation node clocks i (record { clock = c; equation = e }))
 unfolding check_equation
-equation-whole node clocks i c e t r q fs h = rw (append_assoc fs (check_left clocks i node c e.left) (check clocks i c e.right)) at h
+equation-whole node clocks i c e t n fs h = rw (append_assoc fs (check_left clocks i node c e.left) (check clocks i c e.right)) at h

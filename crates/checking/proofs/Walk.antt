@@ -1,5 +1,4 @@
 -- Walks: stretches one after another, and each step of a walk.
--- Assumes nothing.
 use mathlib.Core.Path.{◌≡◌, refl, sym, ◌∙◌, ap, subst}
 use mathlib.Core.Bool.{Bool, true, false, true≢false}
 use mathlib.Core.List.{List, [], ◌∷◌, ◌++◌, append_assoc, append-nil}
@@ -19,9 +18,6 @@ use Rattle.definitions.specs.Grammar.{append, counted, name, equation, most_left
 use Rattle.definitions.specs.Clock.{Clock, base, ◌↓◌, depth, deepest, parent, is_on, is_not, ends_in}
 use Rattle.definitions.specs.InferClocks as rules
 use Rattle.definitions.specs.InferClocks.{Clocks, clock_of, deep, formed, condition_over, natural, Finding, found, when_elsewhere, clock_name_elsewhere, too_deep, one_down, on_natural, must_be_on, check, checks}
-use Rattle.clock_tables.specs.declared.Presence.{Presence}
-use Rattle.clock_tables.specs.declared.Natural.{Natural}
-use Rattle.clock_tables.specs.Value.{value_of, natural_at, natural_of}
 use Rattle.layout.specs.Marks.{is_sample}
 use Rattle.layout.proofs.Owed.{owed-on, owed-few}
 use Rattle.clock_tables.specs.Flat.{clock_in}
@@ -34,9 +30,8 @@ use Rattle.skeleton.specs.Lies.{Frame, hole, code_at, parts_at, Lies, LiesAt}
 use Rattle.skeleton.specs.Sites.{is_site, WasRead, Sited}
 use Rattle.skeleton.proofs.Laws.{lies-owed, lies-none, Seen, sign-first, expr-first, seen_at, seen-cons, sample_in, join-in}
 use Rattle.skeleton.proofs.Reading.{reads-lie}
-use Rattle.checking.specs.declared.CheckedTo.{CheckedTo}
-use Rattle.checking.specs.Walk.{only_sites, is_site_tag, meets, SiteStored, Traversed, EquationStored}
-use Rattle.checking.proofs.Laws.{meets-none, over-free, over-on, over-deep, one_down_lem, when-match, when-other}
+use Rattle.checking.specs.Walk.{CheckedTo, only_sites, is_site_tag, meets, SiteStored, Traversed, EquationStored}
+use Rattle.checking.proofs.Laws.{meets-none, one_down_lem, when-match, when-other}
 use Rattle.checking.proofs.Only.{only-both}
 use Rattle.checking.proofs.Left.{equation-right}
 use Rattle.checking.proofs.Flatten.{lies-join, lies-apart, read-ends, name-is, when-is, when-not-is, merge-is, not-sampled, sampled-range, Opened, opened}
@@ -277,27 +272,6 @@ module _ (M : ℕ) (gs vs env : List ℕ) where
       -- ---- on what may be a clock
       abbrev pub Overs : List ℕ → List ℕ → List ℕ → List ℕ → rules.Natural → ℕ → ℕ → CheckedTo → Type 0
       Overs t t' sites sites' over n at r = (e : Expr) (q : ℕ) → tree M (tokens gs vs) at ≡ got e q → Traversed M gs vs env t t' sites sites' n (λ cs. on_natural over (λ d. check cs i d e)) (λ later. (d : Clock) → over ≡ formed (some d) → LiesAt gs vs (Sited M gs vs later) d e at q) at q r
-
-      module _ (t t' sites sites' : List ℕ) (over : Natural) (n at : ℕ) (r : CheckedTo) where
-        natural-by : (p : Presence) → over.presence ≡ p → natural_at p (value_of over.clock) ≡ natural_of over
-        natural-by p h = sym (ap (λ (z : Presence). natural_at z (value_of over.clock)) h)
-
-        pub walks-free : (c : Clock) → over.presence ≡ Presence.Free → c ≡ base → Walks t t' sites sites' c n at r → Overs t t' sites sites' (natural_of over) n at r
-        walks-free c h j W e q g = trav-as (λ cs. check cs i c e) (λ cs. on_natural (natural_of over) (λ d. check cs i d e)) (λ later. LiesAt gs vs (Sited M gs vs later) c e at q) _ t t' sites sites' n at q r (λ cs. over-free over (λ (d : Clock). check cs i d e) c h j)
-            (λ later p d k. let z = natural-by Presence.Free h ∙ k in let y : ◌≡◌ {A = ℕ} 0 1 = cc z in absurd (omega arith)) (W e q g)
-
-        pub walks-on : over.presence ≡ Presence.On → Walks t t' sites sites' (value_of over.clock) n at r → Overs t t' sites sites' (natural_of over) n at r
-        walks-on h W e q g = trav-as (λ cs. check cs i (value_of over.clock) e) (λ cs. on_natural (natural_of over) (λ d. check cs i d e)) (λ later. LiesAt gs vs (Sited M gs vs later) (value_of over.clock) e at q) _ t t' sites sites' n at q r (λ cs. over-on over (λ (d : Clock). check cs i d e) h)
-            (λ later p d k. let z = natural-by Presence.On h ∙ k in let y : value_of over.clock ≡ d = cc z in subst (λ (b : Clock). LiesAt gs vs (Sited M gs vs later) b e at q) y p) (W e q g)
-
-      pub walks-deep : (t t' sites : List ℕ) (over : Natural) (n m at s : ℕ) → over.presence ≡ Presence.Deep → ((e : Expr) (q : ℕ) → tree M (tokens gs vs) at ≡ got e q → s ≡ q) → ((fs : List Finding) → FindingsHeld t n fs → FindingsHeld t' m (fs ++ (too_deep ∷ []))) → Overs t t' sites sites (natural_of over) n at (record { end = s; count = m })
-      walks-deep t t' sites over n m at s h f u e q g =
-          record {
-            end = f e q g;
-            holds = λ cs fs a k. subst (λ (l : List Finding). FindingsHeld t' m (fs ++ l)) (over-deep over (λ (d : Clock). check cs i d e) h) (u fs k);
-            kept = λ j k. refl;
-            sited = λ cs room only later agree. absurd (true≢false (sym only ∙ sym (ap (λ (l : List Finding). only_sites l) (over-deep over (λ (d : Clock). check cs i d e) h))));
-          }
 
       -- ---- a branch, one condition down
       abbrev pub Branches : List ℕ → List ℕ → List ℕ → List ℕ → Clock → Condition → ℕ → ℕ → CheckedTo → Type 0

@@ -1,20 +1,30 @@
 -- Checking in the code's terms: what is met at a token, and what a walk did to the tables of findings and of sites.
-use Rattle.std.specs.Prelude.{ℕ, ◌+◌, ◌*◌, ◌≤◌, ◌<◌, ◌≡◌, List, [], ◌∷◌, ◌++◌, Bool, true, false, not, ◌⊎◌, eqb, length, get_or}
+use Rattle.std.specs.Prelude.{ℕ, ◌+◌, ◌*◌, ◌≤◌, ◌<◌, ◌≡◌, List, [], ◌∷◌, ◌++◌, Bool, true, false, ◌⊎◌, eqb, length, get_or}
 use Rattle.std.proofs.Math.Option.{Option, none, some}
 use Rattle.definitions.specs.Lists.{choose, all}
-use Rattle.definitions.specs.Tree.{Equation, Node}
+use Rattle.definitions.specs.Tree.{Expr, Equation, Node}
 use Rattle.definitions.specs.Clock.{Clock, same_clock}
-use Rattle.definitions.specs.InferClocks.{Clocks, is_port, used_elsewhere, Finding, found, site, too_deep, must_be_on, check}
+use Rattle.definitions.specs.InferClocks.{Clocks, is_port, used_elsewhere, Fault, Finding, found, site, too_deep, must_be_on, check}
+use Rattle.clock_tables.specs.declared.Clock as struct
+use Rattle.clock_tables.specs.Value.{value_of}
 use Rattle.clock_tables.specs.Flat.{clock_in}
 use Rattle.clock_tables.specs.Environment.{Agrees}
 use Rattle.findings.specs.Findings.{FindingsHeld}
-use Rattle.skeleton.specs.Sites.{EquationSited}
-use Rattle.checking.specs.declared.CheckedTo.{CheckedTo}
+use Rattle.findings.specs.declared.ClockFault.{ClockFault}
+use Rattle.findings.specs.Value.{clock_fault_of}
+use Rattle.skeleton.specs.Lies.{LiesAt}
+use Rattle.skeleton.specs.Sites.{Sited, EquationSited}
+use Rattle.checking.specs.declared.CheckInput.{CheckInput}
+use Rattle.checking.specs.declared.CheckOutput.{CheckOutput}
 
--- has it a clock other than c?
-abbrev pub is_elsewhere : Clock → Option Clock → Bool
-is_elsewhere c none = false
-is_elsewhere c (some d) = not (same_clock d c)
+-- the clock that it has, if that is other than c
+abbrev pub other_than : Clock → Option Clock → Option Clock
+other_than c none = none
+other_than c (some d) = choose (same_clock d c) none (some d)
+
+-- what a call of the closure answers is the fault that `make` makes of its clock
+abbrev pub Makes : (struct.Clock → ClockFault → Type 0) → (Clock → Fault) → Type 0
+Makes post make = (d : struct.Clock) (f : ClockFault) → post d f → clock_fault_of f ≡ make (value_of d)
 
 -- is it the clock of a `pre` or `->`, and no fault and no clock too deep?
 abbrev pub is_site_found : Finding → Bool
@@ -42,6 +52,11 @@ pub record SiteStored (sites sites' : List ℕ) (b : Bool) (c : Clock) (p : ℕ)
   pub here : b ≡ true → 17 * p + 17 ≤ length sites → clock_in sites' (17 * p) ≡ c
   pub elsewhere : (j : ℕ) → (j ≡ p → ⊥) → clock_in sites' (17 * j) ≡ clock_in sites (17 * j)
 
+-- where a walk ended, and how many findings there are then
+pub record CheckedTo : Type 0 where
+  pub end : ℕ
+  pub count : ℕ
+
 -- what a walk from p up to q did that met these findings: where it ended, what the table of findings holds, which rows of sites are as
 -- before, and what every later table says that has the same rows, where sites alone were met
 pub record Traversed (M : ℕ) (gs vs env t t' sites sites' : List ℕ) (n : ℕ) (met : Clocks → List Finding) (Says : List ℕ → Type 0) (p q : ℕ) (r : CheckedTo) : Type 0 where
@@ -50,6 +65,23 @@ pub record Traversed (M : ℕ) (gs vs env t t' sites sites' : List ℕ) (n : ℕ
   pub kept : (j : ℕ) → (j < p) ⊎ (q ≤ j) → clock_in sites' (17 * j) ≡ clock_in sites (17 * j)
   pub sited : (clocks : Clocks) → 17 * length gs ≤ length sites → only_sites (met clocks) ≡ true → (later : List ℕ) → ((j : ℕ) → p ≤ j → j < q → clock_in later (17 * j) ≡ clock_in sites' (17 * j)) → Says later
 
+-- the same, of what checking reads and writes: r is where the walk ended
+abbrev pub Walked : CheckInput → CheckOutput → CheckOutput → (Clocks → List Finding) → (List ℕ → Type 0) → ℕ → ℕ → ℕ → Type 0
+Walked k o o' met Says p q r =
+    Traversed k.source.names k.source.tags.now k.source.values.now k.env.now o.findings.now.words.now o'.findings.now.words.now o.sites.now o'.sites.now o.findings.now.count met Says p q (record { end = r; count = o'.findings.now.count })
+
+-- the tables stay those that were lent, and as long
+pub record Stays (o o' : CheckOutput) : Type 0 where
+  pub same_findings : o'.findings.ghost_name ≡ o.findings.ghost_name
+  pub findings_stay : o'.findings.now.words.ghost_name ≡ o.findings.now.words.ghost_name
+  pub sites_stay : o'.sites.ghost_name ≡ o.sites.ghost_name
+  pub findings_length : length o'.findings.now.words.now ≡ length o.findings.now.words.now
+  pub sites_length : length o'.sites.now ≡ length o.sites.now
+
+-- this expression on this clock stands from p up to q, and the clocks of its sites in these rows
+abbrev pub Stands : CheckInput → List ℕ → Clock → Expr → ℕ → ℕ → Type 0
+Stands k sites c e p q = LiesAt k.source.tags.now k.source.values.now (Sited k.source.names k.source.tags.now k.source.values.now sites) c e p q
+
 -- what equation i from p up to q on this clock stored: rows of other tokens are as before, its clock stands in its count's row, and its
 -- sites have theirs in every later table of the same rows, where checking its right side met sites alone
 pub record EquationStored (M : ℕ) (gs vs sites sites' : List ℕ) (i : ℕ) (c : Clock) (e : Equation) (p q : ℕ) : Type 0 where
@@ -57,11 +89,6 @@ pub record EquationStored (M : ℕ) (gs vs sites sites' : List ℕ) (i : ℕ) (c
   pub row : 17 * length gs ≤ length sites → clock_in sites' (17 * p) ≡ c
   pub sited : (clocks : Clocks) → 17 * length gs ≤ length sites → only_sites (check clocks i c e.right) ≡ true → (later : List ℕ) → ((j : ℕ) → p ≤ j → j < q → clock_in later (17 * j) ≡ clock_in sites' (17 * j)) → EquationSited M gs vs later c e p q
 
--- a walk went to q, and the table holds these findings
-pub record Checked (t : List ℕ) (r : CheckedTo) (q : ℕ) (fs : List Finding) : Type 0 where
-  pub end : r.end ≡ q
-  pub holds : FindingsHeld t r.count fs
-
--- the words of the names below m are 1 where a name is an input or output of this node
-pub record PortMarks (ports : List ℕ) (m : ℕ) (n : Node) : Type 0 where
-  pub same : (x : ℕ) → x < m → eqb (get_or ports x 0) 1 ≡ is_port n x
+-- of the names below m, the inputs and outputs of this node are marked
+pub record PortMarks (ports : List Bool) (m : ℕ) (n : Node) : Type 0 where
+  pub same : (x : ℕ) → x < m → get_or ports x false ≡ is_port n x

@@ -1,334 +1,241 @@
 // Checking of clocks in an accepted sheet, from an equation's clock down: what it meets goes into a table of findings, the clock
 // of each `pre`, `->`, call and equation into its token's row of `sites`, seventeen words each.
-// `tags` and `values` are as long as each other; `names` is the number of names; `env` has the names' clocks.
 #![tactic(auto)]
 
-ghost use Rattle.std.specs.Prelude.{◌≡◌, true, List, ◌++◌, ℕ, ◌<◌, length, get_or, eqb};
+ghost use Rattle.std.specs.Prelude.{◌≡◌, true, false, List, ◌++◌, ℕ, ◌<◌, length, get_or, eqb};
 ghost use Rattle.std.proofs.Math.Option.{some};
 ghost use Rattle.definitions.specs.Lists.{choose};
-ghost use Rattle.definitions.specs.Bytes.{tokens};
+ghost use Rattle.grammar.specs.Read.{tokens_of};
 ghost use Rattle.definitions.specs.Tree.{Expr, Exprs, Equation, Node};
 ghost use Rattle.definitions.specs.Reading.{got, times};
 ghost use Rattle.definitions.specs.Grammar as grammar;
 ghost use Rattle.definitions.specs.Clock as clocked;
 ghost use Rattle.definitions.specs.Clock.{◌↓◌, parent, is_on, is_not};
-ghost use Rattle.definitions.specs.InferClocks.{Clocks, clock_of, formed, left_elsewhere, used_elsewhere, clock_name_elsewhere, Finding, one_down, on_natural, must_be_on, check, checks, check_left, check_equation};
-ghost use Rattle.layout.specs.Owed as owed;
-ghost use Rattle.clock_tables.specs.Value.{value_of, natural_of};
+ghost use Rattle.definitions.specs.InferClocks as rules;
+ghost use Rattle.definitions.specs.InferClocks.{Clocks, clock_of, formed, left_elsewhere, clock_name_elsewhere, one_down, on_natural, must_be_on, check, checks, check_left, check_equation};
+ghost use Rattle.clock_tables.specs.Value.{value_of, option_of, natural_of};
 ghost use Rattle.clock_tables.specs.Environment.{env_at, Agrees};
 ghost use Rattle.findings.specs.Findings.{FindingsHeld};
 ghost use Rattle.operands.specs.Spread.{tree};
-ghost use Rattle.skeleton.specs.Lies.{Frame, Lies, LiesAt};
+ghost use Rattle.skeleton.specs.Lies.{Frame, Lies};
 ghost use Rattle.skeleton.specs.Sites.{WasRead, Sited};
-ghost use Rattle.checking.specs.Walk.{is_elsewhere, is_site_tag, meets, SiteStored, Traversed, Checked, PortMarks, EquationStored};
+ghost use Rattle.checking.specs.Walk.{other_than, Makes, is_site_tag, meets, SiteStored, Stays, Stands, Walked, PortMarks, EquationStored};
 
-use clock_tables::{Clock, Natural, Presence};
+use clock_tables::{Clock, Natural};
 use definitions::{Condition, MOST_LEFT, Test};
-use grammar::Counted;
+use findings::{ClockFault, Finding, Findings};
+use grammar::Source;
+use layout::PartsTable;
 
-// Where a walk ended, and how many findings there are then.
+// What checking an equation reads: the sheet, the table of parts, the names' clocks, which names are inputs or outputs, its number.
 #[derive(Clone, Copy)]
-pub struct CheckedTo {
-    pub end: usize,
-    pub count: usize,
+pub struct CheckInput<'a> {
+    pub source: Source<'a>,
+    pub parts: &'a PartsTable,
+    pub env: &'a [u32],
+    pub ports: &'a [bool],
+    pub equation: u32,
 }
 
-// Has a name another clock than that?
-fn elsewhere(env: &[u32], x: u32, on: Clock) -> bool
-    ensures { result ≡ is_elsewhere (value_of on) (env_at env.now x) }
-{
-    let b = clock_tables::WORDS * (x as usize);
-    let w = clock_tables::word_at(env, b);
-    if w == 0 {
-        return false;
-    }
-    let own = clock_tables::load(env, b);
-    if clock_tables::same_clock(own, on) {
-        false
-    } else {
-        true
+// What it writes: what it meets, and the clock of each site in its token's row.
+#[derive(Drop)]
+pub struct CheckOutput<'a, 'b> {
+    pub findings: &'a mut Findings<'b>,
+    pub sites: &'a mut [u32],
+}
+
+impl CheckOutput<'_, '_> {
+    // The clock of a site in its token's row, if there is room for it.
+    fn put_site(&mut self, at: usize, on: Clock)
+        ensures stays { Stays self.old self.new }
+        ensures same_findings { self.new.findings.now ≡ self.old.findings.now }
+        ensures stored { SiteStored self.old.sites.now self.new.sites.now true (value_of on) at }
+    {
+        if at < self.sites.len() / clock_tables::WORDS {
+            clock_tables::store(self.sites, clock_tables::WORDS * at, on);
+        }
     }
 }
 
-// A name that is used must be on that clock.
-fn used_on(env: &[u32], table: &mut [u32], n: usize, equation: u32, x: u32, on: Clock) -> usize
-    ensures table_len_unchanged { length table.new ≡ length table.old }
-    ensures findings_held { (clocks : Clocks) (fs : List Finding) → env_at env.now x ≡ clock_of clocks x → FindingsHeld table.old n fs → FindingsHeld table.new result (fs ++ must_be_on clocks equation (value_of on) x (λ d. used_elsewhere x d (value_of on))) }
+// A name's clock, if it has another than that.
+fn elsewhere(env: &[u32], x: u32, on: Clock) -> Option<Clock>
+    ensures { option_of result ≡ other_than (value_of on) (env_at env.now x) }
 {
-    if elsewhere(env, x, on) {
-        let b = clock_tables::WORDS * (x as usize);
-        let d = clock_tables::load(env, b);
-        return findings::push_used(table, n, equation, x, d, on);
+    match clock_tables::lookup(env, x) {
+        Some(own) if own != on => Some(own),
+        _ => None,
     }
-    n
+}
+
+// A name must be on that clock; else the fault that is made of its own.
+fn must_be_on<F: Fn(Clock) -> ClockFault>(
+    input: &CheckInput<'_>,
+    findings: &mut Findings<'_>,
+    x: u32,
+    on: Clock,
+    fault: F,
+)
+    requires { F.IsAlwaysCallable fault }
+    ensures same_reference { findings.new.words.ghost_name ≡ findings.old.words.ghost_name }
+    ensures same_length { length findings.new.words.now ≡ length findings.old.words.now }
+    ensures held { (make : clocked.Clock → rules.Fault) (clocks : Clocks) (fs : List rules.Finding) → Makes (F.post fault) make → env_at input.now.env.now x ≡ clock_of clocks x → FindingsHeld findings.old.words.now findings.old.count fs → FindingsHeld findings.new.words.now findings.new.count (fs ++ must_be_on clocks input.now.equation (value_of on) x make) }
+{
+    if let Some(own) = elsewhere(input.env, x, on) {
+        let equation = input.equation;
+        let fault = fault(own);
+        findings.push(Finding::Fault { equation, fault });
+    }
 }
 
 // A clock name must be on the clock that it samples.
-fn samples_on(env: &[u32], table: &mut [u32], n: usize, equation: u32, x: u32, on: Clock) -> usize
-    ensures table_len_unchanged { length table.new ≡ length table.old }
-    ensures findings_held { (clocks : Clocks) (fs : List Finding) → env_at env.now x ≡ clock_of clocks x → FindingsHeld table.old n fs → FindingsHeld table.new result (fs ++ must_be_on clocks equation (value_of on) x (λ d. clock_name_elsewhere x d (value_of on))) }
+fn samples_on(input: &CheckInput<'_>, findings: &mut Findings<'_>, x: u32, on: Clock)
+    ensures same_reference { findings.new.words.ghost_name ≡ findings.old.words.ghost_name }
+    ensures same_length { length findings.new.words.now ≡ length findings.old.words.now }
+    ensures held { (clocks : Clocks) (fs : List rules.Finding) → env_at input.now.env.now x ≡ clock_of clocks x → FindingsHeld findings.old.words.now findings.old.count fs → FindingsHeld findings.new.words.now findings.new.count (fs ++ must_be_on clocks input.now.equation (value_of on) x (λ d. clock_name_elsewhere x d (value_of on))) }
 {
-    if elsewhere(env, x, on) {
-        let b = clock_tables::WORDS * (x as usize);
-        let d = clock_tables::load(env, b);
-        return findings::push_clock_name(table, n, equation, x, d, on);
-    }
-    n
-}
-
-// The clock of a site in its token's row, if the table has room for it.
-fn put_site(sites: &mut [u32], at: usize, on: Clock)
-    ensures { SiteStored sites.old sites.new true (value_of on) at }
-{
-    if at < sites.len() / clock_tables::WORDS {
-        clock_tables::store(sites, clock_tables::WORDS * at, on);
-    }
+    must_be_on(
+        input,
+        findings,
+        x,
+        on,
+        |own| ClockFault::ClockNameElsewhere {
+            name: x,
+            on: own,
+            expected: on,
+        },
+    );
 }
 
 // What is met at a token of an expression, which is that of no when and no merge.
+// Stays (speed): numbers of tags, here and below; by whole tokens 32 counters take 3 instructions in 100 more.
 fn enter(
-    env: &[u32],
-    table: &mut [u32],
-    sites: &mut [u32],
-    equation: u32,
+    input: &CheckInput<'_>,
+    output: &mut CheckOutput<'_, '_>,
     on: Clock,
     tag: u8,
     value: u32,
     at: usize,
-    n: usize,
-) -> usize
-    ensures table_len_unchanged { length table.new ≡ length table.old }
-    ensures site_stored { SiteStored sites.old sites.new (is_site_tag tag) (value_of on) at }
-    ensures findings_held { (clocks : Clocks) (fs : List Finding) → (tag ≡ 54 → env_at env.now value ≡ clock_of clocks value) → FindingsHeld table.old n fs → FindingsHeld table.new result (fs ++ meets clocks equation (value_of on) tag value) }
+)
+    ensures stays { Stays output.old output.new }
+    ensures site_stored { SiteStored output.old.sites.now output.new.sites.now (is_site_tag tag) (value_of on) at }
+    ensures held { (clocks : Clocks) (fs : List rules.Finding) → (tag ≡ 54 → env_at input.now.env.now value ≡ clock_of clocks value) → FindingsHeld output.old.findings.now.words.now output.old.findings.now.count fs → FindingsHeld output.new.findings.now.words.now output.new.findings.now.count (fs ++ meets clocks input.now.equation (value_of on) tag value) }
 {
     match tag {
-        54 => used_on(env, table, n, equation, value, on),
-        58 => {
-            put_site(sites, at, on);
-            findings::push_site(table, n, on)
+        54 => must_be_on(input, output.findings, value, on, |own| {
+            ClockFault::UsedElsewhere {
+                name: value,
+                on: own,
+                expected: on,
+            }
+        }),
+        58 | 59 => {
+            output.put_site(at, on);
+            output.findings.push(Finding::Site(on));
         }
-        59 => {
-            put_site(sites, at, on);
-            findings::push_site(table, n, on)
-        }
-        60 => {
-            put_site(sites, at, on);
-            n
-        }
-        _ => n,
-    }
-}
-
-// On a name, and on not.
-fn is_on(x: u32) -> Condition
-    ensures { result ≡ is_on x }
-{
-    Condition {
-        name: x,
-        test: Test::On,
-    }
-}
-
-fn is_not(x: u32) -> Condition
-    ensures { result ≡ is_not x }
-{
-    Condition {
-        name: x,
-        test: Test::Not,
+        60 => output.put_site(at, on),
+        _ => {}
     }
 }
 
 // What a when of this tag samples by.
-fn sampled_by(tag: u8, x: u32) -> Condition
-    ensures { result ≡ choose (eqb tag 67) (is_on x) (is_not x) }
+fn sampled_by(tag: u8, name: u32) -> Condition
+    ensures { result ≡ choose (eqb tag 67) (is_on name) (is_not name) }
 {
-    if tag == 67 { is_on(x) } else { is_not(x) }
+    let test = if tag == 67 { Test::On } else { Test::Not };
+    Condition { name, test }
 }
 
-// The expression that stands there; `parts` is the table of parts.
+// The expression that stands there.
 #[cycle(checks)]
 fn check_expr(
-    tags: &[u8],
-    values: &[u32],
-    parts: &[u8; 72],
-    names: u32,
-    env: &[u32],
-    table: &mut [u32],
-    sites: &mut [u32],
-    equation: u32,
+    input: &CheckInput<'_>,
+    output: &mut CheckOutput<'_, '_>,
     on: Clock,
     at: usize,
-    n: usize,
-) -> CheckedTo
-    requires values_len { length values.now ≡ length tags.now }
-    requires parts_value { parts.now ≡ owed.parts }
-    ensures table_len_unchanged { length table.new ≡ length table.old }
-    ensures sites_len_unchanged { length sites.new ≡ length sites.old }
-    ensures traversed { (e : Expr) (q : ℕ) → tree names (tokens tags.now values.now) at ≡ got e q → Traversed names tags.now values.now env.now table.old table.new sites.old sites.new n (λ clocks. check clocks equation (value_of on) e) (λ later. LiesAt tags.now values.now (Sited names tags.now values.now later) (value_of on) e at q) at q result }
+) -> usize
+    ensures stays { Stays output.old output.new }
+    ensures traversed { (e : Expr) (q : ℕ) → tree input.now.source.names (tokens_of input.now.source) at ≡ got e q → Walked input.now output.old output.new (λ clocks. check clocks input.now.equation (value_of on) e) (λ later. Stands input.now later (value_of on) e at q) at q result }
 {
-    if tags.len() <= at {
-        return CheckedTo { end: at, count: n };
+    if input.source.tags.len() <= at {
+        return at;
     }
-    let tag = tags[at];
-    let value = values[at];
+    let tag = input.source.tags[at];
+    let value = input.source.values[at];
     if tag == 69 {
-        return check_merge(
-            tags,
-            values,
-            parts,
-            names,
-            env,
-            table,
-            sites,
-            equation,
-            on,
-            value,
-            at + 1,
-            n,
-        );
+        return check_merge(input, output, on, value, at + 1);
     }
     if layout::is_sample(tag) {
         let k = sampled_by(tag, value);
-        return check_sample(
-            tags,
-            values,
-            parts,
-            names,
-            env,
-            table,
-            sites,
-            equation,
-            on,
-            k,
-            at + 1,
-            n,
-        );
+        return check_sample(input, output, on, k, at + 1);
     }
-    let m = enter(env, table, sites, equation, on, tag, value, at, n);
-    let many = layout::follow(parts, tag, value);
-    check_exprs(
-        tags,
-        values,
-        parts,
-        names,
-        env,
-        table,
-        sites,
-        equation,
-        on,
-        many as usize,
-        at + 1,
-        m,
-    )
+    enter(input, output, on, tag, value, at);
+    let many = input.parts.follow(tag, value);
+    check_exprs(input, output, on, many as usize, at + 1)
 }
 
 // So many parts that stand from there on; what is on the same clock is met here, without a call.
 #[cycle(checks)]
 fn check_exprs(
-    tags: &[u8],
-    values: &[u32],
-    parts: &[u8; 72],
-    names: u32,
-    env: &[u32],
-    table: &mut [u32],
-    sites: &mut [u32],
-    equation: u32,
+    input: &CheckInput<'_>,
+    output: &mut CheckOutput<'_, '_>,
     on: Clock,
     many: usize,
     at: usize,
-    n: usize,
-) -> CheckedTo
-    requires values_len { length values.now ≡ length tags.now }
-    requires parts_value { parts.now ≡ owed.parts }
-    ensures table_len_unchanged { length table.new ≡ length table.old }
-    ensures sites_len_unchanged { length sites.new ≡ length sites.old }
-    ensures traversed { (es : Exprs) (fs : Frame) (q : ℕ) → Lies tags.now values.now (WasRead names tags.now values.now) (value_of on) es fs at many q → Traversed names tags.now values.now env.now table.old table.new sites.old sites.new n (λ clocks. checks clocks equation (value_of on) es) (λ later. Lies tags.now values.now (Sited names tags.now values.now later) (value_of on) es fs at many q) at q result }
+) -> usize
+    ensures stays { Stays output.old output.new }
+    ensures traversed { (es : Exprs) (fs : Frame) (q : ℕ) → Lies input.now.source.tags.now input.now.source.values.now (WasRead input.now.source.names input.now.source.tags.now input.now.source.values.now) (value_of on) es fs at many q → Walked input.now output.old output.new (λ clocks. checks clocks input.now.equation (value_of on) es) (λ later. Lies input.now.source.tags.now input.now.source.values.now (Sited input.now.source.names input.now.source.tags.now input.now.source.values.now later) (value_of on) es fs at many q) at q result }
 {
     let mut left = many;
     let mut from = at;
-    let mut m = n;
+    // Stays (no plainer): a token that stays adds its parts to what is left, and a sample's part ends where its walk says.
     while 0 < left {
-        if tags.len() <= from {
-            return CheckedTo {
-                end: from,
-                count: m,
-            };
+        if input.source.tags.len() <= from {
+            return from;
         }
-        if tags.len() < left {
-            return CheckedTo {
-                end: from,
-                count: m,
-            };
+        if input.source.tags.len() < left {
+            return from;
         }
-        let tag = tags[from];
+        let tag = input.source.tags[from];
         if layout::is_sample(tag) {
-            let w = check_expr(
-                tags, values, parts, names, env, table, sites, equation, on, from, m,
-            );
-            m = w.count;
-            let next = w.end;
+            let next = check_expr(input, output, on, from);
             if next <= from {
-                return CheckedTo {
-                    end: from,
-                    count: m,
-                };
+                return from;
             }
             from = next;
             left -= 1;
         } else {
-            let value = values[from];
+            let value = input.source.values[from];
             let behind = from + 1;
-            m = enter(env, table, sites, equation, on, tag, value, from, m);
-            let more = layout::follow(parts, tag, value);
+            enter(input, output, on, tag, value, from);
+            let more = input.parts.follow(tag, value);
             left = left - 1 + (more as usize);
             from = behind;
         }
     }
-    CheckedTo {
-        end: from,
-        count: m,
-    }
+    from
 }
 
 // The expression that stands there, on what may be a clock; on base where there is none.
 #[cycle(checks)]
 fn check_over(
-    tags: &[u8],
-    values: &[u32],
-    parts: &[u8; 72],
-    names: u32,
-    env: &[u32],
-    table: &mut [u32],
-    sites: &mut [u32],
-    equation: u32,
+    input: &CheckInput<'_>,
+    output: &mut CheckOutput<'_, '_>,
     over: Natural,
     at: usize,
-    n: usize,
-) -> CheckedTo
-    requires values_len { length values.now ≡ length tags.now }
-    requires parts_value { parts.now ≡ owed.parts }
-    ensures table_len_unchanged { length table.new ≡ length table.old }
-    ensures sites_len_unchanged { length sites.new ≡ length sites.old }
-    ensures traversed { (e : Expr) (q : ℕ) → tree names (tokens tags.now values.now) at ≡ got e q → Traversed names tags.now values.now env.now table.old table.new sites.old sites.new n (λ clocks. on_natural (natural_of over) (λ d. check clocks equation d e)) (λ later. (d : clocked.Clock) → natural_of over ≡ formed (some d) → LiesAt tags.now values.now (Sited names tags.now values.now later) d e at q) at q result }
+) -> usize
+    ensures stays { Stays output.old output.new }
+    ensures traversed { (e : Expr) (q : ℕ) → tree input.now.source.names (tokens_of input.now.source) at ≡ got e q → Walked input.now output.old output.new (λ clocks. on_natural (natural_of over) (λ d. check clocks input.now.equation d e)) (λ later. (d : clocked.Clock) → natural_of over ≡ formed (some d) → Stands input.now later d e at q) at q result }
 {
-    let p = over.presence;
-    match p {
-        Presence::Free => {
-            let b = clock_tables::base();
-            check_expr(
-                tags, values, parts, names, env, table, sites, equation, b, at, n,
-            )
+    match over {
+        Ok(None) => {
+            let b = Clock::base();
+            check_expr(input, output, b, at)
         }
-        Presence::On => {
-            let c = over.clock;
-            check_expr(
-                tags, values, parts, names, env, table, sites, equation, c, at, n,
-            )
-        }
-        Presence::Deep => {
-            let end = layout::expr_end(tags, values, at);
-            let m = findings::push_deep(table, n);
-            CheckedTo { end: end, count: m }
+        Ok(Some(c)) => check_expr(input, output, c, at),
+        Err(_) => {
+            let end = layout::expr_end(&input.source, at);
+            output.findings.push(Finding::Deep);
+            end
         }
     }
 }
@@ -336,212 +243,137 @@ fn check_over(
 // The operand of a when: on the clock that it samples where the condition matches, else a fault, and on its natural clock or base.
 #[cycle(checks)]
 fn check_sample(
-    tags: &[u8],
-    values: &[u32],
-    parts: &[u8; 72],
-    names: u32,
-    env: &[u32],
-    table: &mut [u32],
-    sites: &mut [u32],
-    equation: u32,
+    input: &CheckInput<'_>,
+    output: &mut CheckOutput<'_, '_>,
     on: Clock,
     k: Condition,
     at: usize,
-    n: usize,
-) -> CheckedTo
-    requires values_len { length values.now ≡ length tags.now }
-    requires parts_value { parts.now ≡ owed.parts }
-    ensures table_len_unchanged { length table.new ≡ length table.old }
-    ensures sites_len_unchanged { length sites.new ≡ length sites.old }
-    ensures traversed { (e : Expr) (q : ℕ) → k.name < names → tree names (tokens tags.now values.now) at ≡ got e q → Traversed names tags.now values.now env.now table.old table.new sites.old sites.new n (λ clocks. check clocks equation (value_of on) (Expr.when k e)) (λ later. LiesAt tags.now values.now (Sited names tags.now values.now later) (parent (value_of on)) e at q) at q result }
+) -> usize
+    ensures stays { Stays output.old output.new }
+    ensures traversed { (e : Expr) (q : ℕ) → k.name < input.now.source.names → tree input.now.source.names (tokens_of input.now.source) at ≡ got e q → Walked input.now output.old output.new (λ clocks. check clocks input.now.equation (value_of on) (Expr.when k e)) (λ later. Stands input.now later (parent (value_of on)) e at q) at q result }
 {
-    let matching = clock_tables::ends_in(k, on);
-    if matching {
-        let above = clock_tables::parent(on);
-        let x = k.name;
-        let m = samples_on(env, table, n, equation, x, above);
-        return check_expr(
-            tags, values, parts, names, env, table, sites, equation, above, at, m,
-        );
+    if on.ends_in(k) {
+        let above = on.parent();
+        samples_on(input, output.findings, k.name, above);
+        return check_expr(input, output, above, at);
     }
-    let m = findings::push_when(table, n, equation, k, on);
-    let own = inference::natural_clock(tags, values, names, env, at);
-    check_over(
-        tags, values, parts, names, env, table, sites, equation, own, at, m,
-    )
+    let equation = input.equation;
+    let fault = ClockFault::WhenElsewhere {
+        condition: k,
+        expected: on,
+    };
+    output.findings.push(Finding::Fault { equation, fault });
+    let own = inference::natural_clock(&input.source, input.env, at);
+    check_over(input, output, own, at)
 }
 
 // A branch of a merge, one condition down.
 #[cycle(checks)]
 fn check_branch(
-    tags: &[u8],
-    values: &[u32],
-    parts: &[u8; 72],
-    names: u32,
-    env: &[u32],
-    table: &mut [u32],
-    sites: &mut [u32],
-    equation: u32,
+    input: &CheckInput<'_>,
+    output: &mut CheckOutput<'_, '_>,
     on: Clock,
     k: Condition,
     at: usize,
-    n: usize,
-) -> CheckedTo
-    requires values_len { length values.now ≡ length tags.now }
-    requires parts_value { parts.now ≡ owed.parts }
-    ensures table_len_unchanged { length table.new ≡ length table.old }
-    ensures sites_len_unchanged { length sites.new ≡ length sites.old }
-    ensures traversed { (e : Expr) (q : ℕ) → tree names (tokens tags.now values.now) at ≡ got e q → Traversed names tags.now values.now env.now table.old table.new sites.old sites.new n (λ clocks. one_down (value_of on) k (λ d. check clocks equation d e)) (λ later. LiesAt tags.now values.now (Sited names tags.now values.now later) (value_of on ↓ k) e at q) at q result }
+) -> usize
+    ensures stays { Stays output.old output.new }
+    ensures traversed { (e : Expr) (q : ℕ) → tree input.now.source.names (tokens_of input.now.source) at ≡ got e q → Walked input.now output.old output.new (λ clocks. one_down (value_of on) k (λ d. check clocks input.now.equation d e)) (λ later. Stands input.now later (value_of on ↓ k) e at q) at q result }
 {
-    let down = clock_tables::push(on, k);
-    check_over(
-        tags, values, parts, names, env, table, sites, equation, down, at, n,
-    )
+    let down = on.push(k);
+    check_over(input, output, down, at)
 }
 
 // The branches of a merge, on its name and on not.
 #[cycle(checks)]
 fn check_merge(
-    tags: &[u8],
-    values: &[u32],
-    parts: &[u8; 72],
-    names: u32,
-    env: &[u32],
-    table: &mut [u32],
-    sites: &mut [u32],
-    equation: u32,
+    input: &CheckInput<'_>,
+    output: &mut CheckOutput<'_, '_>,
     on: Clock,
     x: u32,
     at: usize,
-    n: usize,
-) -> CheckedTo
-    requires values_len { length values.now ≡ length tags.now }
-    requires parts_value { parts.now ≡ owed.parts }
-    ensures table_len_unchanged { length table.new ≡ length table.old }
-    ensures sites_len_unchanged { length sites.new ≡ length sites.old }
-    ensures traversed { (a b : Expr) (m q : ℕ) → x < names → tree names (tokens tags.now values.now) at ≡ got a m → tree names (tokens tags.now values.now) m ≡ got b q → Traversed names tags.now values.now env.now table.old table.new sites.old sites.new n (λ clocks. check clocks equation (value_of on) (Expr.merge x a b)) (λ later. LiesAt tags.now values.now (Sited names tags.now values.now later) (value_of on ↓ is_on x) a at m × LiesAt tags.now values.now (Sited names tags.now values.now later) (value_of on ↓ is_not x) b m q) at q result }
-{
-    let m = samples_on(env, table, n, equation, x, on);
-    let is = is_on(x);
-    let not = is_not(x);
-    let w = check_branch(
-        tags, values, parts, names, env, table, sites, equation, on, is, at, m,
-    );
-    let next = w.end;
-    let l = w.count;
-    if next <= at {
-        return CheckedTo { end: at, count: l };
-    }
-    check_branch(
-        tags, values, parts, names, env, table, sites, equation, on, not, next, l,
-    )
-}
-
-// A left name must be on its equation's clock; whether it is an input or output.
-fn left_on(
-    env: &[u32],
-    table: &mut [u32],
-    n: usize,
-    equation: u32,
-    x: u32,
-    on: Clock,
-    port: bool,
 ) -> usize
-    ensures table_len_unchanged { length table.new ≡ length table.old }
-    ensures findings_held { (clocks : Clocks) (fs : List Finding) → env_at env.now x ≡ clock_of clocks x → FindingsHeld table.old n fs → FindingsHeld table.new result (fs ++ must_be_on clocks equation (value_of on) x (λ d. left_elsewhere x d (value_of on) port)) }
+    ensures stays { Stays output.old output.new }
+    ensures traversed { (a b : Expr) (m q : ℕ) → x < input.now.source.names → tree input.now.source.names (tokens_of input.now.source) at ≡ got a m → tree input.now.source.names (tokens_of input.now.source) m ≡ got b q → Walked input.now output.old output.new (λ clocks. check clocks input.now.equation (value_of on) (Expr.merge x a b)) (λ later. Stands input.now later (value_of on ↓ is_on x) a at m × Stands input.now later (value_of on ↓ is_not x) b m q) at q result }
 {
-    if elsewhere(env, x, on) {
-        let b = clock_tables::WORDS * (x as usize);
-        let d = clock_tables::load(env, b);
-        return findings::push_left(table, n, equation, x, d, on, port);
+    samples_on(input, output.findings, x, on);
+    let is = Condition {
+        name: x,
+        test: Test::On,
+    };
+    let not = Condition {
+        name: x,
+        test: Test::Not,
+    };
+    let next = check_branch(input, output, on, is, at);
+    if next <= at {
+        return at;
     }
-    n
+    check_branch(input, output, on, not, next)
 }
 
-fn is_port(ports: &[u32], x: u32) -> bool
-    ensures { result ≡ eqb (get_or ports.now x 0) 1 }
+// A left name must be on its equation's clock.
+fn left_on(input: &CheckInput<'_>, findings: &mut Findings<'_>, x: u32, on: Clock)
+    ensures same_reference { findings.new.words.ghost_name ≡ findings.old.words.ghost_name }
+    ensures same_length { length findings.new.words.now ≡ length findings.old.words.now }
+    ensures held { (clocks : Clocks) (fs : List rules.Finding) → env_at input.now.env.now x ≡ clock_of clocks x → FindingsHeld findings.old.words.now findings.old.count fs → FindingsHeld findings.new.words.now findings.new.count (fs ++ must_be_on clocks input.now.equation (value_of on) x (λ d. left_elsewhere x d (value_of on) (get_or input.now.ports.now x false))) }
 {
-    let i = x as usize;
-    let w = clock_tables::word_at(ports, i);
-    w == 1
+    let port = inference::is_port(input.ports, x);
+    must_be_on(
+        input,
+        findings,
+        x,
+        on,
+        |own| ClockFault::LeftElsewhere {
+            name: x,
+            on: own,
+            expected: on,
+            port,
+        },
+    );
 }
 
-// So many left names that stand there, of an equation on that clock.
+// So many left names that stand there, of an equation on that clock: where they end.
 fn check_left(
-    tags: &[u8],
-    values: &[u32],
-    names: u32,
-    env: &[u32],
-    ports: &[u32],
-    table: &mut [u32],
-    equation: u32,
+    input: &CheckInput<'_>,
+    findings: &mut Findings<'_>,
     on: Clock,
     count: u32,
     at: usize,
-    n: usize,
-) -> CheckedTo
-    requires { length values.now ≡ length tags.now }
-    ensures table_len_unchanged { length table.new ≡ length table.old }
-    ensures checked { (node : Node) (clocks : Clocks) (xs : List ℕ) (q : ℕ) (fs : List Finding) → Agrees env.now names clocks → PortMarks ports.now names node → times count (grammar.name names) (tokens tags.now values.now) at ≡ got xs q → FindingsHeld table.old n fs → Checked table.new result q (fs ++ check_left clocks equation node (value_of on) xs) }
-    ensures by_index { (xs : List ℕ) (q : ℕ) → times count (grammar.name names) (tokens tags.now values.now) at ≡ got xs q → result.end ≡ q }
+) -> usize
+    ensures same_reference { findings.new.words.ghost_name ≡ findings.old.words.ghost_name }
+    ensures same_length { length findings.new.words.now ≡ length findings.old.words.now }
+    ensures ends { (xs : List ℕ) (q : ℕ) → times count (grammar.name input.now.source.names) (tokens_of input.now.source) at ≡ got xs q → result ≡ q }
+    ensures held { (node : Node) (clocks : Clocks) (xs : List ℕ) (q : ℕ) (fs : List rules.Finding) → Agrees input.now.env.now input.now.source.names clocks → PortMarks input.now.ports.now input.now.source.names node → times count (grammar.name input.now.source.names) (tokens_of input.now.source) at ≡ got xs q → FindingsHeld findings.old.words.now findings.old.count fs → FindingsHeld findings.new.words.now findings.new.count (fs ++ check_left clocks input.now.equation node (value_of on) xs) }
 {
-    if count == 0 {
-        return CheckedTo { end: at, count: n };
+    let mut place = at;
+    for _ in 0..count {
+        if input.source.tags.len() <= place {
+            return place;
+        }
+        left_on(input, findings, input.source.values[place], on);
+        place += 1;
     }
-    if tags.len() <= at {
-        return CheckedTo { end: at, count: n };
-    }
-    let x = values[at];
-    let m = left_on(env, table, n, equation, x, on, is_port(ports, x));
-    check_left(
-        tags,
-        values,
-        names,
-        env,
-        ports,
-        table,
-        equation,
-        on,
-        count - 1,
-        at + 1,
-        m,
-    )
+    place
 }
 
-// The equation that stands there, on c: its left names, then its right side.
+// The equation that stands there, on that clock: its left names, then its right side; where it ends.
 pub fn check_equation(
-    tags: &[u8],
-    values: &[u32],
-    names: u32,
-    env: &[u32],
-    ports: &[u32],
-    table: &mut [u32],
-    sites: &mut [u32],
-    equation: u32,
-    c: Clock,
+    input: &CheckInput<'_>,
+    output: &mut CheckOutput<'_, '_>,
+    on: Clock,
     at: usize,
-    n: usize,
-) -> CheckedTo
-    requires { length values.now ≡ length tags.now }
-    ensures table_len_unchanged { length table.new ≡ length table.old }
-    ensures checked { (node : Node) (clocks : Clocks) (e : Equation) (q : ℕ) (fs : List Finding) → Agrees env.now names clocks → PortMarks ports.now names node → grammar.equation names (tokens tags.now values.now) at ≡ got e q → FindingsHeld table.old n fs → Checked table.new result q (fs ++ check_equation node clocks equation (record { clock = value_of c; equation = e })) }
-    ensures sites_len_unchanged { length sites.new ≡ length sites.old }
-    ensures equation_stored { (e : Equation) (q : ℕ) → grammar.equation names (tokens tags.now values.now) at ≡ got e q → EquationStored names tags.now values.now sites.old sites.new equation (value_of c) e at q }
+) -> usize
+    ensures stays { Stays output.old output.new }
+    ensures ends { (e : Equation) (q : ℕ) → grammar.equation input.now.source.names (tokens_of input.now.source) at ≡ got e q → result ≡ q }
+    ensures held { (node : Node) (clocks : Clocks) (e : Equation) (q : ℕ) (fs : List rules.Finding) → Agrees input.now.env.now input.now.source.names clocks → PortMarks input.now.ports.now input.now.source.names node → grammar.equation input.now.source.names (tokens_of input.now.source) at ≡ got e q → FindingsHeld output.old.findings.now.words.now output.old.findings.now.count fs → FindingsHeld output.new.findings.now.words.now output.new.findings.now.count (fs ++ check_equation node clocks input.now.equation (record { clock = value_of on; equation = e })) }
+    ensures stored { (e : Equation) (q : ℕ) → grammar.equation input.now.source.names (tokens_of input.now.source) at ≡ got e q → EquationStored input.now.source.names input.now.source.tags.now input.now.source.values.now output.old.sites.now output.new.sites.now input.now.equation (value_of on) e at q }
 {
-    let left = grammar::read_count(tags, values, 3, 1, MOST_LEFT, at);
-    match left {
-        Counted::Count(k, first) => {
-            put_site(sites, at, c);
-            let w = check_left(
-                tags, values, names, env, ports, table, equation, c, k, first, n,
-            );
-            let next = w.end;
-            let m = w.count;
-            let parts = layout::parts_table();
-            check_expr(
-                tags, values, &parts, names, env, table, sites, equation, c, next, m,
-            )
+    match grammar::read_count(&input.source, 3, 1, MOST_LEFT, at) {
+        Ok((count, first)) => {
+            output.put_site(at, on);
+            let next = check_left(input, output.findings, on, count, first);
+            check_expr(input, output, on, next)
         }
-        Counted::Refused(_) => CheckedTo { end: at, count: n },
+        Err(_) => at,
     }
 }

@@ -1,6 +1,7 @@
--- How many faults there are: at most sixteen nodes are faulty, and a node has at most as many clock faults as a sheet has tokens. No fault has the number 0.
+-- How many faults there are: at most sixteen nodes are faulty, and a node has at most as many clock faults as a sheet has tokens. No fault
+-- has the number 0.
 -- Assumes nothing.
-use Prim.Native.Nat.{ℕ, zero, suc, ◌+◌, ◌≤◌, ◌<◌}
+use Prim.Native.Nat.{ℕ, zero, suc, ◌≤◌, ◌<◌}
 use mathlib.Core.Path.{◌≡◌, refl, sym, ◌∙◌, ap, subst}
 use mathlib.Core.List.{List, [], ◌∷◌, ◌++◌, map}
 use mathlib.Core.Bool.{Bool, true, false}

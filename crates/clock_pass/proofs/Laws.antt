@@ -1,38 +1,25 @@
 -- Records in words, and lists of records written over lists.
 -- Assumes nothing.
 use mathlib.Core.Path.{◌≡◌, refl, sym, ◌∙◌, ap, subst}
-use Prim.Native.Nat.{ℕ, zero, suc, ◌+◌, ◌*◌, ◌-◌, ◌<◌, ◌≤◌}
+use Prim.Native.Nat.{ℕ, zero, suc, ◌+◌, ◌*◌, ◌-◌, ◌<◌, ◌≤◌, min}
 use native.Mathlib.Nat.{zero-add, add-zero, suc-add}
 use native.Mathlib.Omega.{arith}
 use mathlib.Core.List.{List, [], ◌∷◌, ◌++◌, map}
 use mathlib.Core.Logic.{◌⊎◌, inl, inr}
 use mathlib.Core.Bool.{Bool, true, false}
 use lib.Dec.{eqb}
-use lib.ListN.{length, get_or, drop, set, replicate, get_or-eq_default}
-use borrow.Author.Tests.{lt-ltb, le-ltb, eq-eqb, ne_eqb}
+use lib.ListN.{length, get_or, drop, set, replicate, length-replicate}
+use lib.Seq.{get_or-drop, drop-drop}
+use borrow.Author.Tests.{eq-eqb, ne_eqb}
 use Rattle.definitions.specs.declared.FaultRecord.{FaultRecord}
 use Rattle.definitions.specs.Lists.{choose, join, over}
-use Rattle.clock_pass.specs.Said.{least, record_at, records, count_of, count, said}
+use Rattle.clock_pass.specs.Said.{record_at, records, count_of, count, said}
 
 -- ---- numbers
-pub least-below : (a b : ℕ) → a < b → a ≡ least a b
-unfolding least
-least-below a b h = rw (lt-ltb a b h) refl
-
-pub least_above : (a b : ℕ) → b ≤ a → b ≡ least a b
-unfolding least
-least_above a b h = rw (le-ltb a b h) refl
-
-pub below-or-above : (a b : ℕ) → (a < b) ⊎ (b ≤ a)
+below-or-above : (a b : ℕ) → (a < b) ⊎ (b ≤ a)
 below-or-above a zero = inr (omega arith)
 below-or-above zero (suc b) = inl (omega arith)
 below-or-above (suc a) (suc b) = elim (below-or-above a b) [ inl h ↦ inl (omega (arith, h)) | inr h ↦ inr (omega (arith, h)) ]
-
-least-le : (a b n : ℕ) → n ≡ least a b → (n ≤ a) × (n ≤ b)
-least-le a b n e = elim (below-or-above a b) [
-  | inl h ↦ let k = least-below a b h in (omega (arith, e, k, h), omega (arith, e, k, h))
-  | inr h ↦ let k = least_above a b h in (omega (arith, e, k, h), omega (arith, e, k, h))
-]
 
 -- ---- counting
 counted-few : (n : ℕ) (ws : List ℕ) → count_of n ws ≤ n
@@ -47,16 +34,6 @@ counted-few (suc n) ws = go (eqb (get_or ws 1 0) 0) (counted-few n (drop 3 ws))
 count-few : (ws : List ℕ) → count ws ≤ 4096
 unfolding count
 count-few ws = counted-few 4096 ws
-
--- of what words with room for one record a node say a list has places for so many
-pub few-nodes : (c m n : ℕ) → c ≤ 16 → n ≡ least c m → n ≤ 16
-few-nodes c m n h e = let z = least-le c m n e in omega (arith, z.0, h)
-
--- of what the words say a list has places for so many
-pub few-reached : (ws : List ℕ) (m n : ℕ) → n ≡ least (count ws) m → (n ≤ 4096) × (n ≤ m)
-few-reached ws m n e =
-    let z = least-le (count ws) m n e in
-    (omega (arith, z.0, count-few ws), z.1)
 
 -- what is counted from entry i on, of i entries that are
 unfoldable pub counting : List ℕ → ℕ → ℕ
@@ -73,26 +50,12 @@ counting-end ws i h k e = sym (e ∙ (ap (λ (n : ℕ). i + count_of n (drop (3 
     none_more : (i : ℕ) → 4096 ≤ i → 4096 - i ≡ 0
     none_more i h = omega arith
 
-get_d_at : (ws : List ℕ) (k j : ℕ) → get_or (drop k ws) j 0 ≡ get_or ws (k + j) 0
-get_d_at ws zero j = ap (λ (n : ℕ). get_or ws n 0) (sym (zero-add j))
-get_d_at [] (suc k) j = refl
-get_d_at (w ∷ ws) (suc k) j = get_d_at ws k j ∙ ap (λ (n : ℕ). get_or (w ∷ ws) n 0) (sym (suc-add k j))
-
-drop-none : (n : ℕ) → drop {A = ℕ} n [] ≡ []
-drop-none zero = refl
-drop-none (suc n) = refl
-
-drop_at : (ws : List ℕ) (k j : ℕ) → drop j (drop k ws) ≡ drop (k + j) ws
-drop_at ws zero j = ap (λ (n : ℕ). drop n ws) (sym (zero-add j))
-drop_at [] (suc k) j = drop-none j ∙ sym (drop-none (suc k + j))
-drop_at (w ∷ ws) (suc k) j = drop_at ws k j ∙ ap (λ (n : ℕ). drop n (w ∷ ws)) (sym (suc-add k j))
-
 module _ (ws : List ℕ) (i : ℕ) (h : i < 4096) where
   one-counted : counting ws i ≡ i + choose (eqb (get_or ws (3 * i + 1) 0) 0) 0 (suc (count_of (4096 - suc i) (drop (3 * suc i) ws)))
   unfolding counting count_of
   one-counted =
       ap (λ (n : ℕ). i + count_of n (drop (3 * i) ws)) (one_less i h)
-      ∙ (λ t. i + choose (eqb (get_d_at ws (3 * i) 1 t) 0) 0 (suc (count_of (4096 - suc i) ((drop_at ws (3 * i) 3 ∙ ap (λ (n : ℕ). drop n ws) (three-on i)) t))))
+      ∙ (λ t. i + choose (eqb (get_or-drop (3 * i) ws 1 0 t) 0) 0 (suc (count_of (4096 - suc i) ((drop-drop 3 (3 * i) ws ∙ ap (λ (n : ℕ). drop n ws) (three-on i)) t))))
     where
       one_less : (i : ℕ) → i < 4096 → 4096 - i ≡ suc (4096 - suc i)
       one_less i h = omega arith
@@ -115,10 +78,6 @@ module _ (ws : List ℕ) (i : ℕ) (h : i < 4096) where
       next : (i : ℕ) → i + 1 ≡ suc i
       next i = omega arith
 
--- words with room for one record a node say no more
-pub counting-nodes : (ws : List ℕ) (i : ℕ) → length ws ≡ 48 → 16 ≤ i → i ≤ 16 → count ws ≡ counting ws i → i ≡ count ws
-counting-nodes ws i long h k g = counting-stop ws i (omega arith) (get_or-eq_default ws 0 (omega arith)) g
-
 -- ---- lists written over lists
 pub length_over : {A : Type 0} (l xs : List A) → length (over l xs) ≡ length xs
 length_over [] xs = refl
@@ -136,23 +95,15 @@ records-length : (ws : List ℕ) (n : ℕ) → length (records ws n) ≡ n
 records-length ws zero = refl
 records-length ws (suc n) = ap suc (records-length (drop 3 ws) n)
 
-get_d_drop : (ws : List ℕ) (k : ℕ) → get_or (drop 3 ws) k 0 ≡ get_or ws (suc (suc (suc k))) 0
-get_d_drop [] k = refl
-get_d_drop (a ∷ []) k = refl
-get_d_drop (a ∷ b ∷ []) k = refl
-get_d_drop (a ∷ b ∷ c ∷ ws) k = refl
-
-three-more : (n j : ℕ) → suc (suc (suc (3 * n + j))) ≡ 3 * suc n + j
-three-more n j = omega arith
-
-three-more-none : (n : ℕ) → suc (suc (suc (3 * n))) ≡ 3 * suc n
-three-more-none n = omega arith
+-- word k behind a record
+next-word : (ws : List ℕ) (k m : ℕ) → m ≡ k + 3 → get_or (drop 3 ws) k 0 ≡ get_or ws m 0
+next-word ws k m e = get_or-drop 3 ws k 0 ∙ ap (λ (j : ℕ). get_or ws j 0) (omega (arith, e))
 
 record-next : (ws : List ℕ) (n : ℕ) → record_at (drop 3 ws) n ≡ record_at ws (suc n)
 record-next ws n = λ i. record {
-  node = (get_d_drop ws (3 * n) ∙ ap (λ (k : ℕ). get_or ws k 0) (three-more-none n)) i;
-  fault = (get_d_drop ws (3 * n + 1) ∙ ap (λ (k : ℕ). get_or ws k 0) (three-more n 1)) i;
-  equation = (get_d_drop ws (3 * n + 2) ∙ ap (λ (k : ℕ). get_or ws k 0) (three-more n 2)) i;
+  node = next-word ws (3 * n) (3 * suc n) (omega arith) i;
+  fault = next-word ws (3 * n + 1) (3 * suc n + 1) (omega arith) i;
+  equation = next-word ws (3 * n + 2) (3 * suc n + 2) (omega arith) i;
 }
 
 records-snoc : (ws : List ℕ) (n : ℕ) → records ws (suc n) ≡ records ws n ++ (record_at ws n ∷ [])
@@ -177,16 +128,13 @@ over-reached ws zero (x ∷ xs) h = absurd (omega arith)
 over-reached ws (suc c) (x ∷ xs) h = ap (λ (t : List FaultRecord). record_at ws 0 ∷ t) (over-reached (drop 3 ws) c xs (omega arith))
 
 -- all that the list has places for
-pub over-said : (ws : List ℕ) (xs : List FaultRecord) (n : ℕ) → n ≡ least (count ws) (length xs) → over (records ws n) xs ≡ over (said ws) xs
+pub over-said : (ws : List ℕ) (xs : List FaultRecord) (n : ℕ) → n ≡ min (count ws) (length xs) → over (records ws n) xs ≡ over (said ws) xs
 unfolding said
 over-said ws xs n e = go (count ws) (below-or-above (count ws) (length xs)) n e
   where
-    go : (c : ℕ) → (c < length xs) ⊎ (length xs ≤ c) → (n : ℕ) → n ≡ least c (length xs) → over (records ws n) xs ≡ over (records ws c) xs
-    go c (inl h) n e = ap (λ (k : ℕ). over (records ws k) xs) (e ∙ sym (least-below c (length xs) h))
-    go c (inr h) n e = ap (λ (k : ℕ). over (records ws k) xs) (e ∙ sym (least_above c (length xs) h)) ∙ over-reached ws c xs h
-
-pub reached : (ws : List ℕ) (n r m : ℕ) → n ≡ count ws → r ≡ least n m → r ≡ least (count ws) m
-reached ws n r m e f = f ∙ ap (λ (k : ℕ). least k m) e
+    go : (c : ℕ) → (c < length xs) ⊎ (length xs ≤ c) → (n : ℕ) → n ≡ min c (length xs) → over (records ws n) xs ≡ over (records ws c) xs
+    go c (inl h) n e = ap (λ (k : ℕ). over (records ws k) xs) (omega (arith, e, h))
+    go c (inr h) n e = ap (λ (k : ℕ). over (records ws k) xs) (omega (arith, e, h)) ∙ over-reached ws c xs h
 
 -- ---- what is written is said
 -- no fault has the number 0
@@ -224,12 +172,7 @@ written-said (suc n) (r ∷ l) real few =
     X : List ℕ
     X = over (join (map words_of l)) (replicate (3 * n) 0)
 
--- THE LAW: the words of at most 4,096 records, written over words that say none, say these records
-pub said-again : (l : List FaultRecord) (ws : List ℕ) → ws ≡ replicate 12288 0 → Real l → length l ≤ 4096 → said (over (join (map words_of l)) ws) ≡ l
-unfolding said count
-said-again l ws e real few = ap (λ (zs : List ℕ). said (over (join (map words_of l)) zs)) e ∙ written-said 4096 l real few
-
--- the same of words with room for one record a node
+-- where words end no record is counted
 none_in : (n : ℕ) → count_of n [] ≡ 0
 unfolding count_of
 none_in zero = refl
@@ -248,16 +191,16 @@ count-more k (suc n) ws h =
     three-less (a ∷ b ∷ []) h = absurd (omega arith)
     three-less (a ∷ b ∷ c ∷ ws) h = omega arith
 
-pub node-said-again : (l : List FaultRecord) (ws : List ℕ) → ws ≡ replicate 48 0 → Real l → length l ≤ 16 → said (over (join (map words_of l)) ws) ≡ l
+-- THE LAW: the words of at most n records, written over words that say none, say these records
+pub said-again : (n : ℕ) (l : List FaultRecord) (ws : List ℕ) → n ≤ 4096 → ws ≡ replicate (3 * n) 0 → Real l → length l ≤ n → said (over (join (map words_of l)) ws) ≡ l
 unfolding said count
-node-said-again l ws e real few =
+said-again n l ws few e real short =
+    let all : n + (4096 - n) ≡ 4096 = omega (arith, few) in
+    let W = over (join (map words_of l)) (replicate (3 * n) 0) in
+    let long : length W ≡ 3 * n = length_over (join (map words_of l)) (replicate (3 * n) 0) ∙ length-replicate (3 * n) 0 in
     ap (λ (zs : List ℕ). said (over (join (map words_of l)) zs)) e
-    ∙ (ap (records (over (join (map words_of l)) (replicate 48 0))) (count-more 4080 16 (over (join (map words_of l)) (replicate 48 0)) (length_over (join (map words_of l)) (replicate 48 0)))
-    ∙ written-said 16 l real few)
-
-pub no-node-again : (ws : List ℕ) → ws ≡ replicate 48 0 → said ws ≡ []
-no-node-again ws e = node-said-again [] ws e tt (omega arith)
+    ∙ (ap (records W) (ap (λ (m : ℕ). count_of m W) (sym all) ∙ count-more (4096 - n) n W long) ∙ written-said n l real short)
 
 -- and words that say none say none
-pub none-again : (ws : List ℕ) → ws ≡ replicate 12288 0 → said ws ≡ []
-none-again ws e = said-again [] ws e tt (omega arith)
+pub none-again : (n : ℕ) (ws : List ℕ) → n ≤ 4096 → ws ≡ replicate (3 * n) 0 → said ws ≡ []
+none-again n ws few e = said-again n [] ws few e tt (omega arith)

@@ -1,11 +1,7 @@
 -- Fault records in words, three words a record. No fault has the number 0, which ends the records; there are at most 4,096.
-use Rattle.std.specs.Prelude.{ℕ, zero, suc, ◌+◌, ◌*◌, List, [], ◌∷◌, ltb, eqb, get_or, drop}
+use Rattle.std.specs.Prelude.{ℕ, zero, suc, ◌+◌, ◌*◌, List, [], ◌∷◌, eqb, get_or, drop}
 use Rattle.definitions.specs.declared.FaultRecord.{FaultRecord}
 use Rattle.definitions.specs.Lists.{choose}
-
--- the lesser of two numbers
-unfoldable pub least : ℕ → ℕ → ℕ
-least a b = choose (ltb a b) a b
 
 -- record i of some words: "A fault record holds node, fault and equation."
 abbrev pub record_at : List ℕ → ℕ → FaultRecord

@@ -1,26 +1,25 @@
 -- Laws of clocks, and of clocks as structs.
 -- Assumes nothing.
 use mathlib.Core.Path.{◌≡◌, refl, sym, ◌∙◌, ap}
-use mathlib.Core.List.{List}
+use mathlib.Core.List.{List, [], ◌∷◌, ◌++◌}
 use mathlib.Core.Bool.{Bool, true, false, ◌&&◌}
 use mathlib.Core.Option.{none, some}
 use Prim.Native.Nat.{ℕ, zero, suc, ◌+◌, ◌-◌, ◌≤◌, ◌<◌}
 use native.Mathlib.Omega.{arith}
 use native.Mathlib.Numerals.{add-one, sub-one}
-use lib.ListN.{length, set}
-use lib.Seq.{get_or-set_same, get_or-set_other}
+use lib.ListN.{length, set, take}
+use lib.Pointwise.{pointwise}
+use lib.Seq.{get_or-set_same, get_or-set_other, take-suc}
 use lib.Dec.{eqb}
-use borrow.Author.Tests.{eqb-true, eq-eqb, lt-ltb}
+use Rattle.std.proofs.lemmas.List.{length-take-le}
+use borrow.Author.Tests.{ne_eqb, eqb-true, eq-eqb, lt-ltb}
 use Rattle.definitions.specs.declared.Test.{Test}
 use Rattle.definitions.specs.declared.Condition.{Condition}
+use Rattle.definitions.specs.contracts.ConditionPartialEq.TheImpl as derived
 use Rattle.definitions.specs.Clock.{Clock, base, ◌↓◌, depth, parent, same_test, same_condition, same_clock, is_base}
 use Rattle.definitions.specs.InferClocks.{formed, condition_over, parent_of}
 use Rattle.clock_tables.specs.declared.Clock as struct
 use Rattle.clock_tables.specs.Value.{at, clock_at, capped, value_of}
-
--- the smaller of a number and eight, one less
-pub capped-less : (d r : ℕ) → r ≡ capped d → capped (r - 1) ≡ capped d - 1
-capped-less d r e = rw e (omega arith)
 
 -- ---- the first conditions of a list
 pub depth-at : (ks : List Condition) (d : ℕ) → depth (clock_at ks d) ≡ d
@@ -36,11 +35,25 @@ pub base-at : (ks : List Condition) (d : ℕ) → d ≡ 0 → clock_at ks d ≡ 
 unfolding clock_at
 base-at ks d z = rw z
 
+pub base_depth : (ks : List Condition) (n : ℕ) → eqb n 0 ≡ is_base (clock_at ks (capped n))
+unfolding clock_at
+base_depth ks zero = refl
+base_depth ks (suc n) = let e : capped (suc n) ≡ suc (capped (suc n) - 1) = omega arith in rw (ne_eqb (suc n) 0 (omega arith), e)
+
 -- the last condition, over the others
 pub last-at : (ks : List Condition) (d : ℕ) → (d ≡ 0 → ⊥) → clock_at ks d ≡ clock_at ks (d - 1) ↓ at ks (d - 1)
 unfolding clock_at
 last-at ks zero z = absurd (z refl)
 last-at ks (suc d) z = rw (sub-one (suc d))
+
+-- one less is the parent
+pub parent_at : (ks : List Condition) (n : ℕ) → clock_at ks (capped (capped n - 1)) ≡ parent (clock_at ks (capped n))
+unfolding clock_at
+parent_at ks n = go (capped n) (omega arith)
+  where
+    go : (d : ℕ) → d ≤ 8 → clock_at ks (capped (d - 1)) ≡ parent (clock_at ks d)
+    go zero h = refl
+    go (suc d) h = let e : capped (suc d - 1) ≡ d = omega arith in rw e
 
 -- a condition set at or past d is no part of the first d
 pub clock-set : (ks : List Condition) (d i : ℕ) (k : Condition) → d ≤ i → clock_at (set ks i k) d ≡ clock_at ks d
@@ -118,20 +131,36 @@ pub clock-same : (c : Clock) → same_clock c c ≡ true
 clock-same base = refl
 clock-same (c ↓ k) = rw (condition-same k) (clock-same c)
 
--- ---- comparing from the last condition down
-module _ (ks ls : List Condition) (i : ℕ) where
-  pub same_base : i ≡ 0 → same_clock (clock_at ks i) (clock_at ls i) ≡ true
-  same_base z = rw (base-at ks i z, base-at ls i z)
+-- ---- comparing the conditions
+-- what `==` of two conditions answers
+pub condition-eq : (k l : Condition) → derived.eq-value.it k l ≡ same_condition k l
+condition-eq k l = tests k.test l.test
+  where
+    tests : (s t : Test) → derived.eq-value.it (record { name = k.name; test = s }) (record { name = l.name; test = t }) ≡ same_condition (record { name = k.name; test = s }) (record { name = l.name; test = t })
+    tests Test.On Test.On = refl
+    tests Test.On Test.Not = refl
+    tests Test.Not Test.On = refl
+    tests Test.Not Test.Not = refl
 
-  module _ (z : 0 < i) (b : Bool) (e : b ≡ same_condition (at ks (i - 1)) (at ls (i - 1))) where
-    step : same_clock (clock_at ks i) (clock_at ls i) ≡ (b && same_clock (clock_at ks (i - 1)) (clock_at ls (i - 1)))
-    step = let n : i ≡ 0 → ⊥ = omega arith in rw (last-at ks i n, last-at ls i n, e)
+pointwise-last : (E : Condition → Condition → Bool) (ks ls : List Condition) (k l : Condition) → length ks ≡ length ls → pointwise E (ks ++ (k ∷ [])) (ls ++ (l ∷ [])) ≡ (E k l && pointwise E ks ls)
+pointwise-last E [] [] k l h = refl
+pointwise-last E [] (b ∷ ls) k l h = absurd (omega arith)
+pointwise-last E (a ∷ ks) [] k l h = absurd (omega arith)
+pointwise-last E (a ∷ ks) (b ∷ ls) k l h = rw (pointwise-last E ks ls k l (omega arith)) (swap (E a b) (E k l) (pointwise E ks ls))
+  where
+    swap : (x y z : Bool) → (x && (y && z)) ≡ (y && (x && z))
+    swap true true z = refl
+    swap true false z = refl
+    swap false true z = refl
+    swap false false z = refl
 
-    pub same-last : b ≡ true → same_clock (clock_at ks i) (clock_at ls i) ≡ same_clock (clock_at ks (i - 1)) (clock_at ls (i - 1))
-    same-last h = step ∙ rw h
-
-    pub other_last : b ≡ false → same_clock (clock_at ks i) (clock_at ls i) ≡ false
-    other_last h = step ∙ rw h
+-- what `==` of the first d of each answers
+pub same_taken : (ks ls : List Condition) (d : ℕ) → d ≤ length ks → d ≤ length ls → pointwise derived.eq-value.it (take d ks) (take d ls) ≡ same_clock (clock_at ks d) (clock_at ls d)
+unfolding clock_at
+same_taken ks ls zero h j = refl
+same_taken ks ls (suc d) h j =
+    let n : length (take d ks) ≡ length (take d ls) = omega (arith, length-take-le d ks (omega arith), length-take-le d ls (omega arith)) in
+    rw (take-suc ks d (record { name = 0; test = Test.On }) (omega arith), take-suc ls d (record { name = 0; test = Test.On }) (omega arith), pointwise-last derived.eq-value.it (take d ks) (take d ls) (at ks d) (at ls d) n, condition-eq (at ks d) (at ls d), same_taken ks ls d (omega arith) (omega arith))
 
 -- ---- parents
 pub parent-none : (c : Clock) → is_base c ≡ true → parent_of (formed (some c)) ≡ formed none

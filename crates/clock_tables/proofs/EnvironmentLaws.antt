@@ -7,8 +7,7 @@ use mathlib.Core.Option.{none, some}
 use mathlib.Core.Logic.{inl, inr}
 use Prim.Native.Nat.{ℕ, ◌+◌, ◌*◌, ◌≤◌, ◌<◌}
 use native.Mathlib.Omega.{arith}
-use lib.ListN.{length, get_or, set}
-use lib.Seq.{get_or-set_same, get_or-set_other}
+use lib.ListN.{length, get_or}
 use lib.Dec.{eqb, ltb}
 use borrow.Author.Tests.{ne_eqb, eqb-true, eqb-false, ltb-true, ltb-false}
 use Rattle.definitions.specs.Lists.{choose}
@@ -35,10 +34,6 @@ env-same t t' x h =
     ap (λ (n : ℕ). choose (eqb n 0) none (some (clock_in t' (17 * x)))) a ∙ ap (λ (c : Clock). choose (eqb (get_or t (17 * x) 0) 0) none (some c)) (clock-same t t' (17 * x) h)
 
 -- ---- assigning
--- no room: nothing changes
-pub assign-out : (t : List ℕ) (x : ℕ) (c : Clock) → length t < 17 * x + 17 → Assigned t t x c
-assign-out t x c h = record { same_length = refl; here = λ l. absurd (omega arith); elsewhere = λ y n. refl }
-
 pub assign-in : (t t' : List ℕ) (x : ℕ) (c : Clock) → length t' ≡ length t → 0 < get_or t' (17 * x) 0 → clock_in t' (17 * x) ≡ c → Within t t' (17 * x) 17 → Assigned t t' x c
 assign-in t t' x c n z e w =
     record { same_length = n; here = λ l. env-some t' x (omega arith) ∙ ap some e; elsewhere = λ y m. env-same t t' y (other y m) }
@@ -54,20 +49,6 @@ assign-in t t' x c n z e w =
 -- the names below x have none
 abbrev pub Zero : List ℕ → ℕ → Type 0
 Zero t x = (y : ℕ) → y < x → get_or t (17 * y) 0 ≡ 0
-
-pub zero_more : (t : List ℕ) (x : ℕ) → 17 * x < length t → Zero t x → Zero (set t (17 * x) 0) (x + 1)
-zero_more t x l h y u = go (eqb y x) refl
-  where
-    go : (b : Bool) → eqb y x ≡ b → get_or (set t (17 * x) 0) (17 * y) 0 ≡ 0
-    go true q = let e : y ≡ x = eqb-true y x q in rw e (get_or-set_same t (17 * x) 0 0 l)
-    go false q =
-        let n : 17 * y ≡ 17 * x → ⊥ = omega (arith, eqb-false y x q) in
-        let m : y < x = omega (arith, eqb-false y x q) in
-        get_or-set_other t (17 * x) (17 * y) 0 0 n ∙ h y m
-
--- no room: nothing changes
-pub cleared-out : (t : List ℕ) (m : ℕ) → length t < 17 * m → Cleared t t m
-cleared-out t m h = record { same_length = refl; nowhere = λ l. absurd (omega arith) }
 
 pub cleared-in : (t t' : List ℕ) (m x : ℕ) → length t' ≡ length t → m ≤ x → Zero t' x → Cleared t t' m
 cleared-in t t' m x n l h = record { same_length = n; nowhere = λ _ y u. env-none t' y (h y (omega arith)) }

@@ -9,8 +9,8 @@ use native.Mathlib.Omega.{arith}
 use native.Mathlib.Numerals.{add-one}
 use lib.ListN.{length, get_or, set, length-append, length-set, get_or-append, get_or-eq_default}
 use lib.Seq.{get_or-append-add, get_or-set_same, get_or-set_other}
-use lib.Dec.{eqb, ltb}
-use borrow.Author.Tests.{eqb-true, eqb-false, ltb-true, ltb-false, lt-ltb, le-ltb}
+use lib.Dec.{ltb}
+use borrow.Author.Tests.{ltb-true, ltb-false, lt-ltb}
 use Rattle.definitions.specs.declared.Test.{Test}
 use Rattle.definitions.specs.declared.Condition.{Condition}
 use Rattle.definitions.specs.Lists.{choose}
@@ -22,12 +22,6 @@ use Rattle.clock_tables.specs.Flat.{word_of, test_of, condition_at, conditions_f
 pub test_word : (k : Test) → test_of (word_of k) ≡ k
 test_word Test.On = refl
 test_word Test.Not = refl
-
--- past the end of a table there is the base clock
-pub condition-past : (t : List ℕ) (p : ℕ) → length t ≤ p → condition_at t p ≡ record { name = 0; test = Test.Not }
-condition-past t p h =
-    let l : length t ≤ p + 1 = omega arith in
-    rw (get_or-eq_default t 0 h, get_or-eq_default t 0 l)
 
 pub clock-past : (t : List ℕ) (b : ℕ) → length t ≤ b → clock_in t b ≡ base
 clock-past t b h = base-at (conditions_from t (b + 1) 8) (depth_in t b) (rw (get_or-eq_default t 0 h))
@@ -117,9 +111,6 @@ kept ks d j = choose (ltb j d) (at ks j) (record { name = 0; test = Test.Not })
 pub kept_here : (ks : List Condition) (d j : ℕ) → j < d → at ks j ≡ kept ks d j
 kept_here ks d j h = rw (lt-ltb j d h)
 
-pub kept-past : (ks : List Condition) (d j : ℕ) → d ≤ j → record { name = 0; test = Test.Not } ≡ kept ks d j
-kept-past ks d j h = rw (le-ltb j d h)
-
 -- the words of the first n of these conditions, from f on
 abbrev pub Stored : List ℕ → ℕ → (ℕ → Condition) → ℕ → Type 0
 Stored t f ks n = (j : ℕ) → j < n → (get_or t (f + 2 * j) 0 ≡ (ks j).name) × (get_or t (f + 2 * j + 1) 0 ≡ word_of (ks j).test)
@@ -139,24 +130,6 @@ module _ (t : List ℕ) (p : ℕ) (k : Condition) where
       let l : p < length t = omega arith in
       let m : p + 1 < length (set t p k.name) = simp length-set (omega arith) in
       (get_or-set_other (set t p k.name) (p + 1) p (word_of k.test) 0 n ∙ get_or-set_same t p k.name 0 l, get_or-set_same (set t p k.name) (p + 1) (word_of k.test) 0 m)
-
-  put-there : (i : ℕ) → (i ≡ p → ⊥) → (i ≡ p + 1 → ⊥) → get_or put i 0 ≡ get_or t i 0
-  put-there i m n = get_or-set_other (set t p k.name) (p + 1) i (word_of k.test) 0 n ∙ get_or-set_other t p i k.name 0 m
-
--- one condition more
-pub store-more : (t : List ℕ) (f i : ℕ) (ks : ℕ → Condition) (k : Condition) → k ≡ ks i → f + 2 * i + 2 ≤ length t → Stored t f ks i → Stored (put t (f + 2 * i) k) f ks (i + 1)
-store-more t f i ks k s l h j u = go (eqb j i) refl
-  where
-    go : (b : Bool) → eqb j i ≡ b → (get_or (put t (f + 2 * i) k) (f + 2 * j) 0 ≡ (ks j).name) × (get_or (put t (f + 2 * i) k) (f + 2 * j + 1) 0 ≡ word_of (ks j).test)
-    go true e = let q : j ≡ i = eqb-true j i e in rw (q, ← s) (put-here t (f + 2 * i) k l)
-    go false e =
-        let q : j < i = omega (arith, eqb-false j i e) in
-        let r = h j q in
-        (put-there t (f + 2 * i) k (f + 2 * j) (omega arith) (omega arith) ∙ r.0, put-there t (f + 2 * i) k (f + 2 * j + 1) (omega arith) (omega arith) ∙ r.1)
-
-pub within_more : (t₀ t : List ℕ) (f i : ℕ) (k : Condition) → i < 8 → Within t₀ t f 16 → Within t₀ (put t (f + 2 * i) k) f 16
-within_more t₀ t f i k l h j (inl u) = put-there t (f + 2 * i) k j (omega arith) (omega arith) ∙ h j (inl u)
-within_more t₀ t f i k l h j (inr u) = put-there t (f + 2 * i) k j (omega arith) (omega arith) ∙ h j (inr u)
 
 halves : (m : ℕ) → (j : ℕ) × ((m ≡ 2 * j) ⊎ (m ≡ 2 * j + 1))
 halves zero = (0, inl refl)
@@ -217,9 +190,3 @@ stored e t b d n i ks room q p r h s =
 module _ (t : List ℕ) where
   pub depth-in : (b : ℕ) → depth (clock_in t b) ≡ depth_in t b
   depth-in b = depth-at (conditions_from t (b + 1) 8) (depth_in t b)
-
-  pub loaded : (ks : List Condition) (b d i : ℕ) → d ≡ depth_in t b → i ≤ d → d ≤ i → clock_at ks i ≡ clock_at (conditions_from t (b + 1) 8) i → clock_at ks (capped d) ≡ clock_in t b
-  loaded ks b d i e p q h =
-      let j : capped d ≡ i = rw e (omega arith) in
-      let k : depth_in t b ≡ i = omega arith in
-      rw (j, k) h

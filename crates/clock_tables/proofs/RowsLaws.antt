@@ -2,7 +2,7 @@
 -- Assumes nothing.
 use mathlib.Core.Path.{◌≡◌, refl, sym, ◌∙◌, ap}
 use mathlib.Core.List.{List, [], ◌∷◌, ◌++◌}
-use mathlib.Core.Bool.{Bool, true, false, true≢false, ◌||◌}
+use mathlib.Core.Bool.{Bool, true, false, true≢false, ◌||◌, cond, not}
 use mathlib.Core.Logic.{inl, inr}
 use Prim.Native.Nat.{ℕ, zero, suc, ◌+◌, ◌-◌, ◌*◌, ◌≤◌, ◌<◌}
 use native.Mathlib.Omega.{arith}
@@ -11,6 +11,12 @@ use lib.ListN.{length, get_or, length-append}
 use Rattle.definitions.specs.declared.Condition.{Condition}
 use Rattle.definitions.specs.Lists.{choose, any, place_by}
 use Rattle.definitions.specs.Clock.{Clock, base, ◌↓◌, same_condition, same_clock, ends_in}
+use Rattle.std.specs.Prelude.{Option, Some, None, position, is_some}
+use Rattle.std.specs.Option.{unwrap_or}
+use Rattle.std.specs.List.{range_with_len, position_or_len}
+use Rattle.std.proofs.lemmas.List.FromFn.{length-range_with_len}
+use lib.Dec.{ltb}
+use borrow.Author.Tests.{ltb-true, ltb-false}
 use Rattle.definitions.specs.Declock.{clock_place, add, add_with_parents}
 use Rattle.clock_tables.specs.Value.{clock_at}
 use Rattle.clock_tables.proofs.ClockLaws.{base-at, last-at, condition-same, same-clock}
@@ -74,35 +80,44 @@ module _ (t : List ℕ) (b d : ℕ) where
       go true s = absurd (true≢false (sym (condition-same k) ∙ (ap (λ (l : Condition). same_condition k l) i ∙ (ap (ends_in k) (sym (same-clock c (clock_in t b) s ∙ last-in e z)) ∙ h))))
 
 -- ---- the place of a clock
-module _ (t : List ℕ) (c : Clock) (n i : ℕ) where
-  -- the place is past the i rows before
-  abbrev pub Past : Type 0
-  Past = clock_place c (clocks_in t n) ≡ i + clock_place c (clocks_from t i (n - i))
+-- the first row that passes the test, by the rows' numbers
+module _ (t : List ℕ) (c : Clock) where
+  place-rows : (i n : ℕ) → position_or_len (λ j. same_clock c (clock_in t (17 * j))) (range_with_len i n) ≡ clock_place c (clocks_from t i n)
+  unfolding clocks_from
+  place-rows i zero = refl
+  place-rows i (suc n) = go (same_clock c (clock_in t (17 * i))) (place-rows (i + 1) n)
+    where
+      others : List ℕ
+      others = range_with_len (i + 1) n
 
-  module _ (l : i < n) (b : Bool) (e : b ≡ same_clock c (clock_in t (17 * i))) (h : Past) where
-    pub place_here : b ≡ true → clock_place c (clocks_in t n) ≡ i
-    place_here q =
-        let z : 0 < n - i = omega arith in
-        let o : i + 0 ≡ i = omega arith in
-        h ∙ rw (from_more t i (n - i) z, ← e, q) o
+      go : (b : Bool) → position_or_len (λ j. same_clock c (clock_in t (17 * j))) others ≡ clock_place c (clocks_from t (i + 1) n)
+          → cond (not b) (1 + position_or_len (λ j. same_clock c (clock_in t (17 * j))) others) 0 ≡ choose b 0 (suc (clock_place c (clocks_from t (i + 1) n)))
+      go true e = refl
+      go false e = omega (arith, e)
 
-    pub place-next : b ≡ false → clock_place c (clocks_in t n) ≡ i + 1 + clock_place c (clocks_from t (i + 1) (n - (i + 1)))
-    place-next q =
-        let z : 0 < n - i = omega arith in
-        let m : n - i - 1 ≡ n - (i + 1) = omega arith in
-        h ∙ rw (from_more t i (n - i) z, ← e, q, m) (omega arith)
+  place-within : (i n : ℕ) → clock_place c (clocks_from t i n) ≤ n
+  unfolding clocks_from
+  place-within i zero = omega arith
+  place-within i (suc n) = go (same_clock c (clock_in t (17 * i))) (place-within (i + 1) n)
+    where
+      go : (b : Bool) → clock_place c (clocks_from t (i + 1) n) ≤ n → choose b 0 (suc (clock_place c (clocks_from t (i + 1) n))) ≤ suc n
+      go true l = omega arith
+      go false l = omega arith
 
-  pub place_none : n ≤ i → i ≤ n → Past → clock_place c (clocks_in t n) ≡ n
-  place_none l m h =
-      let z : n - i ≡ 0 = omega arith in
-      let o : i + 0 ≡ n = omega arith in
-      h ∙ rw (from-none t i (n - i) z) o
+  -- what a search over the rows' numbers answers
+  pub place_found : (n : ℕ) (o : Option ℕ) → o ≡ position (λ j. same_clock c (clock_in t (17 * j))) (range_with_len 0 n) → unwrap_or o n ≡ clock_place c (clocks_in t n)
+  place_found n o e = rw (e, place-rows 0 n, length-range_with_len 0 n) (go (ltb (clock_place c (clocks_in t n)) n) refl)
+    where
+      go : (b : Bool) → ltb (clock_place c (clocks_in t n)) n ≡ b → unwrap_or (cond b (Some (clock_place c (clocks_in t n))) None) n ≡ clock_place c (clocks_in t n)
+      go true q = refl
+      go false q = omega (arith, place-within 0 n, ltb-false (clock_place c (clocks_in t n)) n q)
 
-pub place-start : (t : List ℕ) (c : Clock) (n : ℕ) → Past t c n 0
-place-start t c n =
-    let e : n - 0 ≡ n = omega arith in
-    let z : clock_place c (clocks_in t n) ≡ 0 + clock_place c (clocks_in t n) = omega arith in
-    rw e z
+  found-by : (n : ℕ) (o : Option ℕ) → o ≡ position (λ j. same_clock c (clock_in t (17 * j))) (range_with_len 0 n) → is_some o ≡ ltb (clock_place c (clocks_in t n)) n
+  found-by n o e = rw (e, place-rows 0 n, length-range_with_len 0 n) (go (ltb (clock_place c (clocks_in t n)) n))
+    where
+      go : (b : Bool) → is_some (cond b (Some (clock_place c (clocks_in t n))) None) ≡ b
+      go true = refl
+      go false = refl
 
 -- some item passes where the place is one of the list's, and none where it is past the end
 module _ {A : Type 0} (p : A → Bool) where
@@ -122,12 +137,16 @@ module _ {A : Type 0} (p : A → Bool) where
       go true r u = absurd (omega arith)
       go false r u = r (omega arith)
 
-module _ (t : List ℕ) (n : ℕ) (c : Clock) (p : ℕ) (e : p ≡ clock_place c (clocks_in t n)) where
-  pub there : p < n → any (same_clock c) (clocks_in t n) ≡ true
-  there l = any-there (same_clock c) (clocks_in t n) (omega (arith, length_from t 0 n))
+module _ (t : List ℕ) (n : ℕ) (c : Clock) (o : Option ℕ) (e : o ≡ position (λ j. same_clock c (clock_in t (17 * j))) (range_with_len 0 n)) where
+  pub there : is_some o ≡ true → any (same_clock c) (clocks_in t n) ≡ true
+  there h =
+      let l : clock_place c (clocks_in t n) < n = ltb-true (clock_place c (clocks_in t n)) n (sym (found-by t c n o e) ∙ h) in
+      any-there (same_clock c) (clocks_in t n) (omega (arith, l, length_from t 0 n))
 
-  pub absent : n ≤ p → any (same_clock c) (clocks_in t n) ≡ false
-  absent l = any-absent (same_clock c) (clocks_in t n) (omega (arith, length_from t 0 n))
+  pub absent : is_some o ≡ false → any (same_clock c) (clocks_in t n) ≡ false
+  absent h =
+      let l : n ≤ clock_place c (clocks_in t n) = omega (arith, ltb-false (clock_place c (clocks_in t n)) n (sym (found-by t c n o e) ∙ h)) in
+      any-absent (same_clock c) (clocks_in t n) (omega (arith, l, length_from t 0 n))
 
 -- ---- a table and the clocks that it has
 pub has-none : (t : List ℕ) → RowsHold t 0 []
@@ -167,29 +186,36 @@ module _ (t : List ℕ) (n : ℕ) (c : Clock) (cs : List Clock) where
   has-found room h (inl (a, e)) = let f : any (same_clock c) cs ≡ true = ap (any (same_clock c)) (sym e) ∙ h in inl (a, rw f e)
   has-found room h (inr (a, b)) = absurd (omega arith)
 
-  pub has-full : 17 * n ≤ length t → length t < 17 * (n + 1) → any (same_clock c) (clocks_in t n) ≡ false → RowsHold t n cs → RowsHold t (n + 1) (add c cs)
-  unfolding RowsHold
-  has-full room full h (inl (a, e)) =
-      let f : any (same_clock c) cs ≡ false = ap (any (same_clock c)) (sym e) ∙ h in
-      let k : length cs ≡ n = ap length (sym e) ∙ length_from t 0 n in
-      inr (full, rw f (omega (arith, length-append cs (c ∷ []))))
-  has-full room full h (inr (a, b)) = absurd (omega arith)
+  -- a clock that is not there comes behind the others
+  pub has_absent : (t' : List ℕ) (m : ℕ) → 17 * n ≤ length t → any (same_clock c) (clocks_in t n) ≡ false → RowsHold t n cs → RowsHold t' m (cs ++ (c ∷ [])) → RowsHold t' m (add c cs)
+  has_absent t' m room gone h k = let f : any (same_clock c) cs ≡ false = ap (any (same_clock c)) (sym (has_all t n cs room h)) ∙ gone in rw f k
 
-  -- a clock that was not there is stored in the next row
-  pub has-stored : (t' : List ℕ) → 17 * n + 17 ≤ length t → length t' ≡ length t → clock_in t' (17 * n) ≡ c → Within t t' (17 * n) 17 → any (same_clock c) (clocks_in t n) ≡ false → RowsHold t n cs → RowsHold t' (n + 1) (add c cs)
+  pub last-over : length t < 17 * n → RowsHold t n cs → RowsHold t n (cs ++ (c ∷ []))
   unfolding RowsHold
-  has-stored t' room len row same gone (inl (a, e)) =
-      let f : any (same_clock c) cs ≡ false = ap (any (same_clock c)) (sym e) ∙ gone in
+  last-over h (inl (a, e)) = absurd (omega arith)
+  last-over h (inr (a, b)) = inr (a, omega (arith, length-append cs (c ∷ [])))
+
+  pub last-full : 17 * n ≤ length t → length t < 17 * (n + 1) → RowsHold t n cs → RowsHold t (n + 1) (cs ++ (c ∷ []))
+  unfolding RowsHold
+  last-full room full (inl (a, e)) =
+      let k : length cs ≡ n = ap length (sym e) ∙ length_from t 0 n in
+      inr (full, omega (arith, length-append cs (c ∷ [])))
+  last-full room full (inr (a, b)) = absurd (omega arith)
+
+  pub last_stored : (t' : List ℕ) → 17 * n + 17 ≤ length t → length t' ≡ length t → clock_in t' (17 * n) ≡ c → Within t t' (17 * n) 17 → RowsHold t n cs → RowsHold t' (n + 1) (cs ++ (c ∷ []))
+  unfolding RowsHold
+  last_stored t' room len row same (inl (a, e)) =
       let o : 0 + n ≡ n = omega arith in
-      let s : clocks_from t' 0 n ≡ clocks_from t 0 n = from-same t t' 0 n (λ k u. same k (inl (omega arith))) in
-      inl (omega arith, rw (add-one n, from_last t' 0 n, o, row, s, f, e))
-  has-stored t' room len row same gone (inr (a, b)) = absurd (omega arith)
+      let s : clocks_in t' n ≡ cs = from-same t t' 0 n (λ k u. same k (inl (omega arith))) ∙ e in
+      inl (omega arith, rw (add-one n) (from_last t' 0 n ∙ rw (o, s, row)))
+  last_stored t' room len row same (inr (a, b)) = absurd (omega arith)
 
 -- ---- parents
 pub parents-none : (ks : List Condition) (i : ℕ) (cs : List Clock) → i ≡ 0 → add_with_parents (clock_at ks i) cs ≡ cs
 unfolding add_with_parents
 parents-none ks i cs z = rw (base-at ks i z)
 
-pub parents-more : (ks : List Condition) (i : ℕ) (cs : List Clock) → add_with_parents (clock_at ks (i + 1)) cs ≡ add (clock_at ks (i + 1)) (add_with_parents (clock_at ks i) cs)
+-- with m conditions, which are one more
+pub parents_held : (t : List ℕ) (n : ℕ) (ks : List Condition) (i : ℕ) (cs : List Clock) (m : ℕ) → m ≡ i + 1 → RowsHold t n (add (clock_at ks m) (add_with_parents (clock_at ks i) cs)) → RowsHold t n (add_with_parents (clock_at ks (i + 1)) cs)
 unfolding add_with_parents
-parents-more ks i cs = rw (clock-more ks i)
+parents_held t n ks i cs m e h = rw (clock-more ks i) (rw (e, clock-more ks i) at h)

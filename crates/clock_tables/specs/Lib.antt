@@ -2,3 +2,5 @@ pub mod Value
 pub mod Flat
 pub mod Environment
 pub mod Rows
+pub mod Equality
+pub mod Grown

@@ -1,5 +1,6 @@
 -- The clock that a struct stands for.
-use Rattle.std.specs.Prelude.{ℕ, zero, suc, ◌-◌, List, get_or}
+use Rattle.std.specs.Prelude.{ℕ, zero, suc, ◌-◌, List, get_or, Option, Some, None, Result, Ok, Err}
+use Rattle.std.proofs.Math.Option as maybe
 use Rattle.std.proofs.Math.Option.{none, some}
 use Rattle.definitions.specs.declared.Test.{Test}
 use Rattle.definitions.specs.declared.Condition.{Condition}
@@ -8,8 +9,7 @@ use Rattle.definitions.specs.Clock.{base, ◌↓◌}
 use Rattle.definitions.specs.InferClocks as rules
 use Rattle.definitions.specs.InferClocks.{deep, formed}
 use Rattle.clock_tables.specs.declared.Clock.{Clock}
-use Rattle.clock_tables.specs.declared.Presence.{Presence}
-use Rattle.clock_tables.specs.declared.Natural.{Natural}
+use Rattle.clock_tables.specs.declared.TooDeep.{TooDeep}
 
 -- the condition at i
 abbrev pub at : List Condition → ℕ → Condition
@@ -28,11 +28,12 @@ capped d = 8 - (8 - d)
 abbrev pub value_of : Clock → clock.Clock
 value_of c = clock_at c.conditions (capped c.depth)
 
-abbrev pub natural_at : Presence → clock.Clock → rules.Natural
-natural_at Presence.Free c = formed none
-natural_at Presence.On c = formed (some c)
-natural_at Presence.Deep c = deep
+-- a struct's clock, where there is one
+abbrev pub option_of : Option Clock → maybe.Option clock.Clock
+option_of None = none
+option_of (Some c) = some (value_of c)
 
 -- a struct's clock or none, unless it is too deep
-abbrev pub natural_of : Natural → rules.Natural
-natural_of n = natural_at n.presence (value_of n.clock)
+abbrev pub natural_of : Result (Option Clock) TooDeep → rules.Natural
+natural_of (Ok o) = formed (option_of o)
+natural_of (Err e) = deep

@@ -1,16 +1,20 @@
 // Clocks: by value, as words of a table, and in tables of names' clocks and of distinct clocks.
 #![tactic(auto)]
 
-ghost use Rattle.std.specs.Prelude.{◌≡◌, ◌≤◌, ℕ, ◌+◌, ◌-◌, ◌<◌, ◌*◌, ◌⊎◌, length, get_or, set, List, true, false};
-ghost use Rattle.std.proofs.Math.Option.{none, some};
-ghost use Rattle.definitions.specs.Clock.{base, depth, parent, same_test, same_condition, same_clock, is_base, ends_in};
-ghost use Rattle.definitions.specs.InferClocks.{deep, formed, ◌or◌, condition_over, parent_of};
-ghost use Rattle.clock_tables.specs.Value.{capped, value_of, natural_of};
+ghost use Rattle.std.specs.Prelude.{◌≡◌, ◌≤◌, ℕ, suc, ◌+◌, ◌-◌, ◌<◌, ◌*◌, ◌⊎◌, length, get_or, set, List, [], ◌∷◌, ◌++◌, true, false, position};
+ghost use Rattle.std.specs.List.{range_with_len};
+ghost use Rattle.std.proofs.Math.Option.{some};
+ghost use Rattle.definitions.specs.Clock.{base, depth, parent, same_clock, is_base, ends_in};
+ghost use Rattle.definitions.specs.InferClocks.{formed, ◌or◌, condition_over, parent_of};
+ghost use Rattle.clock_tables.specs.Value.{capped, value_of, option_of, natural_of};
 ghost use Rattle.clock_tables.specs.Flat.{test_of, word_of, words_of, condition_at, clock_in};
 ghost use Rattle.clock_tables.specs.Environment.{env_at, Assigned, Cleared};
 ghost use Rattle.definitions.specs.Declock.{clock_place, add, add_with_parents};
 ghost use Rattle.clock_tables.specs.Rows.{clocks_in, RowsHold};
+ghost use Rattle.clock_tables.specs.Grown.{Grown};
 ghost use Rattle.definitions.specs.Clock as clocks;
+ghost use Rattle.std.specs.Cmp.{partial_equiv_from_equiv};
+ghost use Rattle.clock_tables.specs.Equality.{values};
 
 use definitions::{Condition, Test};
 
@@ -26,123 +30,108 @@ pub struct Clock {
     pub conditions: [Condition; DEEPEST],
 }
 
-// Whether there is a clock: none, the one beside, or one of more than eight conditions.
-#[derive(Clone, Copy)]
-pub enum Presence {
-    Free,
-    On,
-    Deep,
-}
+// A clock of more than eight conditions was formed.
+#[derive(Clone, Copy, PartialEq, Eq)]
+pub struct TooDeep;
 
-#[derive(Clone, Copy)]
-pub struct Natural {
-    pub presence: Presence,
-    pub clock: Clock,
-}
+// A clock or none, unless too deep a one was formed.
+pub type Natural = Result<Option<Clock>, TooDeep>;
 
-// The number of a clock's conditions.
-pub fn depth_of(c: Clock) -> usize
-    ensures value { result ≡ capped c.depth }
-    ensures value_2 { result ≡ depth (value_of c) }
-    ensures upper_bound { result ≤ 8 }
+// A depth past eight counts as eight.
+// Stays (no plainer): a ghost field `depth ≤ 8` would ask more of who makes a `Clock`, whose fields are public.
+fn capped(depth: usize) -> usize
+    ensures { result ≡ capped depth }
 {
-    let d = c.depth;
-    if d <= DEEPEST { d } else { DEEPEST }
+    depth.min(DEEPEST)
 }
 
-pub fn base() -> Clock
-    ensures { value_of result ≡ base }
-{
-    Clock {
-        depth: 0,
-        conditions: [Condition {
+impl Clock {
+    pub fn base() -> Clock
+        ensures { value_of result ≡ base }
+    {
+        let none = Condition {
             name: 0,
             test: Test::On,
-        }; DEEPEST],
+        };
+        Clock {
+            depth: 0,
+            conditions: [none; DEEPEST],
+        }
     }
-}
 
-// No clock.
-pub fn free() -> Natural
-    ensures { natural_of result ≡ formed none }
-{
-    let b = base();
-    Natural {
-        presence: Presence::Free,
-        clock: b,
+    // The number of a clock's conditions.
+    pub fn depth(self) -> usize
+        ensures value { result ≡ capped self.depth }
+        ensures value_2 { result ≡ depth (value_of self) }
+        ensures upper_bound { result ≤ 8 }
+    {
+        capped(self.depth)
     }
-}
 
-// This clock.
-pub fn on(c: Clock) -> Natural
-    ensures { natural_of result ≡ formed (some (value_of c)) }
-{
-    Natural {
-        presence: Presence::On,
-        clock: c,
+    pub fn is_base(self) -> bool
+        ensures { result ≡ is_base (value_of self) }
+    {
+        self.depth == 0
     }
-}
 
-// A clock of more than eight conditions.
-fn deep() -> Natural
-    ensures { natural_of result ≡ deep }
-{
-    let b = base();
-    Natural {
-        presence: Presence::Deep,
-        clock: b,
+    // The clock that the last condition stands over; base is its own.
+    pub fn parent(self) -> Clock
+        ensures { value_of result ≡ parent (value_of self) }
+    {
+        Clock {
+            depth: self.depth().saturating_sub(1),
+            ..self
+        }
     }
-}
 
-pub fn is_base(c: Clock) -> bool
-    ensures { result ≡ is_base (value_of c) }
-{
-    if c.depth == 0 { true } else { false }
-}
-
-// The clock that the last condition stands over; base is its own.
-pub fn parent(c: Clock) -> Clock
-    ensures { value_of result ≡ parent (value_of c) }
-{
-    let d = depth_of(c);
-    if d == 0 {
-        return c;
-    }
-    let mut out = c;
-    out.depth = d - 1;
-    out
-}
-
-// One condition more on a clock, if it has fewer than eight.
-pub fn push(c: Clock, k: Condition) -> Natural
-    ensures { natural_of result ≡ condition_over k (formed (some (value_of c))) }
-{
-    let d = c.depth;
-    if d < DEEPEST {
-        let mut out = c;
+    // One condition more on a clock, if it has fewer than eight.
+    pub fn push(self, k: Condition) -> Natural
+        ensures { natural_of result ≡ condition_over k (formed (some (value_of self))) }
+    {
+        let d = self.depth;
+        if DEEPEST <= d {
+            return Err(TooDeep);
+        }
+        let mut out = self;
         out.conditions[d] = k;
         out.depth = d + 1;
-        Natural {
-            presence: Presence::On,
-            clock: out,
-        }
-    } else {
-        deep()
+        Ok(Some(out))
     }
+
+    // Whether the last condition is this one.
+    pub fn ends_in(self, k: Condition) -> bool
+        ensures { result ≡ ends_in k (value_of self) }
+    {
+        let d = self.depth();
+        0 < d && k == self.conditions[d - 1]
+    }
+}
+
+// Clocks are equal where the conditions up to their depths are.
+impl PartialEq for Clock {
+    ghost eq = { λ a b. same_clock (value_of a) (value_of b) };
+
+    ghost laws = { partial_equiv_from_equiv values };
+
+    fn eq(&self, other: &Clock) -> bool {
+        let a = *self;
+        let b = *other;
+        let d = a.depth();
+        d == b.depth() && a.conditions[..d] == b.conditions[..d]
+    }
+}
+
+impl Eq for Clock {
+    ghost laws = { values };
 }
 
 // A condition over what may be a clock.
 pub fn condition_over(k: Condition, n: Natural) -> Natural
     ensures { natural_of result ≡ condition_over k (natural_of n) }
 {
-    let p = n.presence;
-    match p {
-        Presence::Free => n,
-        Presence::On => {
-            let c = n.clock;
-            push(c, k)
-        }
-        Presence::Deep => n,
+    match n? {
+        Some(c) => c.push(k),
+        None => Ok(None),
     }
 }
 
@@ -150,19 +139,9 @@ pub fn condition_over(k: Condition, n: Natural) -> Natural
 pub fn parent_of(n: Natural) -> Natural
     ensures { natural_of result ≡ parent_of (natural_of n) }
 {
-    let p = n.presence;
-    match p {
-        Presence::Free => n,
-        Presence::On => {
-            let c = n.clock;
-            let last = is_base(c);
-            if last {
-                return free();
-            }
-            let up = parent(c);
-            on(up)
-        }
-        Presence::Deep => n,
+    match n? {
+        Some(c) if !c.is_base() => Ok(Some(c.parent())),
+        _ => Ok(None),
     }
 }
 
@@ -170,75 +149,10 @@ pub fn parent_of(n: Natural) -> Natural
 pub fn first_of(a: Natural, b: Natural) -> Natural
     ensures { natural_of result ≡ natural_of a or natural_of b }
 {
-    let p = a.presence;
-    match p {
-        Presence::Free => b,
-        Presence::On => a,
-        Presence::Deep => a,
+    match a? {
+        Some(c) => Ok(Some(c)),
+        None => b,
     }
-}
-
-pub fn same_test(a: Test, b: Test) -> bool
-    ensures { result ≡ same_test a b }
-{
-    match a {
-        Test::On => match b {
-            Test::On => true,
-            Test::Not => false,
-        },
-        Test::Not => match b {
-            Test::On => false,
-            Test::Not => true,
-        },
-    }
-}
-
-// The same name, and on or not alike.
-fn same_condition(k: Condition, l: Condition) -> bool
-    ensures { result ≡ same_condition k l }
-{
-    if k.name != l.name {
-        return false;
-    }
-    let s = k.test;
-    let t = l.test;
-    same_test(s, t)
-}
-
-// Two clocks, compared from the last condition down.
-pub fn same_clock(a: Clock, b: Clock) -> bool
-    ensures { result ≡ same_clock (value_of a) (value_of b) }
-{
-    let d = depth_of(a);
-    let e = depth_of(b);
-    if d != e {
-        return false;
-    }
-    let mut i = d;
-    while 0 < i {
-        i -= 1;
-        let x = a.conditions[i];
-        let y = b.conditions[i];
-        let alike = same_condition(x, y);
-        if alike {
-            continue;
-        }
-        return false;
-    }
-    true
-}
-
-// Whether the last condition is this one.
-pub fn ends_in(k: Condition, c: Clock) -> bool
-    ensures { result ≡ ends_in k (value_of c) }
-{
-    let d = depth_of(c);
-    if d == 0 {
-        return false;
-    }
-    let i = d - 1;
-    let l = c.conditions[i];
-    same_condition(k, l)
 }
 
 // ---- A clock in seventeen words of a table: the number of its conditions and one more, two words a condition, then zeros.
@@ -247,12 +161,32 @@ pub fn ends_in(k: Condition, c: Clock) -> bool
 pub const WORDS: usize = 17;
 
 // The word at i, 0 past the end.
+// Stays (no plainer): `layout` `value_at` says it of a sheet's values; neither crate stands on the other, nor should for one line.
 pub fn word_at(t: &[u32], i: usize) -> u32
     ensures { result ≡ get_or t.now i 0 }
 {
     if i < t.len() { t[i] } else { 0 }
 }
 
+// The word at a place from now on, if there is room for it.
+pub fn put_word(words: &mut [u32], at: usize, word: u32)
+    ensures words_len_unchanged { length words.new ≡ length words.old }
+    ensures words_after { words.new ≡ set words.old at word }
+{
+    if at < words.len() {
+        words[at] = word;
+    }
+}
+
+// A place or row as a word, which is one more, since 0 says none; 0 too for what no word says.
+pub fn word_past(i: usize) -> u32
+    ensures says { i < 4294967295 → result ≡ suc i }
+    ensures none { 4294967295 ≤ i → result ≡ 0 }
+{
+    u32::try_from(i.saturating_add(1)).unwrap_or(0)
+}
+
+// Stays (no plainer): here and below, since a `From` stands in the crate of `Test`, where the words of tables have no meaning.
 pub fn test_of(w: u32) -> Test
     ensures { result ≡ test_of w }
 {
@@ -262,10 +196,7 @@ pub fn test_of(w: u32) -> Test
 pub fn word_of(k: Test) -> u32
     ensures { result ≡ word_of k }
 {
-    match k {
-        Test::On => 1,
-        Test::Not => 0,
-    }
+    (k == Test::On) as u32
 }
 
 // The condition in the two words at p.
@@ -278,40 +209,30 @@ pub fn condition_at(t: &[u32], p: usize) -> Condition
             test: Test::Not,
         };
     }
-    let x = word_at(t, p);
-    let w = word_at(t, p + 1);
-    let k = test_of(w);
-    Condition { name: x, test: k }
+    Condition {
+        name: word_at(t, p),
+        test: test_of(word_at(t, p + 1)),
+    }
 }
 
 // The number of conditions of the clock at b.
 pub fn depth_at(t: &[u32], b: usize) -> usize
     ensures { result ≡ capped (get_or t.now b 0 - 1) }
 {
-    let w = word_at(t, b);
-    if w == 0 {
-        return 0;
-    }
-    let d = (w - 1) as usize;
-    if d <= DEEPEST { d } else { DEEPEST }
+    capped(word_at(t, b).saturating_sub(1) as usize)
 }
 
 // The clock at b.
 pub fn load(t: &[u32], b: usize) -> Clock
     ensures { value_of result ≡ clock_in t.now b }
 {
-    let mut out = base();
+    let mut out = Clock::base();
     if t.len() <= b {
         return out;
     }
     let d = depth_at(t, b);
-    let f = b + 1;
-    let mut i: usize = 0;
-    while i < d {
-        let p = f + 2 * i;
-        let k = condition_at(t, p);
-        out.conditions[i] = k;
-        i += 1;
+    for i in 0..d {
+        out.conditions[i] = condition_at(t, b + 1 + 2 * i);
     }
     out.depth = d;
     out
@@ -322,10 +243,8 @@ fn store_condition(t: &mut [u32], p: usize, k: Condition)
     requires { p + 2 ≤ length t.old }
     ensures { t.new ≡ set (set t.old p k.name) (p + 1) (word_of k.test) }
 {
-    let test = k.test;
-    let w = word_of(test);
     t[p] = k.name;
-    t[p + 1] = w;
+    t[p + 1] = word_of(k.test);
 }
 
 // The clock at b, from now on, words past its conditions 0; nothing else changes.
@@ -337,38 +256,32 @@ pub fn store(t: &mut [u32], b: usize, c: Clock)
     ensures by_index { (i : ℕ) → (i < b) ⊎ (b + 17 ≤ i) → get_or t.new i 0 ≡ get_or t.old i 0 }
     ensures by_index_2 { (i : ℕ) → i < 17 → get_or t.new (b + i) 0 ≡ get_or (words_of (value_of c)) i 0 }
 {
-    let d = depth_of(c);
-    let w = (d + 1) as u32;
-    t[b] = w;
-    let f = b + 1;
-    let mut i: usize = 0;
-    while i < DEEPEST {
-        let mut k = Condition {
-            name: 0,
-            test: Test::Not,
+    let d = c.depth();
+    t[b] = (d + 1) as u32;
+    for i in 0..DEEPEST {
+        let k = if i < d {
+            c.conditions[i]
+        } else {
+            Condition {
+                name: 0,
+                test: Test::Not,
+            }
         };
-        if i < d {
-            k = c.conditions[i];
-        }
-        let p = f + 2 * i;
-        store_condition(t, p, k);
-        i += 1;
+        store_condition(t, b + 1 + 2 * i, k);
     }
 }
 
 // ---- The clock of each name: seventeen words a name, the first 0 where it has none.
 
 // A name's clock.
-pub fn lookup(table: &[u32], x: u32) -> Natural
-    ensures { natural_of result ≡ formed (env_at table.now x) }
+pub fn lookup(table: &[u32], x: u32) -> Option<Clock>
+    ensures { option_of result ≡ env_at table.now x }
 {
     let b = WORDS * (x as usize);
-    let w = word_at(table, b);
-    if w == 0 {
-        return free();
+    if word_at(table, b) == 0 {
+        return None;
     }
-    let c = load(table, b);
-    on(c)
+    Some(load(table, b))
 }
 
 // A name is on this clock from now on, if the table has room for it.
@@ -376,10 +289,9 @@ pub fn assign(table: &mut [u32], x: u32, c: Clock)
     ensures { Assigned table.old table.new x (value_of c) }
 {
     let b = WORDS * (x as usize);
-    if table.len() < b + WORDS {
-        return;
+    if b + WORDS <= table.len() {
+        store(table, b, c);
     }
-    store(table, b, c);
 }
 
 // No name below m has a clock, if the table has room for them.
@@ -390,114 +302,124 @@ pub fn clear(table: &mut [u32], m: u32)
     if table.len() < WORDS * n {
         return;
     }
-    let mut x: usize = 0;
-    while x < n {
+    for x in 0..n {
         table[WORDS * x] = 0;
-        x += 1;
     }
 }
 
-// ---- Tables of distinct clocks in order of need: seventeen words a clock, and a count.
-// A count one past the room says that there were more clocks than rows.
+// ---- Tables of clocks: seventeen words a clock, and a count.
+
+// Clocks in lent words, and how many; a count one past the rows says that there were more clocks than rows.
+#[derive(Clone, Copy)]
+pub struct ClockList<'a> {
+    pub words: &'a [u32],
+    pub count: usize,
+}
+
+// The same to build.
+#[derive(Drop)]
+pub struct ClockTable<'a> {
+    pub words: &'a mut [u32],
+    pub count: usize,
+}
 
 // The clock in row i.
 pub fn get(rows: &[u32], i: usize) -> Clock
     ensures { value_of result ≡ clock_in rows.now (17 * i) }
 {
     if rows.len() / WORDS < i {
-        return base();
+        return Clock::base();
     }
     load(rows, WORDS * i)
 }
 
-// Does the clock at b end as this one does? A quick look, as most that are another end otherwise.
-fn ends_alike(rows: &[u32], b: usize, c: Clock) -> bool
-    requires { b + 17 ≤ length rows.now }
-    ensures { result ≡ false → same_clock (value_of c) (clock_in rows.now b) ≡ false }
+// Does the clock in row i end as this one does? A quick look, as most that are another end otherwise.
+fn ends_alike(rows: &[u32], i: usize, c: Clock) -> bool
+    ensures { result ≡ false → same_clock (value_of c) (clock_in rows.now (17 * i)) ≡ false }
 {
-    let d = depth_of(c);
-    let e = depth_at(rows, b);
-    if d != e {
-        return false;
-    }
-    if d == 0 {
+    if rows.len() / WORDS < i {
         return true;
     }
-    let last = condition_at(rows, b + 2 * d - 1);
-    ends_in(last, c)
-}
-
-// Is the clock at b this one?
-fn is_at(rows: &[u32], b: usize, c: Clock) -> bool
-    requires { b + 17 ≤ length rows.now }
-    ensures { result ≡ same_clock (value_of c) (clock_in rows.now b) }
-{
-    if ends_alike(rows, b, c) {
-        let row = load(rows, b);
-        return same_clock(c, row);
+    let b = WORDS * i;
+    let d = c.depth();
+    if d != depth_at(rows, b) {
+        return false;
     }
-    false
+    d == 0 || c.ends_in(condition_at(rows, b + 2 * d - 1))
 }
 
-// The place of a clock among the first n rows, else n.
-fn place(rows: &[u32], n: usize, c: Clock) -> usize
-    requires { 17 * n ≤ length rows.now }
-    ensures { result ≡ clock_place (value_of c) (clocks_in rows.now n) }
+// Is the clock in row i this one?
+fn is_at(rows: &[u32], i: usize, c: Clock) -> bool
+    ensures { result ≡ same_clock (value_of c) (clock_in rows.now (17 * i)) }
 {
-    let mut i: usize = 0;
-    while i < n {
-        let found = is_at(rows, WORDS * i, c);
-        if found {
-            return i;
+    ends_alike(rows, i, c) && c == get(rows, i)
+}
+
+impl ClockList<'_> {
+    // The clock in row i.
+    pub fn get(&self, i: usize) -> Clock
+        ensures { value_of result ≡ clock_in self.now.words.now (17 * i) }
+    {
+        get(self.words, i)
+    }
+
+    // The place of a clock in a list that holds them all.
+    pub fn find(&self, c: Clock) -> usize
+        ensures { (cs : List clocks.Clock) → 17 * self.now.count ≤ length self.now.words.now → RowsHold self.now.words.now self.now.count cs → result ≡ clock_place (value_of c) cs }
+    {
+        self.place(c).unwrap_or(self.count)
+    }
+
+    // The place of a clock, if it is there.
+    fn place(&self, c: Clock) -> Option<usize>
+        ensures { result ≡ position (λ i. same_clock (value_of c) (clock_in self.now.words.now (17 * i))) (range_with_len 0 self.now.count) }
+    {
+        let rows = self.words;
+        (0..self.count).position(|i| is_at(rows, i, c))
+    }
+}
+
+impl ClockTable<'_> {
+    // What is in it, to read.
+    pub fn list(&self) -> ClockList<'_>
+        ensures words_value { result.words.now ≡ self.now.words.now }
+        ensures count_value { result.count ≡ self.now.count }
+    {
+        ClockList {
+            words: self.words,
+            count: self.count,
         }
-        i += 1;
     }
-    n
-}
 
-// The place of a clock in a table that holds them all.
-pub fn find(rows: &[u32], n: usize, c: Clock) -> usize
-    ensures { (cs : List clocks.Clock) → 17 * n ≤ length rows.now → RowsHold rows.now n cs → result ≡ clock_place (value_of c) cs }
-{
-    if rows.len() / WORDS < n {
-        return 0;
+    // A clock behind the others, if there is room for it.
+    pub fn push(&mut self, c: Clock)
+        ensures { Grown (λ cs. cs ++ (value_of c ∷ [])) self.old self.new }
+    {
+        let room = self.words.len() / WORDS;
+        if self.count <= room {
+            if self.count < room {
+                store(self.words, WORDS * self.count, c);
+            }
+            self.count += 1;
+        }
     }
-    place(rows, n, c)
-}
 
-// The clock added at the end, if it is not there: how many there are then.
-pub fn find_or_add(rows: &mut [u32], n: usize, c: Clock) -> usize
-    ensures rows_len_unchanged { length rows.new ≡ length rows.old }
-    ensures rows_hold { (cs : List clocks.Clock) → RowsHold rows.old n cs → RowsHold rows.new result (add (value_of c) cs) }
-{
-    let room = rows.len() / WORDS;
-    if room < n {
-        return n;
+    // The clock added at the end, if it is not there.
+    pub fn add(&mut self, c: Clock)
+        ensures { Grown (add (value_of c)) self.old self.new }
+    {
+        let room = self.words.len() / WORDS;
+        if self.count <= room && self.list().place(c).is_none() {
+            self.push(c);
+        }
     }
-    let p = place(rows, n, c);
-    if p < n {
-        return n;
-    }
-    if room <= n {
-        return n + 1;
-    }
-    store(rows, WORDS * n, c);
-    n + 1
-}
 
-// The clock with its parents first.
-pub fn add_with_parents(rows: &mut [u32], n: usize, c: Clock) -> usize
-    ensures rows_len_unchanged { length rows.new ≡ length rows.old }
-    ensures rows_hold { (cs : List clocks.Clock) → RowsHold rows.old n cs → RowsHold rows.new result (add_with_parents (value_of c) cs) }
-{
-    let d = depth_of(c);
-    let mut m = n;
-    let mut i: usize = 0;
-    while i < d {
-        i += 1;
-        let mut p = c;
-        p.depth = i;
-        m = find_or_add(rows, m, p);
+    // The clock with its parents first.
+    pub fn add_with_parents(&mut self, c: Clock)
+        ensures { Grown (add_with_parents (value_of c)) self.old self.new }
+    {
+        for i in 0..c.depth() {
+            self.add(Clock { depth: i + 1, ..c });
+        }
     }
-    m
 }

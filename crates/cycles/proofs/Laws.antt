@@ -1,29 +1,34 @@
--- Laws of the names that types end in, of sets of definitions as bytes, and of the first definition that reaches itself.
+-- Laws of the names that types end in, of sets of definitions, and of the first definition that reaches itself.
 -- Assumes nothing.
+use Rattle.std.specs.Prelude.{Option, Some, None, MatchOption, IsTrue, ◌↔◌, ◌⊎◌}
 use mathlib.Core.Path.{◌≡◌, refl, sym, ◌∙◌, ap}
 use mathlib.Core.List.{List, [], ◌∷◌, ◌++◌, map, append_assoc, append-nil}
 use mathlib.Core.Bool.{Bool, true, false, ◌||◌, ◌&&◌, not}
-use mathlib.Core.Option.{none}
-use Prim.Native.Nat.{ℕ, zero, suc, ◌+◌, ◌-◌, ◌*◌, ◌≤◌, ◌<◌}
+use Prim.Native.Nat.{ℕ, zero, suc, ◌+◌, ◌-◌, ◌≤◌, ◌<◌}
 use native.Mathlib.Omega.{arith}
 use native.Mathlib.Numerals.{add-one}
-use lib.ListN.{length, get_or, set, drop, replicate, get_or-replicate}
+use lib.ListN.{length, get_or, set, take, drop, replicate}
 use lib.Seq.{drop-cons, drop-length, get_or-set_same, get_or-set_other}
 use lib.Dec.{eqb, ltb}
-use borrow.Author.Tests.{eq-eqb, ne_eqb, eqb-true, eqb-false, lt-ltb, le-ltb, ltb-true, ltb-false}
+use borrow.Author.Tests.{eq-eqb, eqb-true, eqb-false, lt-ltb, le-ltb, ltb-true, ltb-false}
+use Rattle.std.specs.Option.{option_eq}
+use Rattle.std.specs.List.{list_all, zip}
+use Rattle.std.proofs.Common.{inl, inr}
+use Rattle.std.proofs.lemmas.Bool.{true≢false, cases_Bool, cases_eq, cases_lt, or_cases}
 use Rattle.definitions.specs.Lists.{choose, all, any, among, keep, join}
 use Rattle.definitions.specs.Tokens.{TagValue}
 use Rattle.definitions.specs.Tree.{Ty, Declared, Body, TypeDef}
 use Rattle.definitions.specs.Reading.{got, times}
-use Rattle.definitions.specs.Grammar.{name, ty, declaration, type_def}
+use Rattle.definitions.specs.Grammar.{name, ty, declaration}
 use Rattle.definitions.specs.Types.{target, targets, definition_of, goes_on, one_step, reached, reaches_itself, first_cycle}
 use Rattle.grammar.proofs.Laws.{times-length}
 use Rattle.grammar.proofs.Got.{times-nil}
 use Rattle.layout.specs.declared.Defined.{Defined}
-use Rattle.layout.specs.Table.{nowhere, def_at, name_at, is_named, first_of, Table, Named, Described}
+use Rattle.layout.specs.Table.{nowhere, def_at, name_at, is_named, first_of, FoundFirst, Named, Described}
 use Rattle.layout.proofs.TypedefsLaws.{FirstField, find_none, find-some, place-true, place-before}
-use Rattle.cycles.specs.declared.Marks.{Marks}
-use Rattle.cycles.specs.Edges.{bit, NamesInSet, is_defined, Marked, own_body, own_name, MarkedBody, MarkedName, Edges, joined, inside, Acyclic}
+use Rattle.cycles.specs.declared.graph.Targets.{Targets}
+use Rattle.cycles.specs.declared.graph.Graph.{Graph}
+use Rattle.cycles.specs.Edges.{NamesInSet, is_defined, TargetsAre, Marked, own_body, own_name, row_at, Edges, IsCycle, IsWithin, Joined, Acyclic}
 
 -- two truth values that follow from each other
 pub iff : (a b : Bool) → (a ≡ true → b ≡ true) → (b ≡ true → a ≡ true) → a ≡ b
@@ -32,16 +37,38 @@ iff true false f g = sym (f refl)
 iff false true f g = g refl
 iff false false f g = refl
 
-pub bit-one : (b : Bool) → b ≡ true → bit b ≡ 1
-bit-one b e = rw e
+-- what one set has is in another, by the pairs of the first n marks
+abbrev pub implied : Bool × Bool → Bool
+implied p = not p.0 || p.1
 
-pub bit-true : (b : Bool) → bit b ≡ 1 → b ≡ true
-bit-true true e = refl
-bit-true false e = absurd (omega arith)
+implied-by : (x y : Bool) → implied (x, y) ≡ true → x ≡ true → y ≡ true
+implied-by true y e t = e
+implied-by false y e t = absurd (true≢false (sym t))
 
-pub bit_test : (b : Bool) → eqb (bit b) 1 ≡ b
-bit_test true = refl
-bit_test false = refl
+implied-of : (x y : Bool) → (x ≡ true → y ≡ true) → implied (x, y) ≡ true
+implied-of true y f = f refl
+implied-of false y f = refl
+
+both : (a b : Bool) → (a && b) ≡ true → (a ≡ true) × (b ≡ true)
+both true b e = (refl, e)
+both false b e = absurd (true≢false (sym e))
+
+within-of : (n : ℕ) (a b : List Bool) → n ≤ length a → n ≤ length b → list_all implied (take n (zip a b)) ≡ true → IsWithin n a b
+within-of zero a b h k e j l t = absurd (omega arith)
+within-of (suc n) [] b h k e j l t = absurd (omega arith)
+within-of (suc n) (x ∷ a) [] h k e j l t = absurd (omega arith)
+within-of (suc n) (x ∷ a) (y ∷ b) h k e zero l t = implied-by x y (both _ _ e).0 t
+within-of (suc n) (x ∷ a) (y ∷ b) h k e (suc j) l t = within-of n a b (omega arith) (omega arith) (both _ _ e).1 j (omega arith) t
+
+of-within : (n : ℕ) (a b : List Bool) → n ≤ length a → n ≤ length b → IsWithin n a b → list_all implied (take n (zip a b)) ≡ true
+of-within zero a b h k f = refl
+of-within (suc n) [] b h k f = absurd (omega arith)
+of-within (suc n) (x ∷ a) [] h k f = absurd (omega arith)
+of-within (suc n) (x ∷ a) (y ∷ b) h k f =
+    rw (implied-of x y (f 0 (omega arith)), of-within n a b (omega arith) (omega arith) (λ j l t. f (suc j) (omega arith) t))
+
+pub within-by : (n : ℕ) (a b : List Bool) (r : Bool) → n ≤ length a → n ≤ length b → r ≡ list_all implied (take n (zip a b)) → (r ≡ true → IsWithin n a b) × (IsWithin n a b → r ≡ true)
+within-by n a b r h k e = (λ t. within-of n a b h k (sym e ∙ t), λ f. e ∙ of-within n a b h k f)
 
 or_left : (a b : Bool) → a ≡ true → (a || b) ≡ true
 or_left a b e = rw e
@@ -50,13 +77,13 @@ pub and-false : (a : Bool) → (a && false) ≡ false
 and-false true = refl
 and-false false = refl
 
-and-true : (a : Bool) → (a && true) ≡ a
-and-true true = refl
-and-true false = refl
-
 or_right : (a b : Bool) → b ≡ true → (a || b) ≡ true
 or_right true b e = refl
 or_right false b e = e
+
+or-false : (a : Bool) → a ≡ (a || false)
+or-false true = refl
+or-false false = refl
 
 -- any
 pub any_append : {A : Type 0} (p : A → Bool) (l m : List A) → any p (l ++ m) ≡ (any p l || any p m)
@@ -117,98 +144,148 @@ all_append p (a ∷ l) m = go (p a) (all_append p l m)
     go true e = e
     go false e = refl
 
--- marks: of no name, and of one more
-holds-empty : (types : List TypeDef) (n : ℕ) → n ≤ 32 → NamesInSet types n (replicate 32 0) []
-holds-empty types n l = record { says = λ j h. get_or-replicate 32 j 0 0 (omega arith) }
+-- a set without members, and one of which one more is a member
+pub empty-at : (n j : ℕ) → get_or (replicate n false) j false ≡ false
+empty-at zero j = refl
+empty-at (suc n) zero = refl
+empty-at (suc n) (suc j) = empty-at n j
 
-pub marked-none : (types : List TypeDef) (n : ℕ) → n ≤ 32 → Marked types n (record { set = replicate 32 0; known = true }) []
-marked-none types n l = record { holds = holds-empty types n l; known = refl }
+pub member-more : (l : List Bool) (i j : ℕ) → i < length l → get_or l j false ≡ true → get_or (set l i true) j false ≡ true
+member-more l i j h e = elim (cases_eq j i) [ inl f ↦ rw f (get_or-set_same l i true false h) | inr f ↦ get_or-set_other l i j true false f ∙ e ]
 
-module _ (vs places : List ℕ) (n : ℕ) (types : List TypeDef) (t : Named vs places n types) (marks : Marks) (xs : List ℕ) (m : Marked types n marks xs) (x : ℕ) (more : List ℕ) (k : ℕ) (first : k ≡ first_of types x)
-    (f : (j : ℕ) → j < n → get_or more j 0 ≡ choose (eqb (get_or vs (get_or places j 0) 0) x) 1 (get_or marks.set j 0)) where
-  holds_more : NamesInSet types n more (xs ++ (x ∷ []))
-  holds_more = record { says = λ j l. f j l ∙ rw (t.same j l, m.holds.says j l, any_append (eqb (name_at types j)) xs (x ∷ [])) (pick (eqb (name_at types j) x) (among (name_at types j) xs)) }
+-- targets: none, and one name more
+pub no-names : (types : List TypeDef) → NamesInSet types (replicate 32 false) []
+no-names types = record { says = λ j h. empty-at 32 j }
+
+module _ (vs places : List ℕ) (n : ℕ) (types : List TypeDef) (t : Named vs places n types) (marks : Targets) (xs : List ℕ) (m : Marked types marks xs) (x : ℕ) where
+  joined-name : (j : ℕ) (b : Bool) → b ≡ (get_or marks.set j false || eqb (name_at types j) x) → j < length types → b ≡ among (name_at types j) (xs ++ (x ∷ []))
+  joined-name j b e l = e ∙ rw (m.holds.says j l, any_append (eqb (name_at types j)) xs (x ∷ [])) (pick (among (name_at types j) xs) (eqb (name_at types j) x))
     where
-      pick : (b a : Bool) → choose b 1 (bit a) ≡ bit (a || (b || false))
-      pick true true = refl
-      pick true false = refl
+      pick : (a b : Bool) → (a || b) ≡ (a || (b || false))
+      pick true b = refl
       pick false true = refl
       pick false false = refl
 
-  pub marked-known : k < n → Marked types n (record { set = more; known = marks.known }) (xs ++ (x ∷ []))
-  marked-known h = record { holds = holds_more; known = m.known ∙ sym (all_append (is_defined types) xs (x ∷ []) ∙ rw (lt-ltb (first_of types x) (length types) (omega (arith, t.count))) (and-true (all (is_defined types) xs))) }
-
--- one more name that changes no byte, since no definition has it, or since it is marked already
-module _ (vs places : List ℕ) (n : ℕ) (types : List TypeDef) (t : Named vs places n types) (marks : Marks) (xs : List ℕ) (m : Marked types n marks xs) (x : ℕ) (k : ℕ) (first : k ≡ first_of types x) where
-  holds-still : ((j : ℕ) → j < n → eqb (name_at types j) x ≡ true → among (name_at types j) xs ≡ true) → NamesInSet types n marks.set (xs ++ (x ∷ []))
-  holds-still f = record { says = λ j l. m.holds.says j l ∙ ap bit (sym (any_append (eqb (name_at types j)) xs (x ∷ []) ∙ pick (eqb (name_at types j) x) (among (name_at types j) xs) (f j l))) }
+  all-more : (b : Bool) → ltb (first_of types x) (length types) ≡ b → (all (is_defined types) xs && b) ≡ all (is_defined types) (xs ++ (x ∷ []))
+  all-more b e = sym (all_append (is_defined types) xs (x ∷ []) ∙ rw e (pick (all (is_defined types) xs) b))
     where
-      pick : (b a : Bool) → (b ≡ true → a ≡ true) → (a || (b || false)) ≡ a
-      pick true true g = refl
-      pick true false g = sym (g refl)
-      pick false true g = refl
-      pick false false g = refl
+      pick : (a b : Bool) → (a && (b && true)) ≡ (a && b)
+      pick true true = refl
+      pick true false = refl
+      pick false b = refl
 
-  pub marked-unknown : n ≤ k → Marked types n (record { set = marks.set; known = false }) (xs ++ (x ∷ []))
-  marked-unknown h =
+  -- the definitions of a name that is one's are added
+  pub name-added : (more : List Bool) → ((j : ℕ) → j < n → get_or more j false ≡ (get_or marks.set j false || eqb (get_or vs (get_or places j 0) 0) x)) → first_of types x < length types →
+      Marked types (record { set = more; own = marks.own }) (xs ++ (x ∷ []))
+  name-added more f h = record {
+    holds = record { says = λ j l. joined-name j (get_or more j false) (let k : j < n = omega (arith, t.count) in rw (← t.same j k) (f j k)) l };
+    own = m.own ∙ with-true (all (is_defined types) xs) ∙ all-more true (lt-ltb (first_of types x) (length types) h);
+  }
+    where
+      with-true : (a : Bool) → a ≡ (a && true)
+      with-true true = refl
+      with-true false = refl
+
+  -- no definition has the name
+  pub name-unknown : first_of types x ≡ length types → Marked types (record { set = marks.set; own = false }) (xs ++ (x ∷ []))
+  name-unknown h = record {
+    holds = record { says = λ j l. joined-name j (get_or marks.set j false) (without j (cases_Bool (eqb (name_at types j) x)) l) l };
+    own = sym (and-false (all (is_defined types) xs)) ∙ all-more false (le-ltb (first_of types x) (length types) (omega (arith, h)));
+  }
+    where
+      without : (j : ℕ) → (eqb (name_at types j) x ≡ true) ⊎ (eqb (name_at types j) x ≡ false) → j < length types → get_or marks.set j false ≡ (get_or marks.set j false || eqb (name_at types j) x)
+      without j (inl e) l = absurd (omega (arith, h, place-before (is_named x) types nowhere j l e))
+      without j (inr e) l = rw e (or-false (get_or marks.set j false))
+
+  -- the name is there already
+  pub name-again : (k : ℕ) → k ≡ first_of types x → k < length types → get_or marks.set k false ≡ true → Marked types marks (xs ++ (x ∷ []))
+  name-again k first h e =
+      let f : name_at types k ≡ x = rw first (eqb-true _ x (place-true (is_named x) types nowhere (omega arith))) in
+      let u : among x xs ≡ true = rw f at (sym (m.holds.says k h) ∙ e) in
       record {
-        holds = holds-still (λ j l e. absurd (omega (arith, t.count, place-before (is_named x) types nowhere j (omega (arith, t.count)) e)));
-        known = sym (all_append (is_defined types) xs (x ∷ []) ∙ rw (le-ltb (first_of types x) (length types) (omega (arith, t.count))) (and-false (all (is_defined types) xs)));
+        holds = record { says = λ j l. joined-name j (get_or marks.set j false) (within j (cases_Bool (eqb (name_at types j) x)) l u) l };
+        own = m.own ∙ with-true (all (is_defined types) xs) ∙ all-more true (lt-ltb (first_of types x) (length types) (omega arith));
       }
+    where
+      with-true : (a : Bool) → a ≡ (a && true)
+      with-true true = refl
+      with-true false = refl
 
-  pub marked-again : k < n → get_or marks.set k 0 ≡ 1 → Marked types n (record { set = marks.set; known = marks.known }) (xs ++ (x ∷ []))
-  marked-again h e =
-      let f : name_at types k ≡ x = rw first (eqb-true _ x (place-true (is_named x) types nowhere (omega (arith, t.count)))) in
-      let u : among (name_at types k) xs ≡ true = bit-true (among (name_at types k) xs) (sym (m.holds.says k h) ∙ e) in
-      record {
-        holds = holds-still (λ j l d. rw (eqb-true (name_at types j) x d) (rw f at u));
-        known = m.known ∙ sym (all_append (is_defined types) xs (x ∷ []) ∙ rw (lt-ltb (first_of types x) (length types) (omega (arith, t.count))) (and-true (all (is_defined types) xs)));
-      }
+      within : (j : ℕ) → (eqb (name_at types j) x ≡ true) ⊎ (eqb (name_at types j) x ≡ false) → j < length types → among x xs ≡ true → get_or marks.set j false ≡ (get_or marks.set j false || eqb (name_at types j) x)
+      within j (inl d) l u = let g : name_at types j ≡ x = eqb-true (name_at types j) x d in let s : get_or marks.set j false ≡ true = m.holds.says j l ∙ rw g u in rw s
+      within j (inr d) l u = rw d (or-false (get_or marks.set j false))
 
--- what holds of some names, and of those that types go on to besides
-module _ (P : List ℕ → Type 0) (xs : List ℕ) where
-  pub marks-basic : (t : Ty) (b : _) → t ≡ Ty.primitive b → P xs → P (xs ++ target t)
+-- the name that a type ends in
+module _ (t : Ty) where
+  pub target-basic : (b : _) → t ≡ Ty.primitive b → target t ≡ []
   unfolding target
-  marks-basic t b e h = rw (e, append-nil xs) h
+  target-basic b e = rw e
 
-  pub marks-named : (t : Ty) (x : ℕ) → t ≡ Ty.named x → P (xs ++ (x ∷ [])) → P (xs ++ target t)
+  pub target-named : (x : ℕ) → t ≡ Ty.named x → target t ≡ x ∷ []
   unfolding target
-  marks-named t x e h = rw e h
+  target-named x e = rw e
 
-  pub marks-array : (t b : Ty) (m : ℕ) → t ≡ Ty.array m b → P (xs ++ target b) → P (xs ++ target t)
+  pub target-array : (b : Ty) (m : ℕ) → t ≡ Ty.array m b → target t ≡ target b
   unfolding target
-  marks-array t b m e h = rw e h
+  target-array b m e = rw e
 
-  -- the names that the types of fields end in
-  module _ (M : ℕ) (ts : List TagValue) (k p : ℕ) (fs : List Declared) (q : ℕ) where
-    pub marks-no-field : k ≡ 0 → times k (declaration M) ts p ≡ got fs q → P xs → P (xs ++ join (map (λ f. target f.type) fs))
-    marks-no-field z g h = let e = times-nil (declaration M) ts k p fs q z g in rw (e.0, append-nil xs) h
+-- what holds of some names holds of those that a type ends in besides
+module _ (P : List ℕ → Type 0) (xs : List ℕ) (t : Ty) where
+  pub target-none : target t ≡ [] → P xs → P (xs ++ target t)
+  target-none e h = rw (e, append-nil xs) h
 
-    pub marks-fields : (first : ℕ) (f : FirstField M ts k p first fs q) → P ((xs ++ target f.type) ++ join (map (λ g. target g.type) f.rest)) → P (xs ++ join (map (λ g. target g.type) fs))
-    marks-fields first f h = rw f.whole (rw (append_assoc xs (target f.type) (join (map (λ g. target g.type) f.rest))) at h)
+  pub target-one : (x : ℕ) → target t ≡ x ∷ [] → P (xs ++ (x ∷ [])) → P (xs ++ target t)
+  target-one x e h = rw e h
 
-pub nothing-described : (M : ℕ) (ts : List TagValue) (d : TypeDef) (q : ℕ) (D : Defined) → Described M ts d q D → D ≡ Defined.Nothing → ⊥
-unfolding Described
-nothing-described M ts d q D g e = rw e at g
+-- the names that the types of fields end in: of the fields that are left, and of those before
+pub record FieldsLeft (types : List TypeDef) (M : ℕ) (ts : List TagValue) (marks : Targets) (k p : ℕ) (fs : List Declared) (q : ℕ) : Type 0 where
+  pub rest : List Declared
+  pub names : List ℕ
+  pub reads : times k (declaration M) ts p ≡ got rest q
+  pub marked : Marked types marks names
+  pub whole : names ++ join (map (λ f. target f.type) rest) ≡ join (map (λ f. target f.type) fs)
 
--- marks of what a definition goes on to
-module _ (types : List TypeDef) (n : ℕ) (M : ℕ) (ts : List TagValue) (d : TypeDef) (q : ℕ) (D : Defined) (g : Described M ts d q D) where
-  pub marks-enum : (y c p : ℕ) → D ≡ Defined.Enum y c p → n ≤ 32 → MarkedBody types n (record { set = replicate 32 0; known = ltb 0 c }) d.body
+module _ (types : List TypeDef) (M : ℕ) (ts : List TagValue) (marks : Targets) (n i p : ℕ) (fs : List Declared) (q : ℕ) where
+  pub fields-begin : times n (declaration M) ts p ≡ got fs q → Marked types marks [] → FieldsLeft types M ts marks (n - 0) p fs q
+  fields-begin g m = let f : n ≡ n - 0 = omega arith in record { rest = fs; names = []; reads = rw f at g; marked = m; whole = refl }
+
+  module _ (c : FieldsLeft types M ts marks (n - i) p fs q) where
+    pub fields-next : (first : ℕ) (f : FirstField M ts (n - i) p first c.rest q) (next : ℕ) → times (n - i - 1) (declaration M) ts next ≡ got f.rest q → (more : Targets) →
+        Marked types more (c.names ++ target f.type) → FieldsLeft types M ts more (n - (i + 1)) next fs q
+    fields-next first f next g more m = let e : n - i - 1 ≡ n - (i + 1) = omega arith in record {
+      rest = f.rest;
+      names = c.names ++ target f.type;
+      reads = rw e at g;
+      marked = m;
+      whole = append_assoc c.names (target f.type) (join (map (λ g. target g.type) f.rest)) ∙ rw f.whole at c.whole;
+    }
+
+    pub fields-end : n ≤ i → Marked types marks (join (map (λ f. target f.type) fs))
+    fields-end h =
+        let e = times-nil (declaration M) ts (n - i) p c.rest q (omega arith) c.reads in
+        let f : c.names ≡ join (map (λ f. target f.type) fs) = sym (append-nil c.names) ∙ rw e.0 at c.whole in
+        rw f at c.marked
+
+-- what a definition goes on to
+module _ (types : List TypeDef) (M : ℕ) (ts : List TagValue) (d : TypeDef) (q : ℕ) (D : Defined) (g : Described M ts d q D) where
+  pub targets-enum : (y c p : ℕ) → D ≡ Defined.Enum y c p → TargetsAre types (record { set = replicate 32 false; own = ltb 0 c }) (targets d.body) (own_body types d.body)
   unfolding Described targets own_body
-  marks-enum y c p e l = let h = rw e at g in rw h.2 (go h.0 (times-length (name M) ts c p h.0 q h.1))
+  targets-enum y c p e = let h = rw e at g in rw h.2 (go h.0 (times-length (name M) ts c p h.0 q h.1))
     where
-      go : (vs : List ℕ) → length vs ≡ c → MarkedBody types n (record { set = replicate 32 0; known = ltb 0 c }) (Body.enum vs)
-      go [] i = record { holds = holds-empty types n l; own = le-ltb 0 c (omega arith) }
-      go (v ∷ vs) i = record { holds = holds-empty types n l; own = lt-ltb 0 c (omega arith) }
+      go : (vs : List ℕ) → length vs ≡ c → TargetsAre types (record { set = replicate 32 false; own = ltb 0 c }) (targets (Body.enum vs)) (own_body types (Body.enum vs))
+      go [] i = record { holds = no-names types; own = le-ltb 0 c (omega arith) }
+      go (v ∷ vs) i = record { holds = no-names types; own = lt-ltb 0 c (omega arith) }
 
-  module _ (marks : Marks) where
-    pub marks-record : (y c p : ℕ) → D ≡ Defined.Record y c p → ((fs : List Declared) (s : ℕ) → times c (declaration M) ts p ≡ got fs s → Marked types n marks (join (map (λ f. target f.type) fs))) → MarkedBody types n marks d.body
+  module _ (marks : Targets) where
+    pub targets-record : (y c p : ℕ) → D ≡ Defined.Record y c p →
+        ((fs : List Declared) (s : ℕ) → times c (declaration M) ts p ≡ got fs s → Marked types marks (join (map (λ f. target f.type) fs))) →
+        TargetsAre types marks (targets d.body) (own_body types d.body)
     unfolding Described targets own_body
-    marks-record y c p e f = let h = rw e at g in let m = f h.0 q h.1 in rw h.2 (record { holds = m.holds; own = m.known })
+    targets-record y c p e f = let h = rw e at g in rw h.2 (f h.0 q h.1)
 
-    pub marks-alias : (y p : ℕ) → D ≡ Defined.Alias y p → ((t : Ty) (s : ℕ) → ty M 8 ts p ≡ got t s → Marked types n marks (target t)) → MarkedBody types n marks d.body
+    pub targets-alias : (y p : ℕ) → D ≡ Defined.Alias y p → ((t : Ty) (s : ℕ) → ty M 8 ts p ≡ got t s → Marked types marks (target t)) → TargetsAre types marks (targets d.body) (own_body types d.body)
     unfolding Described targets own_body
-    marks-alias y p e f = let h = rw e at g in let m = f h.0 q h.1 in rw h.2 (record { holds = m.holds; own = m.known })
+    targets-alias y p e f = let h = rw e at g in rw h.2 (f h.0 q h.1)
 
 -- the names that a name goes on to
 module _ (types : List TypeDef) (x : ℕ) where
@@ -231,113 +308,41 @@ module _ (types : List TypeDef) (x : ℕ) where
   unfolding own_name definition_of
   own-some k e h = rw e (rw (find-some (is_named x) types nowhere (omega arith), own_name))
 
--- marks of what a name goes on to, by the definition that is found
-module _ (M : ℕ) (ts : List TagValue) (places : List ℕ) (n : ℕ) (types : List TypeDef) (t : Table M ts places n types) (x y k : ℕ) (same : x ≡ y) (first : k ≡ first_of types x) where
-  pub goes-nowhere : n ≤ k → n ≤ 32 → MarkedName types n (record { set = replicate 32 0; known = false }) y
-  goes-nowhere h l =
-      let f : k ≡ first_of types y = rw same at first in
-      record { holds = rw (goes_none types y (omega (arith, t.count))) (holds-empty types n l); own = sym (own-none types y (omega (arith, t.count))) }
+-- what a name goes on to, by the definition that is found
+module _ (types : List TypeDef) (x y : ℕ) (same : x ≡ y) where
+  pub goes-nowhere : first_of types x ≡ length types → TargetsAre types (record { set = replicate 32 false; own = false }) (goes_on types y) (own_name types y)
+  goes-nowhere h = rw (← same) (record { holds = rw (goes_none types x (omega arith)) (no-names types); own = sym (own-none types x (omega arith)) })
 
-  pub goes_by : (marks : Marks) → k < n → ((d : TypeDef) (q : ℕ) → type_def M ts (get_or places k 0) ≡ got d q → MarkedBody types n marks d.body) → MarkedName types n marks y
-  goes_by marks h b =
-      let f : k ≡ first_of types y = rw same at first in
-      let s = t.stands k h in
-      let m = b (def_at types k) s.0 s.1 in
-      record { holds = rw (goes_some types y k f (omega (arith, t.count))) m.holds; own = m.own ∙ sym (own-some types y k f (omega (arith, t.count))) }
+  pub goes_by : (k : ℕ) (marks : Targets) → k ≡ first_of types x → k < length types → TargetsAre types marks (targets (def_at types k).body) (own_body types (def_at types k).body) → TargetsAre types marks (goes_on types y) (own_name types y)
+  goes_by k marks f h m = rw (← same) (record { holds = rw (goes_some types x k f h) m.holds; own = m.own ∙ sym (own-some types x k f h) })
 
--- one more byte of a row, which starts at b
-module _ (go before row : List ℕ) (b j : ℕ) (room : b + j < length go) where
-  pub row_more : ((m : ℕ) → m < b → get_or go m 0 ≡ get_or before m 0) → ((k : ℕ) → k < j → get_or go (b + k) 0 ≡ get_or row k 0) →
-      ((m : ℕ) → m < b → get_or (set go (b + j) (get_or row j 0)) m 0 ≡ get_or before m 0) × ((k : ℕ) → k < j + 1 → get_or (set go (b + j) (get_or row j 0)) (b + k) 0 ≡ get_or row k 0)
-  row_more old new = ((λ m h. get_or-set_other go (b + j) m _ 0 (λ e. omega arith) ∙ old m h), λ k h. pick k h (eqb k j) refl)
-    where
-      pick : (k : ℕ) → k < j + 1 → (t : Bool) → eqb k j ≡ t → get_or (set go (b + j) (get_or row j 0)) (b + k) 0 ≡ get_or row k 0
-      pick k h true t = let e : k ≡ j = eqb-true k j t in rw e (get_or-set_same go (b + j) _ 0 room)
-      pick k h false t = let n : k < j = omega (arith, eqb-false k j t) in get_or-set_other go (b + j) (b + k) _ 0 (λ e. omega arith) ∙ new k n
-
--- a row of the table
-module _ (go after row : List ℕ) (n i : ℕ) (before : (m : ℕ) → m < 32 * i → get_or after m 0 ≡ get_or go m 0) (written : (j : ℕ) → j < n → get_or after (32 * i + j) 0 ≡ get_or row j 0) where
-  pub rows_more : (types : List TypeDef) → n ≤ 32 → ((a j : ℕ) → a < i → j < n → get_or go (32 * a + j) 0 ≡ bit (among (name_at types j) (goes_on types (name_at types a)))) → NamesInSet types n row (goes_on types (name_at types i)) →
-      (a j : ℕ) → a < i + 1 → j < n → get_or after (32 * a + j) 0 ≡ bit (among (name_at types j) (goes_on types (name_at types a)))
-  rows_more types l f h a j u v = pick (eqb a i) refl
-    where
-      pick : (b : Bool) → eqb a i ≡ b → get_or after (32 * a + j) 0 ≡ bit (among (name_at types j) (goes_on types (name_at types a)))
-      pick true e = let g : a ≡ i = eqb-true a i e in rw g (written j v ∙ h.says j v)
-      pick false e = let w : a < i = omega (arith, eqb-false a i e) in before (32 * a + j) (omega arith) ∙ f a j w v
-
--- one of a set that goes on to j
-module _ (go set : List ℕ) (j : ℕ) where
-  pub joined-found : (n i : ℕ) → i < n → get_or set i 0 ≡ 1 → get_or go (32 * i + j) 0 ≡ 1 → joined go set j n ≡ true
-  unfolding joined
-  joined-found zero i h a b = absurd (omega arith)
-  joined-found (suc n) i h a b = pick (eqb i n) refl (joined-found n i)
-    where
-      pick : (t : Bool) → eqb i n ≡ t → (i < n → get_or set i 0 ≡ 1 → get_or go (32 * i + j) 0 ≡ 1 → joined go set j n ≡ true) → (joined go set j n || (eqb (get_or set n 0) 1 && eqb (get_or go (32 * n + j) 0) 1)) ≡ true
-      pick true t r = let e : i ≡ n = eqb-true i n t in or_right (joined go set j n) _ (rw (← e, a, b))
-      pick false t r = or_left (joined go set j n) _ (r (omega (arith, eqb-false i n t)) a b)
-
-  pub joined-more : (i : ℕ) → joined go set j i ≡ false → ((get_or set i 0 ≡ 1) → (get_or go (32 * i + j) 0 ≡ 1) → ⊥) → joined go set j (i + 1) ≡ false
-  unfolding joined
-  joined-more i e f = rw (add-one i, e) (pick (eqb (get_or set i 0) 1) (eqb (get_or go (32 * i + j) 0) 1) refl refl)
-    where
-      pick : (a b : Bool) → eqb (get_or set i 0) 1 ≡ a → eqb (get_or go (32 * i + j) 0) 1 ≡ b → (a && b) ≡ false
-      pick true true s t = absurd (f (eqb-true _ 1 s) (eqb-true _ 1 t))
-      pick true false s t = refl
-      pick false b s t = refl
-
-  pub joined_end : (i n : ℕ) → n ≤ i → i ≤ n → joined go set j i ≡ false → false ≡ joined go set j n
-  joined_end i n h l e = let f : i ≡ n = omega arith in sym (rw f at e)
-
--- a byte of the next set
-module _ (s : ℕ) (a b : Bool) (e : b ≡ a) where
-  pub byte-joined : (s ≡ 1 → ⊥) → b ≡ true → 1 ≡ bit (eqb s 1 || a)
-  byte-joined h t = rw (ne_eqb s 1 h, ← e, t)
-
-  pub byte-out : (s ≡ 1 → ⊥) → b ≡ false → 0 ≡ bit (eqb s 1 || a)
-  byte-out h t = rw (ne_eqb s 1 h, ← e, t)
-
--- a step of sets as bytes is a step of sets of names
-module _ (types : List TypeDef) (n : ℕ) (many : length types ≡ n) (go set : List ℕ) (edges : Edges types n go) (xs : List ℕ) (holds : NamesInSet types n set xs) where
-  joined-any : (j m : ℕ) → j < n → m ≤ n → joined go set j m ≡ true → any (λ x. among (name_at types j) (goes_on types x)) xs ≡ true
-  unfolding joined
-  joined-any j zero h l e = let z : ◌≡◌ {A = ℕ} 0 1 = cc in absurd (omega arith)
-  joined-any j (suc m) h l e =
-      pick (joined go set j m) (eqb (get_or set m 0) 1) (eqb (get_or go (32 * m + j) 0) 1) refl refl refl e (joined-any j m h (omega arith))
-    where
-      pick : (a b c : Bool) → joined go set j m ≡ a → eqb (get_or set m 0) 1 ≡ b → eqb (get_or go (32 * m + j) 0) 1 ≡ c → (a || (b && c)) ≡ true → (joined go set j m ≡ true → any (λ x. among (name_at types j) (goes_on types x)) xs ≡ true) →
-          any (λ x. among (name_at types j) (goes_on types x)) xs ≡ true
-      pick true b c p s t e r = r p
-      pick false true true p s t e r =
-          any-intro (λ x. among (name_at types j) (goes_on types x)) (name_at types m) xs
-          (bit-true _ (sym (holds.says m (omega arith)) ∙ eqb-true _ 1 s))
-          (bit-true _ (sym (edges m j (omega arith) h) ∙ eqb-true _ 1 t))
-      pick false true false p s t e r = let z : ◌≡◌ {A = ℕ} 0 1 = cc in absurd (omega arith)
-      pick false false c p s t e r = let z : ◌≡◌ {A = ℕ} 0 1 = cc in absurd (omega arith)
-
-  any-joined : (j : ℕ) → j < n → any (λ x. among (name_at types j) (goes_on types x)) xs ≡ true → joined go set j n ≡ true
-  any-joined j h e = let a = any-elim (λ x. among (name_at types j) (goes_on types x)) xs e in pick a.0 a.1 a.2 (ltb (first_of types a.0) n) refl
-    where
-      pick : (x : ℕ) → among x xs ≡ true → among (name_at types j) (goes_on types x) ≡ true → (b : Bool) → ltb (first_of types x) n ≡ b → joined go set j n ≡ true
-      pick x u v true t =
-          let l : first_of types x < n = ltb-true (first_of types x) n t in
-          let f : name_at types (first_of types x) ≡ x = first-name types x (omega arith) in
-          joined-found go set j n (first_of types x) l
-          (holds.says (first_of types x) l ∙ bit-one (among (name_at types (first_of types x)) xs) (rw f u))
-          (edges (first_of types x) j l h ∙ bit-one (among (name_at types j) (goes_on types (name_at types (first_of types x)))) (rw f v))
-      pick x u v false t =
-          let w : among (name_at types j) [] ≡ true = rw (goes_none types x (omega (arith, ltb-false (first_of types x) n t))) at v in
-          let z : ◌≡◌ {A = ℕ} 0 1 = cc in absurd (omega arith)
-
-  pub holds-step : (more : List ℕ) → ((j : ℕ) → j < n → get_or more j 0 ≡ bit (eqb (get_or set j 0) 1 || joined go set j n)) → NamesInSet types n more (one_step types xs)
+-- a step of sets is a step of names
+module _ (types : List TypeDef) (g : Graph) (e : Edges types g) (members : List Bool) (xs : List ℕ) (holds : NamesInSet types members xs) where
+  pub holds-step : (more : List Bool) → ((j : ℕ) → j < g.count → (get_or more j false ≡ true) ↔ ((get_or members j false ≡ true) ⊎ Joined g members j)) → NamesInSet types more (one_step types xs)
   unfolding one_step
   holds-step more f = record { says = each }
     where
-      each : (j : ℕ) → j < n → get_or more j 0 ≡ bit (among (name_at types j) (one_step types xs))
+      each : (j : ℕ) → j < length types → get_or more j false ≡ among (name_at types j) (one_step types xs)
       each j h =
-          let k = keep-among (λ y. among y xs || any (λ x. among y (goes_on types x)) xs) (name_at types j) (map (λ d. d.name) types) (among_self types j (omega arith)) in
-          let a : eqb (get_or set j 0) 1 ≡ among (name_at types j) xs = rw (holds.says j h) (bit_test _) in
-          let b : joined go set j n ≡ any (λ x. among (name_at types j) (goes_on types x)) xs = iff _ _ (joined-any j n h (omega arith)) (any-joined j h) in
-          f j h ∙ rw (k, a, b)
+          let k = keep-among (λ y. among y xs || any (λ x. among y (goes_on types x)) xs) (name_at types j) (map (λ d. d.name) types) (among_self types j h) in
+          let l : j < g.count = omega (arith, e.count) in
+          iff _ _ (λ t. k ∙ in-names ((f j l).0 t)) (λ t. (f j l).1 (in-set (or_cases _ _ (sym k ∙ t))))
+        where
+          in-names : (get_or members j false ≡ true) ⊎ Joined g members j → (among (name_at types j) xs || any (λ x. among (name_at types j) (goes_on types x)) xs) ≡ true
+          in-names (inl t) = or_left _ _ (sym (holds.says j h) ∙ t)
+          in-names (inr (i, l, s, t)) =
+              let m : i < length types = omega (arith, e.count) in
+              or_right (among (name_at types j) xs) _ (any-intro (λ x. among (name_at types j) (goes_on types x)) (name_at types i) xs (sym (holds.says i m) ∙ s) (sym ((e.rows i m).holds.says j h) ∙ t))
+
+          in-set : (among (name_at types j) xs ≡ true) ⊎ (any (λ x. among (name_at types j) (goes_on types x)) xs ≡ true) → (get_or members j false ≡ true) ⊎ Joined g members j
+          in-set (inl t) = inl (holds.says j h ∙ t)
+          in-set (inr t) = let a = any-elim (λ x. among (name_at types j) (goes_on types x)) xs t in inr (via a.0 a.1 a.2 (cases_lt (first_of types a.0) (length types)))
+            where
+              via : (x : ℕ) → among x xs ≡ true → among (name_at types j) (goes_on types x) ≡ true → (first_of types x < length types) ⊎ (length types ≤ first_of types x) → Joined g members j
+              via x u v (inl l) =
+                  let n : name_at types (first_of types x) ≡ x = first-name types x l in
+                  (first_of types x, omega (arith, e.count), holds.says (first_of types x) l ∙ rw n u, (e.rows (first_of types x) l).holds.says j h ∙ rw n v)
+              via x u v (inr l) = let w : among (name_at types j) [] ≡ true = rw (goes_none types x l) at v in absurd (true≢false (sym w))
 
 -- the sets that are reached
 module _ (types : List TypeDef) (xs ys : List ℕ) (n k : ℕ) (e : reached types n xs ≡ reached types (n - k) ys) where
@@ -349,68 +354,26 @@ module _ (types : List TypeDef) (xs ys : List ℕ) (n k : ℕ) (e : reached type
   unfolding reached
   reached-end h = let f : n - k ≡ 0 = omega arith in e ∙ rw f
 
--- those that i goes on to are in a set
-module _ (go bytes : List ℕ) (i : ℕ) where
-  pub inside-none : inside go bytes i 0 ≡ true
-  unfolding inside
-  inside-none = refl
-
-  pub inside-out : (n j : ℕ) → j < n → get_or go (32 * i + j) 0 ≡ 1 → (get_or bytes j 0 ≡ 1 → ⊥) → inside go bytes i n ≡ false
-  unfolding inside
-  inside-out zero j h a b = absurd (omega arith)
-  inside-out (suc n) j h a b = pick (eqb j n) refl (inside-out n j)
-    where
-      pick : (t : Bool) → eqb j n ≡ t → (j < n → get_or go (32 * i + j) 0 ≡ 1 → (get_or bytes j 0 ≡ 1 → ⊥) → inside go bytes i n ≡ false) → (inside go bytes i n && (not (eqb (get_or go (32 * i + n) 0) 1) || eqb (get_or bytes n 0) 1)) ≡ false
-      pick true t r = let e : j ≡ n = eqb-true j n t in rw (← e, a, ne_eqb (get_or bytes j 0) 1 b) (and-false (inside go bytes i j))
-      pick false t r = rw (r (omega (arith, eqb-false j n t)) a b)
-
-  pub inside-more : (j : ℕ) → inside go bytes i j ≡ true → (get_or go (32 * i + j) 0 ≡ 1 → get_or bytes j 0 ≡ 1) → inside go bytes i (j + 1) ≡ true
-  unfolding inside
-  inside-more j e f = rw (add-one j, e) (pick (eqb (get_or go (32 * i + j) 0) 1) refl)
-    where
-      pick : (a : Bool) → eqb (get_or go (32 * i + j) 0) 1 ≡ a → (not a || eqb (get_or bytes j 0) 1) ≡ true
-      pick true t = eq-eqb _ 1 (f (eqb-true _ 1 t))
-      pick false t = refl
-
-  pub inside-end : (j n : ℕ) → n ≤ j → j ≤ n → inside go bytes i j ≡ true → true ≡ inside go bytes i n
-  inside-end j n h l e = let f : j ≡ n = omega arith in sym (rw f at e)
-
-  pub inside-each : (n : ℕ) → ((j : ℕ) → j < n → get_or go (32 * i + j) 0 ≡ 1 → get_or bytes j 0 ≡ 1) → inside go bytes i n ≡ true
-  inside-each zero f = inside-none
-  inside-each (suc n) f = rw (← add-one n) (inside-more n (inside-each n (λ j h. f j (omega arith))) (f n (omega arith)))
-
-  pub inside-at : (n j : ℕ) → inside go bytes i n ≡ true → j < n → get_or go (32 * i + j) 0 ≡ 1 → get_or bytes j 0 ≡ 1
-  inside-at n j e h a = pick (eqb (get_or bytes j 0) 1) refl
-    where
-      pick : (t : Bool) → eqb (get_or bytes j 0) 1 ≡ t → get_or bytes j 0 ≡ 1
-      pick true t = eqb-true _ 1 t
-      pick false t = let f = inside-out n j h a (eqb-false _ 1 t) in let z : ◌≡◌ {A = ℕ} 0 1 = cc in absurd (omega arith)
-
 -- from a set that is closed, only its own are reached
-module _ (types : List TypeDef) (n : ℕ) (many : length types ≡ n) (go bytes : List ℕ) (edges : Edges types n go) (settled : Acyclic types n go bytes) where
+module _ (types : List TypeDef) (g : Graph) (e : Edges types g) (members : List Bool) (settled : Acyclic types g members) where
   abbrev Inside : List ℕ → Type 0
-  Inside xs = (j : ℕ) → j < n → among (name_at types j) xs ≡ true → get_or bytes j 0 ≡ 1
+  Inside xs = (j : ℕ) → j < length types → among (name_at types j) xs ≡ true → get_or members j false ≡ true
 
   step-inside : (xs : List ℕ) → Inside xs → Inside (one_step types xs)
   unfolding one_step
-  step-inside xs f j h e =
-      let k = keep-among (λ y. among y xs || any (λ x. among y (goes_on types x)) xs) (name_at types j) (map (λ d. d.name) types) (among_self types j (omega arith)) in
-      pick (among (name_at types j) xs) (any (λ x. among (name_at types j) (goes_on types x)) xs) refl refl (sym k ∙ e)
+  step-inside xs f j h t =
+      let k = keep-among (λ y. among y xs || any (λ x. among y (goes_on types x)) xs) (name_at types j) (map (λ d. d.name) types) (among_self types j h) in
+      pick (or_cases _ _ (sym k ∙ t))
     where
-      via : (x : ℕ) → among x xs ≡ true → among (name_at types j) (goes_on types x) ≡ true → (b : Bool) → ltb (first_of types x) n ≡ b → get_or bytes j 0 ≡ 1
-      via x u v true t =
-          let l : first_of types x < n = ltb-true (first_of types x) n t in
-          let g : name_at types (first_of types x) ≡ x = first-name types x (omega arith) in
-          settled.closed (first_of types x) l (f (first_of types x) l (rw g u)) j h
-          (edges (first_of types x) j l h ∙ bit-one (among (name_at types j) (goes_on types (name_at types (first_of types x)))) (rw g v))
-      via x u v false t =
-          let w : among (name_at types j) [] ≡ true = rw (goes_none types x (omega (arith, ltb-false (first_of types x) n t))) at v in
-          let z : ◌≡◌ {A = ℕ} 0 1 = cc in absurd (omega arith)
+      via : (x : ℕ) → among x xs ≡ true → among (name_at types j) (goes_on types x) ≡ true → (first_of types x < length types) ⊎ (length types ≤ first_of types x) → get_or members j false ≡ true
+      via x u v (inl l) =
+          let n : name_at types (first_of types x) ≡ x = first-name types x l in
+          settled.closed (first_of types x) l (f (first_of types x) l (rw n u)) j h ((e.rows (first_of types x) l).holds.says j h ∙ rw n v)
+      via x u v (inr l) = let w : among (name_at types j) [] ≡ true = rw (goes_none types x l) at v in absurd (true≢false (sym w))
 
-      pick : (a b : Bool) → among (name_at types j) xs ≡ a → any (λ x. among (name_at types j) (goes_on types x)) xs ≡ b → (a || b) ≡ true → get_or bytes j 0 ≡ 1
-      pick true b p q s = f j h p
-      pick false true p q s = let w = any-elim (λ x. among (name_at types j) (goes_on types x)) xs q in via w.0 w.1 w.2 (ltb (first_of types w.0) n) refl
-      pick false false p q s = let z : ◌≡◌ {A = ℕ} 0 1 = cc in absurd (omega arith)
+      pick : (among (name_at types j) xs ≡ true) ⊎ (any (λ x. among (name_at types j) (goes_on types x)) xs ≡ true) → get_or members j false ≡ true
+      pick (inl p) = f j h p
+      pick (inr q) = let w = any-elim (λ x. among (name_at types j) (goes_on types x)) xs q in via w.0 w.1 w.2 (cases_lt (first_of types w.0) (length types))
 
   reached-inside : (m : ℕ) (xs : List ℕ) → Inside xs → Inside (reached types m xs)
   unfolding reached
@@ -418,51 +381,42 @@ module _ (types : List TypeDef) (n : ℕ) (many : length types ≡ n) (go bytes 
   reached-inside (suc m) xs f = reached-inside m (one_step types xs) (step-inside xs f)
 
   -- one more whose own are all in the set
-  module _ (i : ℕ) (h : i < n) (room : i < length bytes) (all : inside go bytes i n ≡ true) where
+  module _ (i : ℕ) (h : i < length types) (room : i < length members) (within : IsWithin (length types) (row_at g i).set members) where
     itself-not : (m : ℕ) → among (name_at types i) (reached types m (goes_on types (name_at types i))) ≡ false
-    itself-not m = pick (eqb (get_or bytes i 0) 1) refl (among (name_at types i) (reached types m (goes_on types (name_at types i)))) refl
+    itself-not m = pick (cases_Bool (get_or members i false)) (cases_Bool (among (name_at types i) (reached types m (goes_on types (name_at types i)))))
       where
         start : Inside (goes_on types (name_at types i))
-        start j l e = inside-at go bytes i n j all l (edges i j h l ∙ bit-one _ e)
+        start j l t = within j l ((e.rows i h).holds.says j l ∙ t)
 
-        pick : (a : Bool) → eqb (get_or bytes i 0) 1 ≡ a → (b : Bool) → among (name_at types i) (reached types m (goes_on types (name_at types i))) ≡ b → b ≡ false
-        pick true s b t = sym t ∙ settled.acyclic i h (eqb-true _ 1 s) m
-        pick false s true t = absurd (eqb-false _ 1 s (reached-inside m (goes_on types (name_at types i)) start i h t))
-        pick false s false t = refl
+        pick : (get_or members i false ≡ true) ⊎ (get_or members i false ≡ false) →
+            (among (name_at types i) (reached types m (goes_on types (name_at types i))) ≡ true) ⊎ (among (name_at types i) (reached types m (goes_on types (name_at types i))) ≡ false) →
+            among (name_at types i) (reached types m (goes_on types (name_at types i))) ≡ false
+        pick (inl s) t = settled.acyclic i h s m
+        pick (inr s) (inl t) = absurd (true≢false (sym (reached-inside m (goes_on types (name_at types i)) start i h t) ∙ s))
+        pick (inr s) (inr t) = t
 
-    grown : (j : ℕ) → get_or bytes j 0 ≡ 1 → get_or (set bytes i 1) j 0 ≡ 1
-    grown j e = pick (eqb j i) refl
+    before : (a : ℕ) → get_or (set members i true) a false ≡ true → (a ≡ i → ⊥) → get_or members a false ≡ true
+    before a t n = sym (get_or-set_other members i a true false n) ∙ t
+
+    pub settled-more : Acyclic types g (set members i true)
+    settled-more = record {
+      closed = λ a l t j u s. member-more members i j room (own a l t (cases_eq a i) j u s);
+      acyclic = λ a l t. free a l t (cases_eq a i);
+    }
       where
-        pick : (b : Bool) → eqb j i ≡ b → get_or (set bytes i 1) j 0 ≡ 1
-        pick true t = let f : j ≡ i = eqb-true j i t in rw f (get_or-set_same bytes i 1 0 room)
-        pick false t = get_or-set_other bytes i j 1 0 (eqb-false j i t) ∙ e
+        own : (a : ℕ) → a < length types → get_or (set members i true) a false ≡ true → (a ≡ i) ⊎ (a ≡ i → ⊥) → IsWithin (length types) (row_at g a).set members
+        own a l t (inl f) = rw f within
+        own a l t (inr n) = settled.closed a l (before a t n)
 
-    pub settled-more : Acyclic types n go (set bytes i 1)
-    settled-more = record { closed = λ a l e j u g. grown j (own a l e (eqb a i) refl j u g); acyclic = λ a l e. free a l e (eqb a i) refl }
-      where
-        before : (a : ℕ) → get_or (set bytes i 1) a 0 ≡ 1 → eqb a i ≡ false → get_or bytes a 0 ≡ 1
-        before a e t = sym (get_or-set_other bytes i a 1 0 (eqb-false a i t)) ∙ e
+        free : (a : ℕ) → a < length types → get_or (set members i true) a false ≡ true → (a ≡ i) ⊎ (a ≡ i → ⊥) → (m : ℕ) → among (name_at types a) (reached types m (goes_on types (name_at types a))) ≡ false
+        free a l t (inl f) m = rw f (itself-not m)
+        free a l t (inr n) m = settled.acyclic a l (before a t n) m
 
-        own : (a : ℕ) → a < n → get_or (set bytes i 1) a 0 ≡ 1 → (b : Bool) → eqb a i ≡ b → (j : ℕ) → j < n → get_or go (32 * a + j) 0 ≡ 1 → get_or bytes j 0 ≡ 1
-        own a l e true t j u g = let f : a ≡ i = eqb-true a i t in inside-at go bytes i n j all u (rw (← f) g)
-        own a l e false t j u g = settled.closed a l (before a e t) j u g
-
-        free : (a : ℕ) → a < n → get_or (set bytes i 1) a 0 ≡ 1 → (b : Bool) → eqb a i ≡ b → (m : ℕ) → among (name_at types a) (reached types m (goes_on types (name_at types a))) ≡ false
-        free a l e true t m = let f : a ≡ i = eqb-true a i t in rw f (itself-not m)
-        free a l e false t m = settled.acyclic a l (before a e t) m
-
-pub all_more : (bytes : List ℕ) (i : ℕ) → ((k : ℕ) → k < i → get_or bytes k 0 ≡ 1) → get_or bytes i 0 ≡ 1 → (k : ℕ) → k < i + 1 → get_or bytes k 0 ≡ 1
-all_more bytes i f e k h = pick (eqb k i) refl
+pub settled-none : (types : List TypeDef) (g : Graph) → Acyclic types g (replicate 32 false)
+settled-none types g = record { closed = λ i h e. absurd (no i e); acyclic = λ i h e. absurd (no i e) }
   where
-    pick : (b : Bool) → eqb k i ≡ b → get_or bytes k 0 ≡ 1
-    pick true t = let g : k ≡ i = eqb-true k i t in rw g e
-    pick false t = f k (omega (arith, eqb-false k i t))
-
-pub settled-none : (types : List TypeDef) (n : ℕ) (go : List ℕ) → n ≤ 32 → Acyclic types n go (replicate 32 0)
-settled-none types n go l = record { closed = λ i h e. absurd (no i h e); acyclic = λ i h e. absurd (no i h e) }
-  where
-    no : (i : ℕ) → i < n → ◌≡◌ {A = ℕ} (get_or (replicate 32 0) i 0) 1 → ⊥
-    no i h e = let f = get_or-replicate {A = ℕ} 32 i 0 0 (omega arith) in omega arith
+    no : (i : ℕ) → get_or (replicate 32 false) i false ≡ true → ⊥
+    no i e = true≢false (sym e ∙ empty-at 32 i)
 
 -- the first definition that reaches itself, from the i-th on
 pub record Passed (types : List TypeDef) (i : ℕ) : Type 0 where
@@ -473,14 +427,14 @@ pub record Passed (types : List TypeDef) (i : ℕ) : Type 0 where
 pub passed_none : (types : List TypeDef) → Passed types 0
 passed_none types = record { earlier = []; from = omega arith; are = λ x. sym (le-ltb (first_of types x) 0 (omega arith)) }
 
-module _ (types : List TypeDef) (n : ℕ) (many : length types ≡ n) (i : ℕ) (c : Passed types i) where
-  pub passed-all : n ≤ i → i ≤ n → n ≡ first_cycle types [] types
+module _ (types : List TypeDef) (i : ℕ) (c : Passed types i) where
+  pub passed-all : i ≡ length types → first_cycle types [] types ≡ length types
   unfolding first_cycle
-  passed-all h l = let f : i ≡ length types = omega arith in sym (c.from ∙ rw f (rw (drop-length types) (omega arith)))
+  passed-all f = c.from ∙ rw f (rw (drop-length types) (omega arith))
 
-  module _ (h : i < n) where
+  module _ (h : i < length types) where
     itself : first_of types (name_at types i) ≤ i
-    itself = place-before (is_named (name_at types i)) types nowhere i (omega arith) (eq-eqb (name_at types i) (name_at types i) refl)
+    itself = place-before (is_named (name_at types i)) types nowhere i h (eq-eqb (name_at types i) (name_at types i) refl)
 
     are-more : (x : ℕ) → among x (name_at types i ∷ c.earlier) ≡ ltb (first_of types x) (i + 1)
     are-more x = go (eqb x (name_at types i)) refl
@@ -504,31 +458,31 @@ module _ (types : List TypeDef) (n : ℕ) (many : length types ≡ n) (i : ℕ) 
                     let g : name_at types (first_of types x) ≡ x = first-name types x (omega arith) in
                     absurd (eqb-false x (name_at types i) e (sym g ∙ ap (name_at types) f))
 
-    module _ (k : ℕ) (first : k ≡ first_of types (name_at types i)) (b : Bool) (self : b ≡ among (name_at types i) (reached types n (goes_on types (name_at types i)))) where
-      -- the i-th is the first of its name
-      same_body : k ≡ i → b ≡ reaches_itself types (def_at types i)
+    -- the i-th is the first of its name
+    module _ (first : i ≡ first_of types (name_at types i)) (b : Bool) (self : b ≡ among (name_at types i) (reached types (length types) (goes_on types (name_at types i)))) where
+      same_body : b ≡ reaches_itself types (def_at types i)
       unfolding reaches_itself
-      same_body e = self ∙ rw (goes_some types (name_at types i) i (sym e ∙ first) (omega arith), many)
+      same_body = self ∙ rw (goes_some types (name_at types i) i first h)
 
-      new : k ≡ i → not (among (name_at types i) c.earlier) ≡ true
-      new e = rw (c.are (name_at types i), le-ltb (first_of types (name_at types i)) i (omega arith))
+      new : not (among (name_at types i) c.earlier) ≡ true
+      new = rw (c.are (name_at types i), le-ltb (first_of types (name_at types i)) i (omega arith))
 
-      pub passed_here : k ≡ i → b ≡ true → i ≡ first_cycle types [] types
+      pub passed_here : b ≡ true → i ≡ first_cycle types [] types
       unfolding first_cycle
-      passed_here e t = sym (c.from ∙ rw (drop-cons types i nowhere (omega arith)) (rw (new e, ← same_body e, t) (omega arith)))
+      passed_here t = sym (c.from ∙ rw (drop-cons types i nowhere (omega arith)) (rw (new, ← same_body, t) (omega arith)))
 
-      pub passed_on : k ≡ i → b ≡ false → Passed types (i + 1)
+      pub passed_on : b ≡ false → Passed types (i + 1)
       unfolding first_cycle
-      passed_on e t = record {
+      passed_on t = record {
         earlier = name_at types i ∷ c.earlier;
-        from = c.from ∙ rw (drop-cons types i nowhere (omega arith)) (rw (new e, ← same_body e, t, add-one i) (omega arith));
+        from = c.from ∙ rw (drop-cons types i nowhere (omega arith)) (rw (new, ← same_body, t, add-one i) (omega arith));
         are = are-more;
       }
 
     -- the i-th is not the first of its name
-    pub passed_over : (k : ℕ) → k ≡ first_of types (name_at types i) → (k ≡ i → ⊥) → Passed types (i + 1)
+    pub passed_over : (i ≡ first_of types (name_at types i) → ⊥) → Passed types (i + 1)
     unfolding first_cycle
-    passed_over k first e =
+    passed_over e =
         let l : first_of types (name_at types i) < i = omega (arith, itself) in
         record {
           earlier = name_at types i ∷ c.earlier;
@@ -536,15 +490,44 @@ module _ (types : List TypeDef) (n : ℕ) (many : length types ≡ n) (i : ℕ) 
           are = are-more;
         }
 
--- where none reaches itself
-module _ (types : List TypeDef) (n : ℕ) (many : length types ≡ n) (none : (i : ℕ) → i < n → among (name_at types i) (reached types n (goes_on types (name_at types i))) ≡ false) where
-  passed-each : (i : ℕ) → i ≤ n → Passed types i
-  passed-each zero h = passed_none types
-  passed-each (suc i) h = rw (← add-one i) (pick (passed-each i (omega arith)) (eqb (first_of types (name_at types i)) i) refl)
-    where
-      pick : Passed types i → (b : Bool) → eqb (first_of types (name_at types i)) i ≡ b → Passed types (i + 1)
-      pick c true e = passed_on types n many i c (omega arith) (first_of types (name_at types i)) refl false (sym (none i (omega arith))) (eqb-true _ i e) refl
-      pick c false e = passed_over types n many i c (omega arith) (first_of types (name_at types i)) refl (eqb-false _ i e)
+-- is what was found of a name this definition?
+pub found-this : (types : List TypeDef) (x y i : ℕ) (o : Option ℕ) → x ≡ y → FoundFirst types x o → option_eq eqb o (Some i) ≡ true → i ≡ first_of types y
+found-this types x y i None s f e = absurd (true≢false (sym e))
+found-this types x y i (Some k) s f e = let g : k ≡ i = eqb-true k i e in rw (← g, ← s) f.0
 
-  pub no-cycle : n ≡ first_cycle types [] types
-  no-cycle = passed-all types n many n (passed-each n (omega arith)) (omega arith) (omega arith)
+pub found-other : (types : List TypeDef) (x y i : ℕ) (o : Option ℕ) → x ≡ y → FoundFirst types x o → option_eq eqb o (Some i) ≡ false → i < length types → i ≡ first_of types y → ⊥
+found-other types x y i None s f e h g = let k : first_of types y ≡ length types = rw s at f in omega arith
+found-other types x y i (Some k) s f e h g = eqb-false k i e (f.0 ∙ rw s (sym g))
+
+-- is the i-th a cycle? of the definitions of which T and E are known
+abbrev pub Told : (T E : List TypeDef → Type 0) → Bool → ℕ → Type 0
+Told T E b i = (types : List TypeDef) → T types → E types → IsTrue b ↔ IsCycle types i
+
+-- the cycles among the first definitions tell which is the first of all
+module _ (types : List TypeDef) where
+  pub passed-until : (i : ℕ) → i ≤ length types → ((k : ℕ) → k < i → IsCycle types k → ⊥) → Passed types i
+  passed-until zero h f = passed_none types
+  passed-until (suc i) h f =
+      rw (← add-one i) (pick (passed-until i (omega arith) (λ k l. f k (omega arith))) (cases_eq i (first_of types (name_at types i))) (cases_Bool (among (name_at types i) (reached types (length types) (goes_on types (name_at types i))))))
+    where
+      pick : Passed types i → (i ≡ first_of types (name_at types i)) ⊎ (i ≡ first_of types (name_at types i) → ⊥) →
+          (among (name_at types i) (reached types (length types) (goes_on types (name_at types i))) ≡ true) ⊎ (among (name_at types i) (reached types (length types) (goes_on types (name_at types i))) ≡ false) → Passed types (i + 1)
+      pick c (inl e) (inl t) = absurd (f i (omega arith) (e, t))
+      pick c (inl e) (inr t) = passed_on types i c (omega arith) e false (sym t) refl
+      pick c (inr e) t = passed_over types i c (omega arith) e
+
+  none-passed : ((k : ℕ) → k < length types → IsCycle types k → ⊥) → first_cycle types [] types ≡ length types
+  none-passed f = passed-all types (length types) (passed-until (length types) (omega arith) f) refl
+
+  pub no-cycle : ((i : ℕ) → i < length types → among (name_at types i) (reached types (length types) (goes_on types (name_at types i))) ≡ false) → first_cycle types [] types ≡ length types
+  no-cycle none = none-passed (λ k l s. absurd (true≢false (sym s.1 ∙ none k l)))
+
+  -- what a search for the first found, by what is told of each
+  module _ (T E : List TypeDef → Type 0) (t : T types) (e : E types) where
+    pub first-found : (n : ℕ) (o : Option ℕ) → length types ≡ n → MatchOption o ((k : ℕ) → 0 ≤ k → k < n → Told T E false k) (λ i. (0 ≤ i) × (i < n) × Told T E true i × ((k : ℕ) → 0 ≤ k → k < i → Told T E false k)) →
+        MatchOption o (first_cycle types [] types ≡ length types) (λ i. (i ≡ first_cycle types [] types) × (i < length types))
+    first-found n None l f = none-passed (λ k h s. absurd (true≢false (sym ((f k (omega arith) (omega (arith, l)) types t e).1 s))))
+    first-found n (Some i) l (z, h, y, f) =
+        let s : IsCycle types i = (y types t e).0 refl in
+        let p : Passed types i = passed-until i (omega (arith, l)) (λ k j r. absurd (true≢false (sym ((f k (omega arith) j types t e).1 r)))) in
+        (passed_here types i p (omega (arith, l)) s.0 true (sym s.1) refl, omega (arith, l))

@@ -1,2 +1,1 @@
--- What the proofs of several functions use, and those of other crates.
 pub mod Laws

@@ -1,469 +1,190 @@
-// Refusal 7, a type that reaches itself: document 01, "Checking".
-// At most 32 definitions; a set of them is a byte for each, 1 for those in it. Byte 32 * i + j of the table `go` is 1 where
-// the name of definition i goes on to that of definition j.
+// Refusal 7, a type that reaches itself: document 01, "Checking". A set of definitions says of each, by its place in the table, whether
+// it is in the set.
 #![tactic(auto)]
 
-ghost use Rattle.std.specs.Prelude.{◌≡◌, List, [], ◌∷◌, ◌++◌, map, true, ◌||◌, ℕ, ◌+◌, ◌*◌, ◌≤◌, ◌<◌, eqb, length, get_or};
-ghost use Rattle.definitions.specs.Bytes.{tokens};
-ghost use Rattle.definitions.specs.Lists.{choose, among, join};
+ghost use Rattle.std.specs.Prelude.{◌≡◌, ◌↔◌, IsTrue, List, [], ◌∷◌, ◌++◌, map, ◌||◌, ℕ, ◌<◌, ◌≤◌, eqb, length, get_or, true, false, MatchOption};
+ghost use Rattle.grammar.specs.Read.{tokens_of};
+ghost use Rattle.definitions.specs.Lists.{all, join};
 ghost use Rattle.definitions.specs.Tree.{Ty, Declared, TypeDef};
 ghost use Rattle.definitions.specs.Reading.{got, times};
 ghost use Rattle.definitions.specs.Grammar.{ty, declaration, type_def};
-ghost use Rattle.definitions.specs.Types.{target, goes_on, reached, first_cycle};
+ghost use Rattle.definitions.specs.Types.{target, targets, goes_on, first_cycle};
 ghost use Rattle.layout.specs.Table.{Table, Named, name_at};
-ghost use Rattle.cycles.specs.Edges.{bit, Marked, MarkedBody, MarkedName, Edges, Own, joined, inside, Acyclic};
+ghost use Rattle.cycles.specs.Edges.{own_body, own_name, TargetsAre, Marked, Edges, IsCycle};
 
 use definitions::{ARRAY_LEVELS, MOST_TYPES, TypeToken};
-use grammar::{Read, TypeHead};
-use layout::Defined;
+use grammar::Source;
+pub use graph::{Graph, Targets};
+use layout::{Defined, PlaceTable};
 
-// The bytes of a table with one for each two definitions.
-pub const TYPE_PAIRS: usize = MOST_TYPES * MOST_TYPES;
+mod graph;
 
-// A set of definitions, and whether each name that was marked is that of one.
+// A sheet's tokens, and where the definitions of its types stand among them.
 #[derive(Clone, Copy)]
-struct Marks {
-    set: [u8; MOST_TYPES],
-    known: bool,
+pub struct TypeTable<'a, 'b> {
+    pub source: Source<'a>,
+    pub places: &'b PlaceTable<MOST_TYPES>,
 }
 
-// The table `go`, and a byte for each definition's name: 1 where it has a default as soon as all that it goes on to have one.
-#[derive(Clone, Copy)]
-pub struct Graph {
-    pub go: [u8; TYPE_PAIRS],
-    pub own: [u8; MOST_TYPES],
-}
-
-// A byte of a set to which the definitions of a name are added: for one that is called so.
-fn marked(called: u32, byte: u8, x: u32) -> u8
-    ensures { result ≡ choose (eqb called x) 1 byte }
+// The name that a type ends in, through its elements; none, where it ends in a primitive type.
+pub fn target_of(source: &Source<'_>, depth: u32, at: usize) -> Option<u32>
+    ensures { (t : Ty) (q : ℕ) → ty source.now.names depth (tokens_of source.now) at ≡ got t q → MatchOption result (target t ≡ []) (λ x. target t ≡ x ∷ []) }
 {
-    if called == x { 1 } else { byte }
+    let Ok((head, next)) = grammar::type_head(source, at) else {
+        return None;
+    };
+    match head {
+        TypeToken::Basic(_) => None,
+        TypeToken::Named(x) => Some(x),
+        TypeToken::Array(_) => {
+            if depth == 0 {
+                return None;
+            }
+            target_of(source, depth - 1, next)
+        }
+    }
 }
 
 // A set and the definitions of one more name.
-fn mark_name(
+fn with_name(
     values: &[u32],
-    places: &[usize; MOST_TYPES],
-    n: usize,
-    set: &[u8; MOST_TYPES],
+    places: &PlaceTable<MOST_TYPES>,
+    set: &[bool; MOST_TYPES],
     x: u32,
-) -> [u8; MOST_TYPES]
-    requires { n ≤ 32 }
-    ensures { (j : ℕ) → j < n → get_or result j 0 ≡ choose (eqb (get_or values.now (get_or places.now j 0) 0) x) 1 (get_or set.now j 0) }
+) -> [bool; MOST_TYPES]
+    ensures { (j : ℕ) → j < places.now.count → get_or result j false ≡ (get_or set.now j false || eqb (get_or values.now (get_or places.now.at j 0) 0) x) }
 {
-    let mut more = [0u8; MOST_TYPES];
-    let mut j: usize = 0;
-    while j < n {
-        let called = layout::value_at(values, places[j]);
-        more[j] = marked(called, set[j], x);
-        j += 1;
+    let mut more = *set;
+    for j in 0..places.count {
+        more[j] = set[j] || layout::value_at(values, places.at[j]) == x;
     }
     more
 }
 
-// Marks and one more name. Of a name that no definition has, or that is marked already, the set stays.
-fn add_name(values: &[u32], places: &[usize; MOST_TYPES], n: usize, marks: Marks, x: u32) -> Marks
-    requires { n ≤ 32 }
-    ensures { (types : List TypeDef) (xs : List ℕ) → Named values.now places.now n types → Marked types n marks xs → Marked types n result (xs ++ (x ∷ [])) }
+// Targets and one more name. Of a name that no definition has, or that is there already, the set stays.
+fn add_name(values: &[u32], places: &PlaceTable<MOST_TYPES>, targets: Targets, x: u32) -> Targets
+    ensures { (types : List TypeDef) (xs : List ℕ) → Named values.now places.now.at places.now.count types → Marked types targets xs → Marked types result (xs ++ (x ∷ [])) }
 {
-    let set = marks.set;
-    let known = marks.known;
-    let k = layout::find_definition(values, places, n, x);
-    if n <= k {
-        return Marks {
-            set: set,
-            known: false,
-        };
+    let set = targets.set;
+    let Some(first) = layout::find_definition(values, places, x) else {
+        return Targets { set, own: false };
+    };
+    if set[first] {
+        return targets;
     }
-    if set[k] == 1 {
-        return Marks {
-            set: set,
-            known: known,
-        };
-    }
-    let more = mark_name(values, places, n, &set, x);
-    Marks {
-        set: more,
-        known: known,
+    Targets {
+        set: with_name(values, places, &set, x),
+        own: targets.own,
     }
 }
 
-// Marks and the name that a type ends in, through its elements.
-fn mark_type(
-    tags: &[u8],
-    values: &[u32],
-    names: u32,
-    places: &[usize; MOST_TYPES],
-    n: usize,
-    marks: Marks,
-    depth: u32,
-    at: usize,
-) -> Marks
-    requires values_len { length values.now ≡ length tags.now }
-    requires n_bound { n ≤ 32 }
-    ensures { (types : List TypeDef) (t : Ty) (q : ℕ) (xs : List ℕ) → Named values.now places.now n types → ty names depth (tokens tags.now values.now) at ≡ got t q → Marked types n marks xs → Marked types n result (xs ++ target t) }
+// Targets and the name that the type at a place ends in.
+fn add_type(table: &TypeTable<'_, '_>, targets: Targets, at: usize) -> Targets
+    ensures { (types : List TypeDef) (t : Ty) (q : ℕ) (xs : List ℕ) → Named table.now.source.values.now table.now.places.now.at table.now.places.now.count types → ty table.now.source.names 8 (tokens_of table.now.source) at ≡ got t q → Marked types targets xs → Marked types result (xs ++ target t) }
 {
-    let head = grammar::type_head(tags, values, names, at);
-    match head {
-        TypeHead::Refused(_) => marks,
-        TypeHead::Token(t, next) => match t {
-            TypeToken::Basic(_) => marks,
-            TypeToken::Named(x) => add_name(values, places, n, marks, x),
-            TypeToken::Array(_) => if depth == 0 {
-                marks
-            } else {
-                mark_type(tags, values, names, places, n, marks, depth - 1, next)
-            },
+    match target_of(&table.source, ARRAY_LEVELS, at) {
+        Some(x) => add_name(table.source.values, table.places, targets, x),
+        None => targets,
+    }
+}
+
+// No targets, all of which are defined.
+fn no_targets() -> Targets
+    ensures { (types : List TypeDef) → Marked types result [] }
+{
+    Targets {
+        set: [false; MOST_TYPES],
+        own: true,
+    }
+}
+
+// The names that the types of so many fields end in.
+fn field_targets(table: &TypeTable<'_, '_>, count: u32, at: usize) -> Targets
+    ensures { (types : List TypeDef) (fs : List Declared) (q : ℕ) → Named table.now.source.values.now table.now.places.now.at table.now.places.now.count types → times count (declaration table.now.source.names) (tokens_of table.now.source) at ≡ got fs q → Marked types result (join (map (λ f. target f.type) fs)) }
+{
+    let mut targets = no_targets();
+    let mut place = at;
+    for _ in 0..count {
+        let Ok(next) = grammar::read_declaration(&table.source, place) else {
+            return targets;
+        };
+        let first = layout::behind(table.source.tags, place);
+        targets = add_type(table, targets, first);
+        place = next;
+    }
+    targets
+}
+
+// What the definition at a place goes on to.
+fn definition_targets(table: &TypeTable<'_, '_>, at: usize) -> Targets
+    ensures { (types : List TypeDef) (d : TypeDef) (q : ℕ) → Named table.now.source.values.now table.now.places.now.at table.now.places.now.count types → type_def table.now.source.names (tokens_of table.now.source) at ≡ got d q → TargetsAre types result (targets d.body) (own_body types d.body) }
+{
+    match layout::describe(&table.source, at) {
+        Some(Defined::Enum(_, count, _)) => Targets {
+            set: [false; MOST_TYPES],
+            own: 0 < count,
+        },
+        Some(Defined::Record(_, count, first)) => field_targets(table, count, first),
+        Some(Defined::Alias(_, first)) => add_type(table, no_targets(), first),
+        None => no_targets(),
+    }
+}
+
+// What the name of definition i goes on to.
+fn name_targets(table: &TypeTable<'_, '_>, i: usize) -> Targets
+    requires { i < table.now.places.now.count }
+    ensures { (types : List TypeDef) → Table table.now.source.names (tokens_of table.now.source) table.now.places.now.at table.now.places.now.count types → TargetsAre types result (goes_on types (name_at types i)) (own_name types (name_at types i)) }
+{
+    let x = layout::value_at(table.source.values, table.places.at[i]);
+    match layout::find_definition(table.source.values, table.places, x) {
+        Some(first) => definition_targets(table, table.places.at[first]),
+        None => Targets {
+            set: [false; MOST_TYPES],
+            own: false,
         },
     }
 }
 
-// Marks and the names that the types of so many fields end in.
-fn mark_fields(
-    tags: &[u8],
-    values: &[u32],
-    names: u32,
-    places: &[usize; MOST_TYPES],
-    n: usize,
-    marks: Marks,
-    left: u32,
-    at: usize,
-) -> Marks
-    requires values_len { length values.now ≡ length tags.now }
-    requires n_bound { n ≤ 32 }
-    ensures { (types : List TypeDef) (fs : List Declared) (q : ℕ) (xs : List ℕ) → Named values.now places.now n types → times left (declaration names) (tokens tags.now values.now) at ≡ got fs q → Marked types n marks xs → Marked types n result (xs ++ join (map (λ f. target f.type) fs)) }
+// What the name of each definition goes on to.
+pub fn edges(source: &Source<'_>, places: &PlaceTable<MOST_TYPES>) -> Graph
+    ensures count { result.count ≡ places.now.count }
+    ensures edges { (types : List TypeDef) → Table source.now.names (tokens_of source.now) places.now.at places.now.count types → Edges types result }
 {
-    if left == 0 {
-        return marks;
-    }
-    let label = grammar::read_name(tags, values, names, at);
-    match label {
-        Read::Refused(_) => marks,
-        Read::Next(first) => {
-            let more = mark_type(tags, values, names, places, n, marks, ARRAY_LEVELS, first);
-            let rest = grammar::read_type(tags, values, names, ARRAY_LEVELS, first);
-            match rest {
-                Read::Refused(_) => more,
-                Read::Next(next) => mark_fields(
-                    tags,
-                    values,
-                    names,
-                    places,
-                    n,
-                    more,
-                    left - 1,
-                    next,
-                ),
-            }
-        }
-    }
-}
-
-// The definitions of the names that a definition goes on to, and whether it has a default as soon as these have one.
-fn mark_definition(
-    tags: &[u8],
-    values: &[u32],
-    names: u32,
-    places: &[usize; MOST_TYPES],
-    n: usize,
-    at: usize,
-) -> Marks
-    requires values_len { length values.now ≡ length tags.now }
-    requires n_bound { n ≤ 32 }
-    ensures { (types : List TypeDef) (d : TypeDef) (q : ℕ) → Named values.now places.now n types → type_def names (tokens tags.now values.now) at ≡ got d q → MarkedBody types n result d.body }
-{
-    let none = [0u8; MOST_TYPES];
-    let start = Marks {
-        set: none,
-        known: true,
+    let table = TypeTable {
+        source: *source,
+        places,
     };
-    let found = layout::describe(tags, values, names, at);
-    match found {
-        Defined::Enum(_, count, _) => {
-            let some = 0 < count;
-            Marks {
-                set: none,
-                known: some,
-            }
-        }
-        Defined::Record(_, count, first) => {
-            mark_fields(tags, values, names, places, n, start, count, first)
-        }
-        Defined::Alias(_, first) => mark_type(
-            tags,
-            values,
-            names,
-            places,
-            n,
-            start,
-            ARRAY_LEVELS,
-            first,
-        ),
-        Defined::Nothing => start,
+    let mut rows = [no_targets(); MOST_TYPES];
+    for i in 0..places.count {
+        rows[i] = name_targets(&table, i);
+    }
+    Graph {
+        rows,
+        count: places.count,
     }
 }
 
-// The same of the name of definition i.
-fn goes_on(
-    tags: &[u8],
-    values: &[u32],
-    names: u32,
-    places: &[usize; MOST_TYPES],
-    n: usize,
-    i: usize,
-) -> Marks
-    requires values_len { length values.now ≡ length tags.now }
-    requires n_bound { (n ≤ 32) × (i < n) }
-    ensures { (types : List TypeDef) → Table names (tokens tags.now values.now) places.now n types → MarkedName types n result (name_at types i) }
+// Is definition i the first of its name, and does it reach itself?
+fn is_cycle(table: &TypeTable<'_, '_>, graph: &Graph, i: usize) -> bool
+    requires { (i < table.now.places.now.count) × (i < graph.now.count) }
+    ensures { (types : List TypeDef) → Table table.now.source.names (tokens_of table.now.source) table.now.places.now.at table.now.places.now.count types → Edges types graph.now → IsTrue result ↔ IsCycle types i }
 {
-    let none = [0u8; MOST_TYPES];
-    let x = layout::value_at(values, places[i]);
-    let k = layout::find_definition(values, places, n, x);
-    if n <= k {
-        return Marks {
-            set: none,
-            known: false,
-        };
-    }
-    mark_definition(tags, values, names, places, n, places[k])
+    let x = layout::value_at(table.source.values, table.places.at[i]);
+    layout::find_definition(table.source.values, table.places, x) == Some(i)
+        && graph.reaches_itself(i)
 }
 
-// A truth value as a byte.
-fn byte_of(b: bool) -> u8
-    ensures { result ≡ bit b }
+// The first definition that reaches itself. One that is not the first of its name is passed over.
+pub fn first_cycle(source: &Source<'_>, places: &PlaceTable<MOST_TYPES>) -> Option<usize>
+    ensures { (types : List TypeDef) → Table source.now.names (tokens_of source.now) places.now.at places.now.count types → MatchOption result (first_cycle types [] types ≡ length types) (λ i. (i ≡ first_cycle types [] types) × (i < length types)) }
 {
-    if b { 1 } else { 0 }
-}
-
-// Row i of the table becomes this set of n definitions; the rows before it stay.
-fn put_row(go: &mut [u8], set: &[u8; MOST_TYPES], n: usize, i: usize)
-    requires { (n ≤ 32) × (32 * i + 32 ≤ length go.old) }
-    ensures go_len_unchanged { length go.new ≡ length go.old }
-    ensures by_index { ((m : ℕ) → m < 32 * i → get_or go.new m 0 ≡ get_or go.old m 0) × ((j : ℕ) → j < n → get_or go.new (32 * i + j) 0 ≡ get_or set.now j 0) }
-{
-    let mut j: usize = 0;
-    while j < n {
-        go[MOST_TYPES * i + j] = set[j];
-        j += 1;
+    let graph = edges(source, places);
+    if graph.settles() {
+        return None;
     }
-}
-
-// Which definition's name goes on to which, and which have a default as soon as all these have one.
-pub fn edges(
-    tags: &[u8],
-    values: &[u32],
-    names: u32,
-    places: &[usize; MOST_TYPES],
-    n: usize,
-) -> Graph
-    requires values_len { length values.now ≡ length tags.now }
-    requires n_bound { n ≤ 32 }
-    ensures edges { (types : List TypeDef) → Table names (tokens tags.now values.now) places.now n types → Edges types n result.go }
-    ensures own { (types : List TypeDef) → Table names (tokens tags.now values.now) places.now n types → Own types n result.own }
-{
-    let mut go = [0u8; TYPE_PAIRS];
-    let mut own = [0u8; MOST_TYPES];
-    let mut i: usize = 0;
-    while i < n {
-        let marks = goes_on(tags, values, names, places, n, i);
-        let set = marks.set;
-        let known = marks.known;
-        put_row(&mut go, &set, n, i);
-        own[i] = byte_of(known);
-        i += 1;
-    }
-    Graph { go: go, own: own }
-}
-
-// Does one of the first n of a set go on to j?
-fn joins(go: &[u8; TYPE_PAIRS], set: &[u8; MOST_TYPES], n: usize, j: usize) -> bool
-    requires { (n ≤ 32) × (j < 32) }
-    ensures { result ≡ joined go.now set.now j n }
-{
-    let mut i: usize = 0;
-    while i < n {
-        if set[i] == 1 {
-            if go[MOST_TYPES * i + j] == 1 {
-                return true;
-            }
-        }
-        i += 1;
-    }
-    false
-}
-
-// Is j in a set, or does one of the set go on to it? A byte.
-fn reached_byte(go: &[u8; TYPE_PAIRS], set: &[u8; MOST_TYPES], n: usize, j: usize) -> u8
-    requires { (n ≤ 32) × (j < 32) }
-    ensures { result ≡ bit (eqb (get_or set.now j 0) 1 || joined go.now set.now j n) }
-{
-    if set[j] == 1 {
-        return 1;
-    }
-    if joins(go, set, n, j) { 1 } else { 0 }
-}
-
-// Of n definitions, those in a set, and those that these go on to.
-fn step(go: &[u8; TYPE_PAIRS], set: &[u8; MOST_TYPES], n: usize) -> [u8; MOST_TYPES]
-    requires { n ≤ 32 }
-    ensures { (j : ℕ) → j < n → get_or result j 0 ≡ bit (eqb (get_or set.now j 0) 1 || joined go.now set.now j n) }
-{
-    let mut more = [0u8; MOST_TYPES];
-    let mut j: usize = 0;
-    while j < n {
-        more[j] = reached_byte(go, set, n, j);
-        j += 1;
-    }
-    more
-}
-
-// The definitions that definition i goes on to.
-fn row(go: &[u8; TYPE_PAIRS], n: usize, i: usize) -> [u8; MOST_TYPES]
-    requires { (n ≤ 32) × (i < n) }
-    ensures { (j : ℕ) → j < n → get_or result j 0 ≡ get_or go.now (32 * i + j) 0 }
-{
-    let mut set = [0u8; MOST_TYPES];
-    let mut j: usize = 0;
-    while j < n {
-        set[j] = go[MOST_TYPES * i + j];
-        j += 1;
-    }
-    set
-}
-
-// Does definition i reach its own name in as many steps as there are definitions?
-fn reaches_itself(go: &[u8; TYPE_PAIRS], n: usize, i: usize) -> bool
-    requires { (n ≤ 32) × (i < n) }
-    ensures { (types : List TypeDef) → length types ≡ n → Edges types n go.now → result ≡ among (name_at types i) (reached types n (goes_on types (name_at types i))) }
-{
-    let mut set = row(go, n, i);
-    let mut k: usize = 0;
-    while k < n {
-        let more = step(go, &set, n);
-        set = more;
-        k += 1;
-    }
-    set[i] == 1
-}
-
-// Are all that definition i goes on to in a set?
-pub fn within(go: &[u8; TYPE_PAIRS], set: &[u8; MOST_TYPES], n: usize, i: usize) -> bool
-    requires { (n ≤ 32) × (i < 32) }
-    ensures { result ≡ inside go.now set.now i n }
-{
-    let mut j: usize = 0;
-    while j < n {
-        if go[MOST_TYPES * i + j] == 1 {
-            if set[j] != 1 {
-                return false;
-            }
-        }
-        j += 1;
-    }
-    true
-}
-
-// A set, and definition i too if all that it goes on to are in the set.
-fn settle_one(go: &[u8; TYPE_PAIRS], set: [u8; MOST_TYPES], n: usize, i: usize) -> [u8; MOST_TYPES]
-    requires { (n ≤ 32) × (i < n) }
-    ensures { (types : List TypeDef) → length types ≡ n → Edges types n go.now → Acyclic types n go.now set → Acyclic types n go.now result }
-{
-    let mut more = set;
-    if within(go, &set, n, i) {
-        more[i] = 1;
-    }
-    more
-}
-
-// The same of each definition, the last first: mostly a type is defined before those that it is made of.
-fn settle_each(go: &[u8; TYPE_PAIRS], set: [u8; MOST_TYPES], n: usize) -> [u8; MOST_TYPES]
-    requires { n ≤ 32 }
-    ensures { (types : List TypeDef) → length types ≡ n → Edges types n go.now → Acyclic types n go.now set → Acyclic types n go.now result }
-{
-    let mut more = set;
-    let mut i: usize = n;
-    while 0 < i {
-        i -= 1;
-        let next = settle_one(go, more, n, i);
-        more = next;
-    }
-    more
-}
-
-// Are all n definitions in a set?
-fn all_in(set: &[u8; MOST_TYPES], n: usize) -> bool
-    requires { n ≤ 32 }
-    ensures { result ≡ true → (i : ℕ) → i < n → get_or set.now i 0 ≡ 1 }
-{
-    let mut i: usize = 0;
-    while i < n {
-        if set[i] != 1 {
-            return false;
-        }
-        i += 1;
-    }
-    true
-}
-
-// Can all definitions be put in an order in which each goes on to earlier ones alone? Then none reaches itself.
-fn settles(go: &[u8; TYPE_PAIRS], n: usize) -> bool
-    requires { n ≤ 32 }
-    ensures { result ≡ true → (types : List TypeDef) → length types ≡ n → Edges types n go.now → n ≡ first_cycle types [] types }
-{
-    let mut set = [0u8; MOST_TYPES];
-    let mut k: usize = 0;
-    while k < n {
-        let more = settle_each(go, set, n);
-        set = more;
-        if all_in(&set, n) {
-            return true;
-        }
-        k += 1;
-    }
-    false
-}
-
-// The first definition from this table that reaches itself, found definition by definition; n, where none does.
-fn search_cycle(
-    values: &[u32],
-    places: &[usize; MOST_TYPES],
-    n: usize,
-    go: &[u8; TYPE_PAIRS],
-) -> usize
-    requires { n ≤ 32 }
-    ensures { (types : List TypeDef) → Named values.now places.now n types → Edges types n go.now → result ≡ first_cycle types [] types }
-{
-    let mut i: usize = 0;
-    while i < n {
-        let x = layout::value_at(values, places[i]);
-        let k = layout::find_definition(values, places, n, x);
-        if k == i {
-            if reaches_itself(go, n, i) {
-                return i;
-            }
-        }
-        i += 1;
-    }
-    n
-}
-
-// The place of the first definition that reaches itself; n, where none does. One that is not the first of its name is passed over.
-pub fn first_cycle(
-    tags: &[u8],
-    values: &[u32],
-    names: u32,
-    places: &[usize; MOST_TYPES],
-    n: usize,
-) -> usize
-    requires values_len { length values.now ≡ length tags.now }
-    requires n_bound { n ≤ 32 }
-    ensures { (types : List TypeDef) → Table names (tokens tags.now values.now) places.now n types → result ≡ first_cycle types [] types }
-{
-    let graph = edges(tags, values, names, places, n);
-    let go = graph.go;
-    if settles(&go, n) {
-        return n;
-    }
-    search_cycle(values, places, n, &go)
+    let table = TypeTable {
+        source: *source,
+        places,
+    };
+    (0..places.count).find(|&i| is_cycle(&table, &graph, i))
 }

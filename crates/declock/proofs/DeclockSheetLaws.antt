@@ -2,21 +2,21 @@
 -- Assumes nothing.
 use Prim.Native.Nat.{ℕ, ◌*◌, ◌≤◌, ◌<◌}
 use mathlib.Core.Path.{◌≡◌, refl, sym, ap, ap₂, ◌∙◌, subst}
-use mathlib.Core.Bool.{Bool, true, false, true≢false}
+use mathlib.Core.Bool.{Bool, false}
 use mathlib.Core.List.{List, []}
 use native.Mathlib.Omega.{arith}
 use lib.Dec.{eqb}
 use lib.ListN.{length, length-map}
 use Rattle.definitions.specs.Lists.{Letters}
-use Rattle.definitions.specs.Bytes.{tokens}
+use Rattle.grammar.specs.Read.{tokens_of}
 use Rattle.definitions.specs.Tokens.{TagValue}
-use Rattle.definitions.specs.Tree.{TypeDef, Node, Sheet}
+use Rattle.definitions.specs.Tree.{Node, Sheet}
 use Rattle.definitions.specs.Clock.{Clock}
 use Rattle.definitions.specs.Reading.{got}
 use Rattle.definitions.specs.Grammar.{count, equation, node}
 use Rattle.definitions.specs.InferClocks.{Formed, Clocked, Clocking}
-use Rattle.definitions.specs.Declock.{ck, first, hold, declared}
-use Rattle.definitions.specs.Output.{letters_of, new_id, condact_id, ClockedNode, output_node, node_tokens}
+use Rattle.definitions.specs.Declock.{ck, first, hold}
+use Rattle.definitions.specs.Output.{new_id, condact_id, ClockedNode, output_node, node_tokens}
 use Rattle.grammar.proofs.Laws.{times-length}
 use Rattle.grammar.proofs.Parts.{counted-within}
 use Rattle.grammar.proofs.Got.{node-got}
@@ -25,38 +25,39 @@ use Rattle.shapes.proofs.Inference.{Forms}
 use Rattle.shapes.proofs.ClockNames.{NamedEquation, clocking-named}
 use Rattle.runs.proofs.Names.{names_apart}
 use Rattle.spelling.specs.Writing.{over_at}
-use Rattle.spelling.specs.declared.Counts.{Counts}
+use Rattle.spelling.specs.declared.names.Spelling.{Spelling}
+use Rattle.spelling.specs.declared.name_table.NameTable.{NameTable}
 use Rattle.spelling.specs.Table.{NamesHeld, names_of}
-use Rattle.layout.specs.declared.NodeLayout.{NodeLayout}
-use Rattle.layout.specs.Laid.{LaidNode}
-use Rattle.spelling.specs.Places.{letters_at}
-use Rattle.clock_tables.specs.Rows.{clocks_in}
+use Rattle.index.specs.declared.Index.{Index}
 use Rattle.clock_tables.proofs.RowsLaws.{has_all, has-count}
-use Rattle.emit.specs.Out.{Out, emits}
+use Rattle.emit.specs.declared.output.Output.{Output}
+use Rattle.emit.specs.Out.{emits}
 use Rattle.lines.proofs.Laws.{clocked-many}
-use Rattle.stateless.specs.declared.Counts as needed
-use Rattle.stateless.specs.Need.{Needs, Counted}
+use Rattle.stateless.specs.Need.{Needs}
 use Rattle.stateless.specs.Yield.{Ids, old_yield}
 use Rattle.stateless.specs.Whole.{no_needs, old_needs}
 use Rattle.stateless.specs.Locals.{ids_in, Agree}
 use Rattle.stateless.specs.Rewritten.{node_by}
 use Rattle.stateless.proofs.Condact.{same-condact, same-fault, same-needs, Below}
 use Rattle.stateless.proofs.Nodes.{clocked}
-use Rattle.new_names.specs.declared.Locals.{Locals}
 use Rattle.new_names.specs.Names.{ids_of}
 use Rattle.new_names.proofs.Ids.{declared-few}
 use Rattle.new_names.proofs.Added.{ids-filled, ids-agree}
 use Rattle.new_names.proofs.Apart.{apart_none, apart-old}
 use Rattle.new_names.specs.Many.{TooMany}
+use Rattle.new_names.specs.declared.TooMany as new
 use Rattle.new_names.proofs.Large.{rows_fit}
 use Rattle.new_names.proofs.Named.{named_none, named-old}
 use Rattle.new_names.proofs.Many.{too_many}
 use Rattle.new_names.proofs.Written.{output-standing}
-use Rattle.planned.specs.declared.Sizes.{Sizes}
+use Rattle.planned.specs.Writes.{Writer}
 use Rattle.plan.specs.Planned.{Whole}
-use Rattle.new_names.specs.declared.Tables.{Tables}
-use Rattle.new_names.specs.Filled.{HasRows, Filled, FilledOrFull}
-use Rattle.declock.specs.declared.Rows.{Rows}
+use Rattle.new_names.specs.declared.NodeNames.{NodeNames}
+use Rattle.new_names.specs.Filled.{Filled, FilledAt, FilledOrNot}
+use Rattle.declock.specs.declared.ReadyNode.{ReadyNode}
+use Rattle.declock.specs.declared.NodePlan.{NodePlan}
+use Rattle.declock.specs.Tabled.{flagged_clocks}
+use Rattle.std.specs.Prelude.{Result}
 use Rattle.declock.specs.Ready as ready
 use Rattle.declock.specs.Ready.{NodeReady, needs_in, yield_in}
 use Rattle.declock.specs.Planned.{node_needs, names_with, writer_of, ids_by, PlannedNode, NamesAhead}
@@ -69,157 +70,157 @@ equations-few M ts p n q g =
     let x = node-got M ts p n q g in
     omega (arith, times-length (equation M) ts x.equation_count x.equations_at n.equations x.probe_count_at x.equations, (counted-within 3 0 64 ts x.count_at x.equation_count x.equations_at x.counted-equations).1)
 
-module _ {starts letters gs vs places type_places plan flags firsts holds types : List ℕ} {k : Sizes} {s : needed.Counts} {l : NodeLayout} {names : List Letters} {sheet : Sheet} {n : ClockedNode}
-    (h : PlannedNode starts letters gs vs places type_places plan flags firsts holds types k s l names sheet n) where
-  abbrev pub w : Needs
-  w = node_needs names sheet n
-
+module _ {spelling : Spelling} {t : Index} {p : NodePlan} {names : List Letters} {sheet : Sheet} {n : ClockedNode} (h : PlannedNode spelling t p names sheet n) where
   named-equations : All (NamedEquation (length names)) n.clocking.equations
   named-equations = subst (λ (x : Formed Clocking). Forms (Unit {0}) (λ k. All (NamedEquation (length names)) k.equations) x) h.forms (clocking-named (length names) n.node h.below)
 
   pub shaped : Below (length names) n
   shaped = λ e m. (named-equations e m).1
 
-  module _ {lens text : List ℕ} {c : Counts} {before all : List Letters} {flag_order first_order flag_numbers first_numbers hold_numbers : List ℕ} {rows : needed.Counts} {o : Locals}
-      (f : Filled names n.node w flags firsts flag_order first_order flag_numbers first_numbers hold_numbers rows o) (held : NamesHeld lens text c (names_with names before sheet n)) (kept : c.full ≡ false) (ahead : NamesAhead names before sheet n all)
-      {flag_ids first_ids hold_ids : List ℕ} (flags₀ firsts₀ holds₀ : List ℕ) (a : length flags₀ ≡ 1024) (b : length firsts₀ ≡ 1024) (d : length holds₀ ≡ 1024)
-      (x : flag_ids ≡ over_at 0 (ids_of (names_of lens text c) ck flag_numbers rows.flags) flags₀)
-      (y : first_ids ≡ over_at 0 (ids_of (names_of lens text c) first first_numbers rows.firsts) firsts₀)
-      (z : hold_ids ≡ over_at 0 (ids_of (names_of lens text c) hold hold_numbers o.holds) holds₀)
-      {K : ℕ} (gate : K ≡ condact_id (names_of lens text c)) where
-    abbrev sofar : List Letters
-    sofar = names_with names before sheet n
+-- a node that is to be written: the sheet's index, by which its new names are not there yet, and its plan
+abbrev pub index_before : ReadyNode → ℕ → Index
+index_before r k =
+    let t = r.written.index.now in
+    record { source = t.source; condact = k; whole = t.whole; nodes = t.nodes; types = t.types; has = t.has }
 
-    gate-so-far : K ≡ condact_id sofar
-    gate-so-far = gate ∙ ap condact_id (sym (held.kept kept))
+abbrev pub plan_in : ReadyNode → ℕ → Bool → NodePlan
+plan_in r many gated =
+    record { layout = r.layout; needs = record { flags = r.flags.clocks; firsts = r.firsts.clocks; holds = many; condact = gated }; plan = r.written.plan; holds = r.written.holds; types = r.written.types }
 
-    abbrev sizes : Sizes
-    sizes = record { names = k.names; nodes = k.nodes; types = k.types; condact = K }
+-- and its names, those of holds having these numbers
+abbrev pub names_in : ReadyNode → List ℕ → Bool → NodeNames
+names_in r hold_numbers gated = record { flags = r.flags.names.now; firsts = r.firsts.names.now; hold_numbers = hold_numbers; holds = r.holds; condact = gated }
 
-    abbrev many : Rows
-    many = record { flags = rows.flags; firsts = rows.firsts }
+module _ (spelling : Spelling) (r : ReadyNode) (k : ℕ) {many : ℕ} {gated gates : Bool} {hold_numbers : List ℕ} {names : List Letters} {sheet : Sheet} {n : ClockedNode} (h : PlannedNode spelling (index_before r k) (plan_in r many gated) names sheet n)
+    (f : Filled names n.node (node_needs names sheet n) (plan_in r many gated).needs (names_in r hold_numbers gates))
+    {o : NameTable 1024 16384} {before all : List Letters} (held : NamesHeld o (names_with names before sheet n)) (kept : o.full ≡ false) (ahead : NamesAhead names before sheet n all)
+    (same-flags : r.flags.ids.now ≡ r.written.flag_ids.now) (same-firsts : r.firsts.ids.now ≡ r.written.first_ids.now)
+    (flags₀ firsts₀ holds₀ : List ℕ) (a : length flags₀ ≡ 1024) (b : length firsts₀ ≡ 1024) (d : length holds₀ ≡ 1024)
+    (x : r.flags.ids.now ≡ over_at 0 (ids_of (names_of o) ck r.flags.names.now.numbers r.flags.clocks.count) flags₀)
+    (y : r.firsts.ids.now ≡ over_at 0 (ids_of (names_of o) first r.firsts.names.now.numbers r.firsts.clocks.count) firsts₀)
+    (z : r.written.hold_ids.now ≡ over_at 0 (ids_of (names_of o) hold hold_numbers r.holds) holds₀)
+    (gate : r.written.index.now.condact ≡ condact_id (names_of o)) where
+  abbrev w : Needs
+  w = node_needs names sheet n
 
-    flags-fit : 17 * rows.flags ≤ length flags
-    flags-fit = rows_fit flags rows.flags w.flags h.flag-room f.few.flags f.counted.flagged
+  abbrev sofar : List Letters
+  sofar = names_with names before sheet n
 
-    firsts-fit : 17 * rows.firsts ≤ length firsts
-    firsts-fit = rows_fit firsts rows.firsts w.firsts h.first-room f.few.firsts f.counted.first-flagged
+  abbrev K : ℕ
+  K = r.written.index.now.condact
 
-    flagged : clocks_in flags rows.flags ≡ w.flags
-    flagged = has_all flags rows.flags w.flags flags-fit f.counted.flagged
+  gate-so-far : K ≡ condact_id sofar
+  gate-so-far = gate ∙ ap condact_id (sym (held.kept kept))
 
-    first-flagged : clocks_in firsts rows.firsts ≡ w.firsts
-    first-flagged = has_all firsts rows.firsts w.firsts firsts-fit f.counted.first-flagged
+  flags-fit : 17 * r.flags.clocks.count ≤ length r.flags.clocks.words.now
+  flags-fit = rows_fit r.flags.clocks.words.now r.flags.clocks.count w.flags h.flag-room f.few.flags f.counted.flagged
 
-    many-flags : length w.flags ≡ rows.flags
-    many-flags = has-count flags rows.flags w.flags flags-fit f.counted.flagged
+  firsts-fit : 17 * r.firsts.clocks.count ≤ length r.firsts.clocks.words.now
+  firsts-fit = rows_fit r.firsts.clocks.words.now r.firsts.clocks.count w.firsts h.first-room f.few.firsts f.counted.first-flagged
 
-    many-firsts : length w.firsts ≡ rows.firsts
-    many-firsts = has-count firsts rows.firsts w.firsts firsts-fit f.counted.first-flagged
+  flagged : flagged_clocks r.flags ≡ w.flags
+  flagged = has_all r.flags.clocks.words.now r.flags.clocks.count w.flags flags-fit f.counted.flagged
 
-    few-holds : w.holds ≤ 1024
-    few-holds = omega (arith, f.counted.held, f.few.holds)
+  first-flagged : flagged_clocks r.firsts ≡ w.firsts
+  first-flagged = has_all r.firsts.clocks.words.now r.firsts.clocks.count w.firsts firsts-fit f.counted.first-flagged
 
-    whole : Whole (length flags) (length firsts) (length holds) w
-    whole =
-        record {
-          flags-fit = omega (arith, many-flags, flags-fit);
-          firsts-fit = omega (arith, many-firsts, firsts-fit);
-          holds-fit = omega (arith, few-holds, h.hold-room);
-          few-flags = omega (arith, many-flags, f.few.flags);
-          few-firsts = omega (arith, many-firsts, f.few.firsts);
-          few-holds = omega (arith, few-holds);
-        }
+  many-flags : length w.flags ≡ r.flags.clocks.count
+  many-flags = has-count r.flags.clocks.words.now r.flags.clocks.count w.flags flags-fit f.counted.flagged
 
-    alike : (g : ℕ) → g < length names → eqb g (condact_id names) ≡ eqb g K
-    alike g u = sym (same-condact names sofar ahead.input g u) ∙ ap (eqb g) (sym gate-so-far)
+  many-firsts : length w.firsts ≡ r.firsts.clocks.count
+  many-firsts = has-count r.firsts.clocks.words.now r.firsts.clocks.count w.firsts firsts-fit f.counted.first-flagged
 
-    abbrev ids : Ids
-    ids = ids_by w flag_ids first_ids hold_ids K
+  few-holds : w.holds ≤ 1024
+  few-holds = omega (arith, f.counted.held, f.few.holds)
 
-    -- the ids are those that the tables say
-    same-ids : ids ≡ ready.ids_of flags firsts flag_ids first_ids hold_ids many K
-    same-ids = ap₂ (λ (u v : List Clock). ids_in u v flag_ids first_ids hold_ids K) (sym flagged) (sym first-flagged)
+  whole : Whole (length r.flags.clocks.words.now) (length r.firsts.clocks.words.now) (length r.written.holds.now) w
+  whole =
+      record {
+        flags-fit = omega (arith, many-flags, flags-fit);
+        firsts-fit = omega (arith, many-firsts, firsts-fit);
+        holds-fit = omega (arith, few-holds, h.hold-room);
+        few-flags = omega (arith, many-flags, f.few.flags);
+        few-firsts = omega (arith, many-firsts, f.few.firsts);
+        few-holds = omega (arith, few-holds);
+      }
 
-    needs-same : w ≡ old_needs sheet.types sheet.nodes n.node K n.clocking.equations no_needs
-    needs-same = same-needs sheet.types sheet.nodes n.node (length names) (condact_id names) K alike n.clocking.equations no_needs shaped
+  alike : (g : ℕ) → g < length names → eqb g (condact_id names) ≡ eqb g K
+  alike g u = sym (same-condact names sofar ahead.input g u) ∙ ap (eqb g) (sym gate-so-far)
 
-    -- it can be written
-    pub is-ready : NodeReady names gs vs places type_places flags firsts flag_order first_order flag_ids first_ids hold_ids plan holds types sizes many o l
-    is-ready =
-        record {
-          writer = writer_of sheet n K flag_ids first_ids hold_ids;
-          grounds = record { stands = record { standing = h.standing; table = h.table; condact = refl; flags = refl; firsts = refl; holds = refl }; end = h.end; laid = h.laid; declares = h.declares };
-          equations = n.clocking.equations;
-          many = sym (length-map n.clocking.equations (λ (e : Clocked). e.clock)) ∙ (clocked-many n.clocking.names n.node.equations n.clocking.equations (clocked n.node n.clocking h.forms) ∙ sym h.laid.equations.many);
-          faultless = sym (same-fault sheet.types sheet.nodes n.node (length names) (condact_id names) K alike 0 n.clocking.equations shaped) ∙ h.going;
-          few-declared = declared-few k.names (tokens gs vs) h.place n.node h.end h.read;
-          few-equations = equations-few k.names (tokens gs vs) h.place n.node h.end h.read;
-          tables =
-              subst (λ (v : Needs). ready.Tables names v flags firsts flag_order first_order many o) needs-same
-              (record {
-                flags-fit = flags-fit;
-                firsts-fit = firsts-fit;
-                flagged = flagged;
-                first-flagged = first-flagged;
-                flag-order = f.flag-order;
-                first-order = f.first-order;
-                held = f.held;
-                few-flags = omega (arith, many-flags, f.few.flags);
-                few-firsts = omega (arith, many-firsts, f.few.firsts);
-                few-holds = few-holds;
-              });
-          planned = rw (← same-ids) (planned-alike k.names gs vs (writer_of sheet n K flag_ids first_ids hold_ids) plan (length names) (condact_id names) K alike ids n.clocking.equations 0 _ _ shaped (h.planned K flag_ids first_ids hold_ids whole));
-          held = rw (← same-ids) (h.held K flag_ids first_ids hold_ids whole);
-        }
+  abbrev ids : Ids
+  ids = ids_by w r.flags.ids.now r.firsts.ids.now r.written.hold_ids.now K
 
-    agree : Agree w.flags w.firsts w.holds (new_id names sofar n.node) K ids
-    agree =
-        ids-agree (new_id names sofar n.node) w.flags w.firsts w.holds flag_ids first_ids hold_ids K K
-        (ids-filled names sofar n.node held kept ck flag_numbers (length w.flags) flags₀ flag_ids f.flag-numbers (omega (arith, a, many-flags, f.few.flags))
-        (x ∙ ap (λ (i : ℕ). over_at 0 (ids_of (names_of lens text c) ck flag_numbers i) flags₀) (sym many-flags)))
-        (ids-filled names sofar n.node held kept first first_numbers (length w.firsts) firsts₀ first_ids f.first-numbers (omega (arith, b, many-firsts, f.few.firsts))
-        (y ∙ ap (λ (i : ℕ). over_at 0 (ids_of (names_of lens text c) first first_numbers i) firsts₀) (sym many-firsts)))
-        (ids-filled names sofar n.node held kept hold hold_numbers w.holds holds₀ hold_ids f.hold-numbers (omega (arith, d, few-holds))
-        (z ∙ ap (λ (i : ℕ). over_at 0 (ids_of (names_of lens text c) hold hold_numbers i) holds₀) f.held))
-        refl
+  -- the ids are those that the tables say
+  same-ids : ids ≡ ready.ids_of r
+  same-ids = ap₂ (λ (u v : List Clock). ids_in u v r.flags.ids.now r.firsts.ids.now r.written.hold_ids.now K) (sym flagged) (sym first-flagged)
 
-    -- the node of the output
-    same-node : output_node names sheet all n ≡ node_by names ids n.node w (old_yield sheet.types sheet.nodes n.node ids 0 n.clocking.equations)
-    same-node =
-        let apart = names_apart [] names h.distinct in
-        let once = apart-old sheet.types sheet.nodes n.node (condact_id names) n.clocking.equations no_needs apart_none in
-        let named = named-old (length names) sheet.types sheet.nodes n.node (condact_id names) n.clocking.equations no_needs named-equations (named_none (length names)) in
-        output-standing names before all sheet n h.uses apart shaped once.flags once.firsts named (goes-trans names sofar all ahead.input ahead.output) ahead.input ahead.output ahead.going ids gate-so-far agree
+  needs-same : w ≡ old_needs sheet.types sheet.nodes n.node K n.clocking.equations no_needs
+  needs-same = same-needs sheet.types sheet.nodes n.node (length names) (condact_id names) K alike n.clocking.equations no_needs (shaped h)
 
-    -- THE LAW: the node's tokens
-    pub filled-written : (o₁ o₂ : Out)
-        → ((names : List Letters) (r : NodeReady names gs vs places type_places flags firsts flag_order first_order flag_ids first_ids hold_ids plan holds types sizes many o l) (i : Ids)
-        → i ≡ ready.ids_of flags firsts flag_ids first_ids hold_ids many K → o₂ ≡ emits o₁ (node_tokens (node_by names i r.writer.node (needs_in r) (yield_in r i))))
-        → o₂ ≡ emits o₁ (node_tokens (output_node names sheet all n))
-    unfolding is-ready
-    filled-written o₁ o₂ put =
-        put names is-ready ids same-ids
-        ∙ ap (λ (m : Node). emits o₁ (node_tokens m)) (ap (λ (v : Needs). node_by names ids n.node v (old_yield sheet.types sheet.nodes n.node ids 0 n.clocking.equations)) (sym needs-same) ∙ sym same-node)
+  abbrev writer : Writer
+  writer = writer_of sheet n K r.flags.ids.now r.firsts.ids.now r.written.hold_ids.now
+
+  -- it can be written
+  pub is-ready : NodeReady names r
+  is-ready =
+      let S = r.written.index.now.source in
+      record {
+        writer = writer;
+        grounds = record { stands = record { standing = h.standing; table = h.table; condact = refl; flags = same-flags; firsts = same-firsts; holds = refl }; end = h.end; laid = h.laid; declares = h.declares };
+        equations = n.clocking.equations;
+        many = sym (length-map n.clocking.equations (λ (e : Clocked). e.clock)) ∙ (clocked-many n.clocking.names n.node.equations n.clocking.equations (clocked n.node n.clocking h.forms) ∙ sym h.laid.equations.many);
+        faultless = sym (same-fault sheet.types sheet.nodes n.node (length names) (condact_id names) K alike 0 n.clocking.equations (shaped h)) ∙ h.going;
+        few-declared = declared-few S.names (tokens_of S) h.place n.node h.end h.read;
+        few-equations = equations-few S.names (tokens_of S) h.place n.node h.end h.read;
+        flags =
+            subst (λ (v : Needs). ready.FlagsReady names r.flags v.flags) needs-same
+            (record { fit = flags-fit; flagged = flagged; order = f.flags.order; few = omega (arith, many-flags, f.few.flags) });
+        firsts =
+            subst (λ (v : Needs). ready.FlagsReady names r.firsts v.firsts) needs-same
+            (record { fit = firsts-fit; flagged = first-flagged; order = f.firsts.order; few = omega (arith, many-firsts, f.few.firsts) });
+        held-many = f.held ∙ ap (λ (v : Needs). v.holds) needs-same;
+        few-holds = omega (arith, f.held, few-holds);
+        planned = rw (← same-ids) (planned-alike S.names S.tags.now S.values.now writer r.written.plan.now (length names) (condact_id names) K alike ids n.clocking.equations 0 _ _ (shaped h) (h.planned K r.flags.ids.now r.firsts.ids.now r.written.hold_ids.now whole));
+        held = rw (← same-ids) (h.held K r.flags.ids.now r.firsts.ids.now r.written.hold_ids.now whole);
+      }
+
+  agree : Agree w.flags w.firsts w.holds (new_id names sofar n.node) K ids
+  agree =
+      ids-agree (new_id names sofar n.node) w.flags w.firsts w.holds r.flags.ids.now r.firsts.ids.now r.written.hold_ids.now K K
+      (ids-filled names sofar n.node held kept ck r.flags.names.now.numbers (length w.flags) flags₀ r.flags.ids.now f.flags.numbers (omega (arith, a, many-flags, f.few.flags))
+      (x ∙ ap (λ (i : ℕ). over_at 0 (ids_of (names_of o) ck r.flags.names.now.numbers i) flags₀) (sym many-flags)))
+      (ids-filled names sofar n.node held kept first r.firsts.names.now.numbers (length w.firsts) firsts₀ r.firsts.ids.now f.firsts.numbers (omega (arith, b, many-firsts, f.few.firsts))
+      (y ∙ ap (λ (i : ℕ). over_at 0 (ids_of (names_of o) first r.firsts.names.now.numbers i) firsts₀) (sym many-firsts)))
+      (ids-filled names sofar n.node held kept hold hold_numbers w.holds holds₀ r.written.hold_ids.now f.hold-numbers (omega (arith, d, few-holds))
+      (z ∙ ap (λ (i : ℕ). over_at 0 (ids_of (names_of o) hold hold_numbers i) holds₀) f.held))
+      refl
+
+  -- the node of the output
+  same-node : output_node names sheet all n ≡ node_by names ids n.node w (old_yield sheet.types sheet.nodes n.node ids 0 n.clocking.equations)
+  same-node =
+      let apart = names_apart [] names h.distinct in
+      let once = apart-old sheet.types sheet.nodes n.node (condact_id names) n.clocking.equations no_needs apart_none in
+      let named = named-old (length names) sheet.types sheet.nodes n.node (condact_id names) n.clocking.equations no_needs (named-equations h) (named_none (length names)) in
+      output-standing names before all sheet n h.uses apart (shaped h) once.flags once.firsts named (goes-trans names sofar all ahead.input ahead.output) ahead.input ahead.output ahead.going ids gate-so-far agree
+
+  -- THE LAW: the node's tokens
+  pub filled-written : (o₁ o₂ : Output)
+      → ((names : List Letters) (m : NodeReady names r) (i : Ids) → i ≡ ready.ids_of r → o₂ ≡ emits o₁ (node_tokens (node_by names i m.writer.node (needs_in m) (yield_in m i))))
+      → o₂ ≡ emits o₁ (node_tokens (output_node names sheet all n))
+  unfolding is-ready
+  filled-written o₁ o₂ put =
+      put names is-ready ids same-ids
+      ∙ ap (λ (m : Node). emits o₁ (node_tokens m)) (ap (λ (v : Needs). node_by names ids n.node v (old_yield sheet.types sheet.nodes n.node ids 0 n.clocking.equations)) (sym needs-same) ∙ sym same-node)
 
 -- ---- names
-module _ {starts letters gs vs places type_places plan flags firsts holds types : List ℕ} {k : Sizes} {s : needed.Counts} {l : NodeLayout} {names : List Letters} {sheet : Sheet} {n : ClockedNode}
-    (h : PlannedNode starts letters gs vs places type_places plan flags firsts holds types k s l names sheet n) where
+module _ {spelling : Spelling} {t : Index} {p : NodePlan} {names : List Letters} {sheet : Sheet} {n : ClockedNode} (h : PlannedNode spelling t p names sheet n) where
   -- its tables
-  pub filled : {flag_order first_order flag_numbers first_numbers hold_numbers : List ℕ} {r : Tables}
-      → ((all : List Letters) (node : Node) (q condact : ℕ) (cs : List Clocked) (types : List TypeDef) (ns : List Node) → letters_at starts letters ≡ letters_of all → LaidNode k.names (tokens gs vs) node q l → length (declared node) ≤ 128 → HasRows flags (old_needs types ns node condact cs no_needs).flags → HasRows firsts (old_needs types ns node condact cs no_needs).firsts
-      → Counted flags firsts s (old_needs types ns node condact cs no_needs) → FilledOrFull all node (old_needs types ns node condact cs no_needs) flags firsts flag_order first_order flag_numbers first_numbers hold_numbers r)
-      → FilledOrFull names n.node (node_needs names sheet n) flags firsts flag_order first_order flag_numbers first_numbers hold_numbers r
-  filled t = t names n.node h.end (condact_id names) n.clocking.equations sheet.types sheet.nodes h.named h.laid (declared-few k.names (tokens gs vs) h.place n.node h.end h.read) h.flag-room h.first-room h.counted
+  pub filled : (f : NodeNames) (r : Result Unit new.TooMany) → FilledAt spelling t.source p.layout p.needs f r → FilledOrNot names n.node (node_needs names sheet n) p.needs f r
+  filled f r g = g names n.node h.end (condact_id names) n.clocking.equations sheet.types sheet.nodes h.named h.laid (declared-few t.source.names (tokens_of t.source) h.place n.node h.end h.read) h.flag-room h.first-room h.counted
 
   -- more names than the output has places for
   pub crowded : (before : List Letters) → TooMany (node_needs names sheet n) → 1024 < length (names_with names before sheet n)
   crowded before c =
       let once = apart-old sheet.types sheet.nodes n.node (condact_id names) n.clocking.equations no_needs apart_none in
       let named = named-old (length names) sheet.types sheet.nodes n.node (condact_id names) n.clocking.equations no_needs (named-equations h) (named_none (length names)) in
-      too_many names n.node (node_needs names sheet n) before (declared-few k.names (tokens gs vs) h.place n.node h.end h.read) (names_apart [] names h.distinct) once.flags once.firsts named c
-
--- what is not full in the end was not before
-pub not_full : (a b : Bool) → (a ≡ true → b ≡ true) → b ≡ false → a ≡ false
-not_full true b h e = absurd (true≢false (sym (h refl) ∙ e))
-not_full false b h e = refl
+      too_many names n.node (node_needs names sheet n) before (declared-few t.source.names (tokens_of t.source) h.place n.node h.end h.read) (names_apart [] names h.distinct) once.flags once.firsts named c

@@ -17,48 +17,37 @@ use Rattle.definitions.specs.declared.TypeToken.{TypeToken}
 use Rattle.definitions.specs.declared.UnaryOp.{UnaryOp}
 use Rattle.definitions.specs.Lists.{choose, join}
 use Rattle.definitions.specs.Tree.{Ty, Expr}
-use Rattle.definitions.specs.Clock.{Clock, base, ◌↓◌, depth, parent, is_base, same_test}
+use Rattle.definitions.specs.Clock.{Clock, base, ◌↓◌, depth, parent, is_base}
 use Rattle.definitions.specs.Declock.{clock_place, and_of, condition_expr}
 use Rattle.definitions.specs.Output.{ty_tokens, declared_tokens, expr_tokens, form_tokens, equation_tokens}
 use Rattle.clock_tables.specs.Value.{at, clock_at, capped}
 use Rattle.clock_tables.proofs.ClockLaws.{last-at}
-use Rattle.clock_tables.specs.Rows.{clocks_in}
 use Rattle.chain_order.specs.Order.{picked}
 use Rattle.stateless.specs.Yield.{Ids}
 use Rattle.stateless.specs.Locals.{activation_by, first_tick_by, flag_locals, first_locals, local_declared, local_equation}
-use Rattle.emit.specs.Out.{Out, emits}
+use Rattle.emit.specs.declared.output.Output.{Output}
+use Rattle.emit.specs.Out.{emits}
 use Rattle.emit.proofs.Laws.{emits-append, emits_none}
-use Rattle.declock.specs.Tabled.{FlagIds}
-
--- one after the other
-pub after : (o o₁ o₂ : Out) (a b : List Token) → o₁ ≡ emits o a → o₂ ≡ emits o₁ b → o₂ ≡ emits o (a ++ b)
-after o o₁ o₂ a b e f = f ∙ (ap (λ (x : Out). emits x b) e ∙ emits-append o a b)
+use Rattle.emit.proofs.NodePartsLaws.{after}
+use Rattle.declock.specs.declared.Flags.{Flags}
+use Rattle.declock.specs.Tabled.{FlagIds, flagged_clocks}
 
 -- the id at a clock's place
-pub id-found : (rows : List ℕ) (n : ℕ) (ids : List ℕ) (id : Clock → ℕ) (c : Clock) (x : ℕ) → FlagIds rows n ids id
-    → (17 * n ≤ length rows → x ≡ get_or ids (clock_place c (clocks_in rows n)) 0) → x ≡ id c
-id-found rows n ids id c x t f = f t.room ∙ sym (t.stands c)
+pub id-found : (f : Flags) (id : Clock → ℕ) (c : Clock) (x : ℕ) → FlagIds f id → (17 * f.clocks.count ≤ length f.clocks.words.now → x ≡ get_or f.ids.now (clock_place c (flagged_clocks f)) 0) → x ≡ id c
+id-found f id c x t h = h t.room ∙ sym (t.stands c)
 
 -- ---- a condition
 abbrev variable : ℕ → Token
 variable x = Token.Expression (ExprToken.Var x)
 
-test_on : (t : Test) → same_test t Test.On ≡ true → t ≡ Test.On
-test_on Test.On e = refl
-test_on Test.Not e = cc
-
-test-not : (t : Test) → same_test t Test.On ≡ false → t ≡ Test.Not
-test-not Test.On e = cc
-test-not Test.Not e = refl
-
-module _ (o o₁ : Out) (k : Condition) (b : Bool) (same : b ≡ same_test k.test Test.On) where
-  pub condition-on : b ≡ true → o₁ ≡ emits o (variable k.name ∷ []) → o₁ ≡ emits o (expr_tokens (condition_expr k))
+module _ (o o₁ : Output) (k : Condition) where
+  pub condition-on : k.test ≡ Test.On → o₁ ≡ emits o (variable k.name ∷ []) → o₁ ≡ emits o (expr_tokens (condition_expr k))
   unfolding expr_tokens
-  condition-on t e = e ∙ rw (test_on k.test (sym same ∙ t))
+  condition-on t e = e ∙ rw t
 
-  pub condition-not : (o₂ : Out) → b ≡ false → o₁ ≡ emits o (Token.Expression (ExprToken.Unary UnaryOp.Not) ∷ []) → o₂ ≡ emits o₁ (variable k.name ∷ []) → o₂ ≡ emits o (expr_tokens (condition_expr k))
+  pub condition-not : k.test ≡ Test.Not → o₁ ≡ emits o (Token.Expression (ExprToken.Unary UnaryOp.Not) ∷ variable k.name ∷ []) → o₁ ≡ emits o (expr_tokens (condition_expr k))
   unfolding expr_tokens form_tokens
-  condition-not o₂ t e f = after o o₁ o₂ _ _ e f ∙ rw (test-not k.test (sym same ∙ t))
+  condition-not t e = e ∙ rw t
 
 -- ---- the flag of a clock's parent
 abbrev parent_tokens : (Clock → ℕ) → Clock → List Token
@@ -74,16 +63,16 @@ deeper base h = absurd (omega arith)
 deeper (base ↓ k) h = absurd (omega arith)
 deeper (c ↓ l ↓ k) h = refl
 
-pub parent-none : (o : Out) (id : Clock → ℕ) (c : Clock) (d : ℕ) → d ≡ depth c → d ≤ 1 → o ≡ emits o (parent_tokens id (parent c))
+pub parent-none : (o : Output) (id : Clock → ℕ) (c : Clock) (d : ℕ) → d ≡ depth c → d ≤ 1 → o ≡ emits o (parent_tokens id (parent c))
 parent-none o id c d q h = sym (emits_none o) ∙ rw (top c (omega arith))
 
-pub parent-flag : (o o₁ o₂ : Out) (id : Clock → ℕ) (c p : Clock) (d x : ℕ) → d ≡ depth c → 1 < d → p ≡ parent c → x ≡ id p
-    → o₁ ≡ emits o (Token.Expression (ExprToken.Binary BinOp.And) ∷ []) → o₂ ≡ emits o₁ (variable x ∷ []) → o₂ ≡ emits o (parent_tokens id (parent c))
-parent-flag o o₁ o₂ id c p d x y h q i e f =
-    after o o₁ o₂ _ _ e f ∙ rw (deeper c (omega arith)) (ap (λ (y : ℕ). emits o (Token.Expression (ExprToken.Binary BinOp.And) ∷ variable y ∷ [])) (i ∙ ap id q))
+pub parent-flag : (o o₁ : Output) (id : Clock → ℕ) (c p : Clock) (d x : ℕ) → d ≡ depth c → 1 < d → p ≡ parent c → x ≡ id p
+    → o₁ ≡ emits o (Token.Expression (ExprToken.Binary BinOp.And) ∷ variable x ∷ []) → o₁ ≡ emits o (parent_tokens id (parent c))
+parent-flag o o₁ id c p d x y h q i e =
+    e ∙ rw (deeper c (omega arith)) (ap (λ (y : ℕ). emits o (Token.Expression (ExprToken.Binary BinOp.And) ∷ variable y ∷ [])) (i ∙ ap id q))
 
 -- ---- when a clock is on
-module _ (i : Ids) (o o₁ : Out) (c : Clock) where
+module _ (i : Ids) (o o₁ : Output) (c : Clock) where
   pub on-base : (d : ℕ) → d ≡ depth c → d ≡ 0 → o₁ ≡ emits o (Token.Expression (ExprToken.Const (Literal.Bool 1)) ∷ []) → o₁ ≡ emits o (expr_tokens (activation_by i c))
   unfolding expr_tokens
   on-base n q z e = go c (sym q ∙ z)
@@ -101,7 +90,7 @@ module _ (i : Ids) (o o₁ : Out) (c : Clock) where
       go true = refl
       go false = ap (λ (l : List Token). Token.Expression (ExprToken.Binary BinOp.And) ∷ variable (i.flag p) ∷ l) (sym (append-nil (expr_tokens (condition_expr k))))
 
-  pub on-condition : (o₂ : Out) (p : Clock) (k : Condition) → c ≡ p ↓ k → o₁ ≡ emits o (parent_tokens i.flag (parent c)) → o₂ ≡ emits o₁ (expr_tokens (condition_expr k)) → o₂ ≡ emits o (expr_tokens (activation_by i c))
+  pub on-condition : (o₂ : Output) (p : Clock) (k : Condition) → c ≡ p ↓ k → o₁ ≡ emits o (parent_tokens i.flag (parent c)) → o₂ ≡ emits o₁ (expr_tokens (condition_expr k)) → o₂ ≡ emits o (expr_tokens (activation_by i c))
   on-condition o₂ p k q e f =
       after o o₁ o₂ _ _ (e ∙ ap (λ (d : Clock). emits o (parent_tokens i.flag (parent d))) q) f
       ∙ (ap (emits o) (activation-tokens p k) ∙ ap (λ (d : Clock). emits o (expr_tokens (activation_by i d))) (sym q))
@@ -111,7 +100,7 @@ pub last-value : (ks : List Condition) (d r : ℕ) → r ≡ capped d → (r ≡
 last-value ks d r e z = let y : capped d ≡ 0 → ⊥ = λ w. z (e ∙ w) in last-at ks (capped d) y ∙ rw e
 
 -- ---- the first tick of a clock
-pub first-tick : (i : Ids) (c : Clock) (x y : ℕ) (o o₁ : Out) → x ≡ i.first c → y ≡ i.flag c
+pub first-tick : (i : Ids) (c : Clock) (x y : ℕ) (o o₁ : Output) → x ≡ i.first c → y ≡ i.flag c
     → o₁ ≡ emits o (Token.Expression ExprToken.Arrow ∷ Token.Expression (ExprToken.Const (Literal.Bool 1)) ∷ Token.Expression (ExprToken.Binary BinOp.And) ∷ Token.Expression ExprToken.Pre ∷ variable x
     ∷ Token.Expression (ExprToken.Unary UnaryOp.Not) ∷ Token.Expression ExprToken.Pre ∷ variable y ∷ [])
     → o₁ ≡ emits o (expr_tokens (first_tick_by i c))
@@ -119,24 +108,24 @@ unfolding expr_tokens form_tokens
 first-tick i c x y o o₁ u v e = e ∙ rw (u, v)
 
 -- ---- the rows that a chain names
-module _ (f : ℕ → Clock) (chain : List ℕ) (T : List Clock → List Token) (m : ℕ) (whole : Out) where
+module _ (f : ℕ → Clock) (chain : List ℕ) (T : List Clock → List Token) (m : ℕ) (whole : Output) where
   -- what the rows from i on say makes the whole
-  abbrev pub Left : Out → ℕ → Type 0
+  abbrev pub Left : Output → ℕ → Type 0
   Left o i = whole ≡ emits o (T (picked f chain i (m - i)))
 
   pub rows_more : (line : Clock → List Token) → ((c : Clock) (cs : List Clock) → T (c ∷ cs) ≡ line c ++ T cs)
-      → (o o₁ : Out) (i : ℕ) (c : Clock) → i < m → c ≡ f (get_or chain i 0) → Left o i → o₁ ≡ emits o (line c) → Left o₁ (i + 1)
+      → (o o₁ : Output) (i : ℕ) (c : Clock) → i < m → c ≡ f (get_or chain i 0) → Left o i → o₁ ≡ emits o (line c) → Left o₁ (i + 1)
   unfolding picked
   rows_more line more o o₁ i c h q e g =
       let n : m - i ≡ suc (m - (i + 1)) = omega arith in
       let rest = picked f chain (i + 1) (m - (i + 1)) in
-      e ∙ (rw n (ap (emits o) (more (f (get_or chain i 0)) rest)) ∙ (ap (λ (d : Clock). emits o (line d ++ T rest)) (sym q) ∙ (sym (emits-append o (line c) (T rest)) ∙ ap (λ (x : Out). emits x (T rest)) (sym g))))
+      e ∙ (rw n (ap (emits o) (more (f (get_or chain i 0)) rest)) ∙ (ap (λ (d : Clock). emits o (line d ++ T rest)) (sym q) ∙ (sym (emits-append o (line c) (T rest)) ∙ ap (λ (x : Output). emits x (T rest)) (sym g))))
 
-  pub rows_all : T [] ≡ [] → (o : Out) (i : ℕ) → m ≤ i → Left o i → o ≡ whole
+  pub rows_all : T [] ≡ [] → (o : Output) (i : ℕ) → m ≤ i → Left o i → o ≡ whole
   unfolding picked
   rows_all none o i h e = let n : m - i ≡ 0 = omega arith in sym (e ∙ rw n (ap (emits o) none ∙ emits_none o))
 
-pub rows_start : (f : ℕ → Clock) (chain : List ℕ) (T : List Clock → List Token) (m : ℕ) (o : Out) → Left f chain T m (emits o (T (picked f chain 0 m))) o 0
+pub rows_start : (f : ℕ → Clock) (chain : List ℕ) (T : List Clock → List Token) (m : ℕ) (o : Output) → Left f chain T m (emits o (T (picked f chain 0 m))) o 0
 rows_start f chain T m o = let n : m - 0 ≡ m = omega arith in rw n
 
 -- ---- declarations
@@ -153,11 +142,11 @@ unfolding declared_tokens ty_tokens
 declared-locals id right [] = refl
 declared-locals id right (c ∷ cs) = ap (λ (l : List Token). declaration_tokens id c ++ l) (declared-locals id right cs)
 
-pub declared-all : (f : ℕ → Clock) (chain : List ℕ) (m i : ℕ) (o o₁ : Out) (id : Clock → ℕ) (right : Clock → Expr) → m ≤ i → Left f chain (declarations id) m (emits o (declarations id (picked f chain 0 m))) o₁ i
+pub declared-all : (f : ℕ → Clock) (chain : List ℕ) (m i : ℕ) (o o₁ : Output) (id : Clock → ℕ) (right : Clock → Expr) → m ≤ i → Left f chain (declarations id) m (emits o (declarations id (picked f chain 0 m))) o₁ i
     → o₁ ≡ emits o (join (map declared_tokens (map local_declared (map (λ (c : Clock). record { name = id c; type = Ty.primitive Primitive.Bool; right = right c }) (picked f chain 0 m)))))
 declared-all f chain m i o o₁ id right h e = rows_all f chain (declarations id) m _ refl o₁ i h e ∙ ap (emits o) (declared-locals id right (picked f chain 0 m))
 
-pub declaration-line : (id : Clock → ℕ) (c : Clock) (x : ℕ) (o o₁ : Out) → x ≡ id c → o₁ ≡ emits o (Token.Name x ∷ Token.Type (TypeToken.Basic Primitive.Bool) ∷ []) → o₁ ≡ emits o (declaration_tokens id c)
+pub declaration-line : (id : Clock → ℕ) (c : Clock) (x : ℕ) (o o₁ : Output) → x ≡ id c → o₁ ≡ emits o (Token.Name x ∷ Token.Type (TypeToken.Basic Primitive.Bool) ∷ []) → o₁ ≡ emits o (declaration_tokens id c)
 declaration-line id c x o o₁ e f = f ∙ rw e
 
 -- ---- equations
@@ -176,7 +165,7 @@ abbrev pub first_equations : Ids → List Clock → List Token
 first_equations i cs = join (map equation_tokens (map local_equation (first_locals i cs)))
 
 -- an equation of one name
-pub equation-line : (x y : ℕ) (right : Expr) (o o₁ o₂ : Out) → x ≡ y → o₁ ≡ emits o (Token.Count 1 ∷ Token.Name x ∷ []) → o₂ ≡ emits o₁ (expr_tokens right)
+pub equation-line : (x y : ℕ) (right : Expr) (o o₁ o₂ : Output) → x ≡ y → o₁ ≡ emits o (Token.Count 1 ∷ Token.Name x ∷ []) → o₂ ≡ emits o₁ (expr_tokens right)
     → o₂ ≡ emits o (equation_tokens (record { left = y ∷ []; right = right }))
 unfolding equation_tokens
 equation-line x y right o o₁ o₂ q e f = after o o₁ o₂ _ _ e f ∙ rw q

@@ -14,7 +14,8 @@ use Rattle.definitions.specs.InferClocks.{Clocked}
 use Rattle.definitions.specs.Declock.{Stem, ck, first, hold, Hold, nothing_needed}
 use Rattle.definitions.specs.Output.{declared_tokens, counted_tokens, equation_tokens, probe_tokens, node_tokens}
 use Rattle.chain_order.specs.Order.{picked}
-use Rattle.emit.specs.Out.{Out, emits}
+use Rattle.emit.specs.declared.output.Output.{Output}
+use Rattle.emit.specs.Out.{emits}
 use Rattle.stateless.specs.Need.{Needs}
 use Rattle.stateless.specs.Yield.{Ids, old_yield, right_yield}
 use Rattle.stateless.specs.Faults.{old_fault}
@@ -50,9 +51,9 @@ node-parts n new old =
     ap (λ (l : List Token). Token.Node n.name ∷ Token.Kind n.kind ∷ l)
     (ap (λ (l : List Token). i ++ l) (sym (append_assoc u v r)) ∙ sym (append_assoc i (u ++ v) r))
 
-module _ (n : Node) (a b c : List Local) (o : Out) where
+module _ (n : Node) (a b c : List Local) (o : Output) where
   -- the front: what the node has before its locals, its locals, then the declarations of the new ones
-  pub front-written : (o₁ o₂ o₃ o₄ o₅ : Out) (more : ℕ) → more ≡ length (a ++ (b ++ c))
+  pub front-written : (o₁ o₂ o₃ o₄ o₅ : Output) (more : ℕ) → more ≡ length (a ++ (b ++ c))
       → o₁ ≡ emits o (Token.Node n.name ∷ Token.Kind n.kind ∷ (counted_tokens declared_tokens n.inputs ++ counted_tokens declared_tokens n.outputs))
       → o₂ ≡ emits o₁ (Token.Count (length n.locals + more) ∷ join (map declared_tokens n.locals))
       → o₃ ≡ emits o₂ (join (map declared_tokens (map local_declared a))) → o₄ ≡ emits o₃ (join (map declared_tokens (map local_declared b)))
@@ -71,7 +72,7 @@ module _ (n : Node) (a b c : List Local) (o : Out) where
       ∙ ap (λ (l : List Token). emits o (Token.Node n.name ∷ Token.Kind n.kind ∷ l)) (append_assoc i u (counted_tokens declared_tokens (n.locals ++ map local_declared new))))
 
   -- the body: how many equations there are, those of the new locals, then the old ones
-  pub body-written : (o₁ o₂ o₃ o₄ o₅ : Out) (old : List Equation) (total : ℕ) → total ≡ length (a ++ (b ++ c)) + length old → o₁ ≡ emits o (Token.Count total ∷ [])
+  pub body-written : (o₁ o₂ o₃ o₄ o₅ : Output) (old : List Equation) (total : ℕ) → total ≡ length (a ++ (b ++ c)) + length old → o₁ ≡ emits o (Token.Count total ∷ [])
       → o₂ ≡ emits o₁ (join (map equation_tokens (map local_equation a))) → o₃ ≡ emits o₂ (join (map equation_tokens (map local_equation b)))
       → o₄ ≡ emits o₃ (join (map equation_tokens (map local_equation c))) → o₅ ≡ emits o₄ (join (map equation_tokens old)) → o₅ ≡ emits o (body_tokens (a ++ (b ++ c)) old)
   unfolding body_tokens
@@ -89,7 +90,7 @@ module _ (n : Node) (a b c : List Local) (o : Out) where
       ∙ ap₂ (λ (x : ℕ) (l : List Token). emits o (Token.Count x ∷ l)) s t
 
   -- the whole node
-  pub node-written : (o₁ o₂ o₃ : Out) (old : List Equation) → o₁ ≡ emits o (front_tokens n (a ++ (b ++ c))) → o₂ ≡ emits o₁ (body_tokens (a ++ (b ++ c)) old) → o₃ ≡ emits o₂ (counted_tokens probe_tokens n.probes)
+  pub node-written : (o₁ o₂ o₃ : Output) (old : List Equation) → o₁ ≡ emits o (front_tokens n (a ++ (b ++ c))) → o₂ ≡ emits o₁ (body_tokens (a ++ (b ++ c)) old) → o₃ ≡ emits o₂ (counted_tokens probe_tokens n.probes)
       → o₃ ≡ emits o (node_tokens (with_locals n (a ++ (b ++ c)) old))
   node-written o₁ o₂ o₃ old e f g = after o o₁ o₃ _ _ e (after o₁ o₂ o₃ _ _ f g) ∙ ap (emits o) (sym (node-parts n (a ++ (b ++ c)) old))
 

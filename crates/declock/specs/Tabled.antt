@@ -1,10 +1,19 @@
--- The ids of clocks' flags in a table beside the rows of the clocks.
+-- The ids of clocks' flags beside the rows of the clocks.
 use Rattle.std.specs.Prelude.{ℕ, ◌*◌, ◌≤◌, ◌≡◌, List, length, get_or}
 use Rattle.definitions.specs.Clock.{Clock}
 use Rattle.definitions.specs.Declock.{clock_place}
 use Rattle.clock_tables.specs.Rows.{clocks_in}
+use Rattle.chain_order.specs.Order.{row_of, picked}
+use Rattle.declock.specs.declared.Flags.{Flags}
 
--- the id of a clock's flag stands at the clock's place among the first n rows
-pub record FlagIds (rows : List ℕ) (n : ℕ) (ids : List ℕ) (id : Clock → ℕ) : Type 0 where
-  pub room : 17 * n ≤ length rows
-  pub stands : (c : Clock) → id c ≡ get_or ids (clock_place c (clocks_in rows n)) 0
+-- the clocks with flags, in order of need, and in chain order
+abbrev pub flagged_clocks : Flags → List Clock
+flagged_clocks f = clocks_in f.clocks.words.now f.clocks.count
+
+abbrev pub ordered_clocks : Flags → List Clock
+ordered_clocks f = picked (row_of f.clocks.words.now) f.names.now.order 0 f.names.now.ordered
+
+-- the id of a clock's flag stands at the clock's place
+pub record FlagIds (f : Flags) (id : Clock → ℕ) : Type 0 where
+  pub room : 17 * f.clocks.count ≤ length f.clocks.words.now
+  pub stands : (c : Clock) → id c ≡ get_or f.ids.now (clock_place c (flagged_clocks f)) 0

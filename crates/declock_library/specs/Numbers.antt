@@ -1,13 +1,12 @@
 -- What an exported function answers, by the definitions' answer: a number, a place, and a count of faulty nodes.
-use Rattle.std.specs.Prelude.{ℕ, ◌≡◌, List, [], ◌∷◌, length}
+use Rattle.std.specs.Prelude.{ℕ, ◌≡◌, List, [], ◌∷◌, length, Result, Ok, Err}
+use Rattle.query.specs.declared.NodeCounts.{NodeCounts}
+use Rattle.definitions.specs.declared.Refusal.{Refusal}
 use Rattle.definitions.specs.declared.FaultRecord.{FaultRecord}
 use Rattle.definitions.specs.Lists.{over}
 use Rattle.definitions.specs.Refusals.{Answer, accepted, refused, faulty, number, place, fault_count, bytes_after, faults_after}
 use Rattle.definitions.specs.Answer.{NodeClocks, clock_faults_after}
-use Rattle.listings.specs.declared.ClocksAnswer.{ClocksAnswer}
-use Rattle.listings.specs.declared.ListingAnswer.{ListingAnswer}
 use Rattle.listings.specs.Answers.{equations_after, chains_after}
-use Rattle.declock_project.specs.declared.RewriteAnswer.{RewriteAnswer}
 
 -- "A refusal is its number and place": the number, 10 of faults; 0 where accepted
 abbrev pub number_of : {A : Type 0} → Answer A → ℕ
@@ -62,35 +61,23 @@ pub record ClocksTold (k : ℕ) (v : Answer NodeClocks) (es cs : List ℕ) (fs :
   pub chains : cs' ≡ chains_after v cs
   pub faults : fs' ≡ clock_faults_after k v fs
 
--- the number and the place of each case of the three answers, the count of the second, and the counts of the third
-abbrev pub listing_number : ListingAnswer → ℕ
-listing_number (ListingAnswer.Written n) = 0
-listing_number (ListingAnswer.Refused r) = number r
+-- the number and the place of each case of an answer, the count of faulty nodes, and the counts of a clock query
+abbrev pub told_number : {A : Type 0} → Result A Refusal → ℕ
+told_number (Ok a) = 0
+told_number (Err r) = number r
 
-abbrev pub listing_place : ListingAnswer → ℕ
-listing_place (ListingAnswer.Written n) = n
-listing_place (ListingAnswer.Refused r) = place r
+abbrev pub bytes_place : Result ℕ Refusal → ℕ
+bytes_place (Ok n) = n
+bytes_place (Err r) = place r
 
-abbrev pub rewrite_number : RewriteAnswer → ℕ
-rewrite_number (RewriteAnswer.Written n) = 0
-rewrite_number (RewriteAnswer.Refused r) = number r
+abbrev pub faulty_count : Result ℕ Refusal → ℕ
+faulty_count (Ok n) = 0
+faulty_count (Err r) = fault_count r
 
-abbrev pub rewrite_place : RewriteAnswer → ℕ
-rewrite_place (RewriteAnswer.Written n) = n
-rewrite_place (RewriteAnswer.Refused r) = place r
+abbrev pub clocks_place : Result NodeCounts Refusal → ℕ
+clocks_place (Ok c) = 0
+clocks_place (Err r) = place r
 
-abbrev pub rewrite_count : RewriteAnswer → ℕ
-rewrite_count (RewriteAnswer.Written n) = 0
-rewrite_count (RewriteAnswer.Refused r) = fault_count r
-
-abbrev pub clocks_number : ClocksAnswer → ℕ
-clocks_number (ClocksAnswer.Clocks c) = 0
-clocks_number (ClocksAnswer.Refused r) = number r
-
-abbrev pub clocks_place : ClocksAnswer → ℕ
-clocks_place (ClocksAnswer.Clocks c) = 0
-clocks_place (ClocksAnswer.Refused r) = place r
-
-abbrev pub clocks_counts : ClocksAnswer → List ℕ → List ℕ
-clocks_counts (ClocksAnswer.Clocks c) lent = over (c.name ∷ c.passes ∷ c.equations ∷ c.chains ∷ c.faults ∷ []) lent
-clocks_counts (ClocksAnswer.Refused r) lent = lent
+abbrev pub clocks_counts : Result NodeCounts Refusal → List ℕ → List ℕ
+clocks_counts (Ok c) lent = over (c.name ∷ c.passes ∷ c.equations ∷ c.chains ∷ c.faults ∷ []) lent
+clocks_counts (Err r) lent = lent

@@ -1,66 +1,55 @@
 // The entry points for programs in C and Rust, under their plain names; include/declock.h says what each number means.
 // Each answers 0 where the sheet is accepted, else the refusal's number, and stores the number of bytes written, or the refusal's place.
+// Stays (C interface): C has no `Result`, so an answer is a number and what is stored.
 #![tactic(auto)]
 
 ghost use Rattle.std.specs.Prelude.{◌≡◌, length, take};
 ghost use Rattle.definitions.specs.Refusals.{fault_count};
 ghost use Rattle.definitions.specs.Answer.{rewrite_answer, clocks_answer, text_answer, listing_answer, listings_answer};
 ghost use Rattle.runs.specs.Demand.{DemandThreeAt};
-ghost use Rattle.declock_library.specs.Numbers.{BytesTold, RewritingTold, ClocksTold, listing_number, listing_place, rewrite_number, rewrite_place, rewrite_count, clocks_number, clocks_place, clocks_counts};
+ghost use Rattle.declock_library.specs.Numbers.{BytesTold, RewritingTold, ClocksTold, told_number, bytes_place, faulty_count, clocks_place, clocks_counts};
 
-use declock_project::RewriteAnswer;
 use definitions::{FaultRecord, Refusal};
-use listings::{ClocksAnswer, ListingAnswer};
+use query::NodeCounts;
 
-// The number of a listing's answer; its place is stored.
-fn tell_listing(a: ListingAnswer, place: &mut usize) -> u32
-    ensures { (result ≡ listing_number a) × (place.new ≡ listing_place a) }
+// The number of an answer of bytes; how many these are, or the refusal's place, is stored.
+fn tell_bytes(a: Result<usize, Refusal>, place: &mut usize) -> u32
+    ensures { (result ≡ told_number a) × (place.new ≡ bytes_place a) }
 {
     match a {
-        ListingAnswer::Written(n) => {
+        Ok(n) => {
             *place = n;
             0
         }
-        ListingAnswer::Refused(r) => {
+        Err(r) => {
             *place = refusals::place(r);
             refusals::number(r)
         }
     }
 }
 
-// The number of a rewriting's answer; its place and the count of faulty nodes are stored.
-fn tell_rewriting(a: RewriteAnswer, place: &mut usize, faulty: &mut usize) -> u32
-    ensures { (result ≡ rewrite_number a) × (place.new ≡ rewrite_place a) × (faulty.new ≡ rewrite_count a) }
+// The same of a rewriting; the count of faulty nodes is stored too.
+fn tell_rewriting(a: Result<usize, Refusal>, place: &mut usize, faulty: &mut usize) -> u32
+    ensures { (result ≡ told_number a) × (place.new ≡ bytes_place a) × (faulty.new ≡ faulty_count a) }
 {
-    match a {
-        RewriteAnswer::Written(n) => {
-            *place = n;
-            *faulty = 0;
-            0
-        }
-        RewriteAnswer::Refused(r) => {
-            *place = refusals::place(r);
-            *faulty = refusals::faulty_nodes(r);
-            refusals::number(r)
-        }
-    }
+    *faulty = match a {
+        Ok(_) => 0,
+        Err(r) => refusals::faulty_nodes(r),
+    };
+    tell_bytes(a, place)
 }
 
 // The number of a clock query's answer; its place and, where it is no refusal, the node's name, passes and counts are stored.
-fn tell_clocks(a: ClocksAnswer, counts: &mut [usize; 5], place: &mut usize) -> u32
-    ensures { (result ≡ clocks_number a) × (counts.new ≡ clocks_counts a counts.old) × (place.new ≡ clocks_place a) }
+fn tell_clocks(a: Result<NodeCounts, Refusal>, counts: &mut [usize; 5], place: &mut usize) -> u32
+    ensures { (result ≡ told_number a) × (counts.new ≡ clocks_counts a counts.old) × (place.new ≡ clocks_place a) }
 {
     match a {
-        ClocksAnswer::Clocks(c) => {
-            counts[0] = widths::wide(c.name);
-            counts[1] = c.passes;
-            counts[2] = c.equations;
-            counts[3] = c.chains;
-            counts[4] = c.faults;
+        Ok(c) => {
+            *counts = [c.name as usize, c.passes, c.equations, c.chains, c.faults];
             *place = 0;
             0
         }
-        ClocksAnswer::Refused(r) => {
+        Err(r) => {
             *place = refusals::place(r);
             refusals::number(r)
         }
@@ -115,7 +104,7 @@ pub extern "C" fn declock_text(
     ensures { BytesTold (text_answer sheet.now node fault (length out.old)) out.old out.new place.new result }
 {
     let answer = questions::text(sheet, node, fault, out);
-    tell_listing(answer, place)
+    tell_bytes(answer, place)
 }
 
 // The listing of a node, over the front of the lent bytes.
@@ -129,7 +118,7 @@ pub extern "C" fn declock_listing(
     ensures { BytesTold (listing_answer sheet.now node (length out.old)) out.old out.new place.new result }
 {
     let answer = questions::listing(sheet, node, out);
-    tell_listing(answer, place)
+    tell_bytes(answer, place)
 }
 
 // The listings of all nodes, in order, over the front of the lent bytes.
@@ -138,5 +127,5 @@ pub extern "C" fn declock_listings(sheet: &[u8], out: &mut [u8], place: &mut usi
     ensures { BytesTold (listings_answer sheet.now (length out.old)) out.old out.new place.new result }
 {
     let answer = questions::listings(sheet, out);
-    tell_listing(answer, place)
+    tell_bytes(answer, place)
 }

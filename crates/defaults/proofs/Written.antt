@@ -1,12 +1,11 @@
 -- Laws of writing defaults: what the parts write makes what the whole writes.
 -- Assumes nothing.
-use mathlib.Core.Path.{◌≡◌, refl, sym, ◌∙◌, ap}
-use mathlib.Core.List.{List, [], ◌∷◌, ◌++◌, map, append_assoc, append-nil}
+use mathlib.Core.Path.{◌≡◌, refl, sym, ◌∙◌, ap, ap₂}
+use mathlib.Core.List.{List, [], ◌∷◌, ◌++◌, map}
 use mathlib.Core.Option.{Option, none, some}
-use Prim.Native.Nat.{ℕ, zero, suc, ◌+◌, ◌-◌, ◌/◌, ◌≤◌, ◌<◌}
+use Prim.Native.Nat.{ℕ, zero, suc, ◌+◌, ◌-◌, ◌≤◌, ◌<◌}
 use native.Mathlib.Omega.{arith}
-use native.Mathlib.Nat.{zero-add}
-use lib.ListN.{length, get_or}
+use lib.ListN.{length, get_or, replicate}
 use Rattle.definitions.specs.declared.Primitive.{Primitive}
 use Rattle.definitions.specs.declared.Literal.{Literal}
 use Rattle.definitions.specs.declared.ExprToken.{ExprToken}
@@ -23,27 +22,20 @@ use Rattle.grammar.proofs.Laws.{times-length}
 use Rattle.grammar.proofs.Got.{times-nil, times-cons}
 use Rattle.layout.specs.declared.Defined.{Defined}
 use Rattle.layout.specs.Table.{def_at, first_of, Table, Described}
-use Rattle.layout.proofs.TypedefsLaws.{name-value}
-use Rattle.emit.specs.Out.{Out, emits}
+use Rattle.layout.proofs.TypedefsLaws.{FirstField, name-value}
+use Rattle.emit.specs.declared.output.Output.{Output}
+use Rattle.emit.specs.Out.{emits}
 use Rattle.emit.proofs.Laws.{emits-append, emits_none}
-use Rattle.defaults.specs.declared.Plain.{Plain}
 use Rattle.defaults.specs.Depth.{Enough}
-use Rattle.defaults.specs.Plain.{IsPlain}
 use Rattle.defaults.proofs.Laws.{unnamed, named_by}
 
 -- one after the other
-pub then : (o o₁ o₂ : Out) (a b c : List Token) → o₁ ≡ emits o a → o₂ ≡ emits o₁ b → a ++ b ≡ c → o₂ ≡ emits o c
+pub then : (o o₁ o₂ : Output) (a b c : List Token) → o₁ ≡ emits o a → o₂ ≡ emits o₁ b → a ++ b ≡ c → o₂ ≡ emits o c
 then o o₁ o₂ a b c e f g = f ∙ rw (e, emits-append o a b, g)
 
 -- a constant
-module _ (o o₁ : Out) (l : Literal) (e : o₁ ≡ emits o (Token.Expression (ExprToken.Const l) ∷ [])) where
-  pub short-bool : (v : ℕ) → l ≡ Literal.Bool v → o₁ ≡ emits o (literal_tokens l 0)
-  short-bool v j = e ∙ rw j
-
-  pub short-char : (v : ℕ) → l ≡ Literal.Char v → o₁ ≡ emits o (literal_tokens l 0)
-  short-char v j = e ∙ rw j
-
-  module _ (o₂ : Out) (f : o₂ ≡ emits o₁ (Token.High 0 ∷ [])) where
+module _ (o o₁ : Output) (l : Literal) (e : o₁ ≡ emits o (Token.Expression (ExprToken.Const l) ∷ [])) where
+  module _ (o₂ : Output) (f : o₂ ≡ emits o₁ (Token.High 0 ∷ [])) where
     pub wide_int : (v : ℕ) → l ≡ Literal.Int v → o₂ ≡ emits o (literal_tokens l 0)
     wide_int v j = then o o₁ o₂ _ _ _ e f (rw j)
 
@@ -52,7 +44,7 @@ module _ (o o₁ : Out) (l : Literal) (e : o₁ ≡ emits o (Token.Expression (E
 
 -- a type's default by its first token
 module _ (G : ℕ → Option Expr) (t : Ty) (e : Expr) (d : default_by G t ≡ some e) where
-  pub wrote-basic : (o : Out) (b : Primitive) (l : Literal) (o₁ : Out) → t ≡ Ty.primitive b → l ≡ primitive_default b → o₁ ≡ emits o (literal_tokens l 0) → o₁ ≡ emits o (expr_tokens e)
+  pub wrote-basic : (o : Output) (b : Primitive) (l : Literal) (o₁ : Output) → t ≡ Ty.primitive b → l ≡ primitive_default b → o₁ ≡ emits o (literal_tokens l 0) → o₁ ≡ emits o (expr_tokens e)
   unfolding default_by expr_tokens
   wrote-basic o b l o₁ j i f =
       let h : some (Expr.const (primitive_default b) 0) ≡ some e = rw j at d in
@@ -73,78 +65,76 @@ copies_length zero e = refl
 copies_length (suc m) e = ap suc (copies_length m e)
 
 -- an array of a primitive type, by the constant
-pub plain-default : (G : ℕ → Option Expr) (P : Plain) (l : Literal) (t : Ty) (y : Expr) → IsPlain P t → P ≡ Plain.Constant l → default_by G t ≡ some y → y ≡ Expr.const l 0
+pub plain-default : (G : ℕ → Option Expr) (l : Literal) (t : Ty) (y : Expr) → (p : Primitive) × (t ≡ Ty.primitive p) × (l ≡ primitive_default p) → default_by G t ≡ some y → y ≡ Expr.const l 0
 unfolding default_by
-plain-default G P l t y i e d =
-    let h = i l e in
+plain-default G l t y h d =
     let f : some (Expr.const (primitive_default h.0) 0) ≡ some y = rw h.1 at d in
     let g : y ≡ Expr.const (primitive_default h.0) 0 = cc in
     g ∙ ap (λ (k : Literal). Expr.const k 0) (sym h.2)
 
--- so many times a constant: one more, none left, and where nothing fits any more
-module _ (l : Literal) where
-  pub literals-more : (o o₁ o₂ : Out) (n : ℕ) → 0 < n → o₂ ≡ emits o₁ (literal_tokens l 0) → o ≡ emits o₁ (join (operand_tokens (copies n (Expr.const l 0)))) → o ≡ emits o₂ (join (operand_tokens (copies (n - 1) (Expr.const l 0))))
-  unfolding operand_tokens copies expr_tokens
-  literals-more o o₁ o₂ zero h f e = absurd (omega arith)
-  literals-more o o₁ o₂ (suc n) h f e = let i : suc n - 1 ≡ n = omega arith in e ∙ rw (i, f) (sym (emits-append o₁ (literal_tokens l 0) (join (operand_tokens (copies n (Expr.const l 0))))))
-
-  pub literals-none : (o o₁ : Out) (n : ℕ) → n ≤ 0 → o ≡ emits o₁ (join (operand_tokens (copies n (Expr.const l 0)))) → o₁ ≡ o
+-- so many times a default: one more, and none left
+module _ (e : Expr) where
+  pub copies-more : (o o₁ o₂ : Output) (m i : ℕ) → i < m → o₂ ≡ emits o₁ (expr_tokens e) → o ≡ emits o₁ (join (operand_tokens (copies (m - i) e))) → o ≡ emits o₂ (join (operand_tokens (copies (m - (i + 1)) e)))
   unfolding operand_tokens copies
-  literals-none o o₁ n h e = let i : n ≡ 0 = omega arith in sym (rw i at e ∙ emits_none o₁)
+  copies-more o o₁ o₂ m i h f g =
+      let n : m - i ≡ suc (m - (i + 1)) = omega arith in
+      (rw n at g) ∙ rw f (sym (emits-append o₁ (expr_tokens e) (join (operand_tokens (copies (m - (i + 1)) e)))))
 
-pub wrote-array : (y : Expr) (m : ℕ) (o o₁ o₂ : Out) → o₁ ≡ emits o (Token.Expression ExprToken.Array ∷ Token.Count m ∷ []) → o₂ ≡ emits o₁ (join (operand_tokens (copies m y))) → o₂ ≡ emits o (expr_tokens (Expr.op Head.array (copies m y)))
+  pub copies-none : (o o₁ : Output) (m i : ℕ) → m ≤ i → o ≡ emits o₁ (join (operand_tokens (copies (m - i) e))) → o₁ ≡ o
+  unfolding operand_tokens copies
+  copies-none o o₁ m i h g = let n : m - i ≡ 0 = omega arith in sym (rw n at g ∙ emits_none o₁)
+
+  pub copies-begin : (o : Output) (m : ℕ) → emits o (join (operand_tokens (copies m e))) ≡ emits o (join (operand_tokens (copies (m - 0) e)))
+  copies-begin o m = let n : m ≡ m - 0 = omega arith in ap (λ (k : ℕ). emits o (join (operand_tokens (copies k e)))) n
+
+-- a constant's tokens are those of its expression
+pub literal-one : (l : Literal) (o o₁ : Output) → o₁ ≡ emits o (literal_tokens l 0) → o₁ ≡ emits o (expr_tokens (Expr.const l 0))
+unfolding expr_tokens
+literal-one l o o₁ e = e
+
+-- constants of one token
+short-many : (l : Literal) → literal_tokens l 0 ≡ Token.Expression (ExprToken.Const l) ∷ [] → (m : ℕ) → replicate m (Token.Expression (ExprToken.Const l)) ≡ join (operand_tokens (copies m (Expr.const l 0)))
+unfolding operand_tokens copies expr_tokens
+short-many l e zero = refl
+short-many l e (suc m) = ap₂ (λ (a b : List Token). a ++ b) (sym e) (short-many l e m)
+
+pub many-bool : (o o₁ : Output) (l : Literal) (v m : ℕ) → l ≡ Literal.Bool v → o₁ ≡ emits o (replicate m (Token.Expression (ExprToken.Const l))) → o₁ ≡ emits o (join (operand_tokens (copies m (Expr.const l 0))))
+many-bool o o₁ l v m j f = f ∙ ap (emits o) (short-many l (rw j) m)
+
+pub many-char : (o o₁ : Output) (l : Literal) (v m : ℕ) → l ≡ Literal.Char v → o₁ ≡ emits o (replicate m (Token.Expression (ExprToken.Const l))) → o₁ ≡ emits o (join (operand_tokens (copies m (Expr.const l 0))))
+many-char o o₁ l v m j f = f ∙ ap (emits o) (short-many l (rw j) m)
+
+pub wrote-array : (y : Expr) (m : ℕ) (o o₁ o₂ : Output) → o₁ ≡ emits o (Token.Expression ExprToken.Array ∷ Token.Count m ∷ []) → o₂ ≡ emits o₁ (join (operand_tokens (copies m y))) → o₂ ≡ emits o (expr_tokens (Expr.op Head.array (copies m y)))
 unfolding expr_tokens form_tokens
 wrote-array y m o o₁ o₂ f g = then o o₁ o₂ _ _ _ f g (rw (copies_length m y))
 
-pub wrote-plain : (y : Expr) (l : Literal) (m : ℕ) (o o₁ o₂ : Out) → y ≡ Expr.const l 0 → o₁ ≡ emits o (Token.Expression ExprToken.Array ∷ Token.Count m ∷ []) → o₂ ≡ emits o₁ (join (operand_tokens (copies m (Expr.const l 0)))) → o₂ ≡ emits o (expr_tokens (Expr.op Head.array (copies m y)))
+pub wrote-plain : (y : Expr) (l : Literal) (m : ℕ) (o o₁ o₂ : Output) → y ≡ Expr.const l 0 → o₁ ≡ emits o (Token.Expression ExprToken.Array ∷ Token.Count m ∷ []) → o₂ ≡ emits o₁ (join (operand_tokens (copies m (Expr.const l 0)))) → o₂ ≡ emits o (expr_tokens (Expr.op Head.array (copies m y)))
 wrote-plain y l m o o₁ o₂ k f g = rw k (wrote-array (Expr.const l 0) m o o₁ o₂ f g)
 
-pub wrote-same : (e f : Expr) (o o₁ : Out) → e ≡ f → o₁ ≡ emits o (expr_tokens f) → o₁ ≡ emits o (expr_tokens e)
+pub wrote-same : (e f : Expr) (o o₁ : Output) → e ≡ f → o₁ ≡ emits o (expr_tokens f) → o₁ ≡ emits o (expr_tokens e)
 wrote-same e f o o₁ i h = rw i h
-
--- copies of a default
-pub wrote_none : (e : Expr) (m : ℕ) (o : Out) → m ≡ 0 → o ≡ emits o (join (operand_tokens (copies m e)))
-unfolding operand_tokens copies
-wrote_none e m o j = rw j (sym (emits_none o))
-
-pub wrote_one : (e : Expr) (m : ℕ) (o o₁ : Out) → m ≡ 1 → o₁ ≡ emits o (expr_tokens e) → o₁ ≡ emits o (join (operand_tokens (copies m e)))
-unfolding operand_tokens copies
-wrote_one e m o o₁ j f = f ∙ rw j (ap (emits o) (sym (append-nil (expr_tokens e))))
-
-more : (a b : ℕ) → suc a + b ≡ suc (a + b)
-more a b = omega arith
-
-copies-add : (a b : ℕ) (e : Expr) → join (operand_tokens (copies a e)) ++ join (operand_tokens (copies b e)) ≡ join (operand_tokens (copies (a + b) e))
-unfolding operand_tokens copies
-copies-add zero b e = rw (zero-add b)
-copies-add (suc a) b e = append_assoc (expr_tokens e) (join (operand_tokens (copies a e))) (join (operand_tokens (copies b e))) ∙ ap (λ (l : List Token). expr_tokens e ++ l) (copies-add a b e) ∙ sym (ap (λ (k : ℕ). join (operand_tokens (copies k e))) (more a b))
-
-pub wrote-halves : (e : Expr) (m : ℕ) (o o₁ o₂ : Out) → o₁ ≡ emits o (join (operand_tokens (copies (m / 2) e))) → o₂ ≡ emits o₁ (join (operand_tokens (copies (m - m / 2) e))) → o₂ ≡ emits o (join (operand_tokens (copies m e)))
-wrote-halves e m o o₁ o₂ f g =
-    let n : m / 2 + (m - m / 2) ≡ m = omega arith in
-    then o o₁ o₂ _ _ _ f g (copies-add (m / 2) (m - m / 2) e ∙ ap (λ (k : ℕ). join (operand_tokens (copies k e))) n)
 
 -- a defined type
 pub named-default : (G : ℕ → Option Expr) (t : Ty) (e : Expr) (x : ℕ) → default_by G t ≡ some e → t ≡ Ty.named x → G x ≡ some e
 unfolding default_by
 named-default G t e x d j = rw j at d
 
-module _ (M : ℕ) (ts : List TagValue) (places : List ℕ) (n : ℕ) (types : List TypeDef) (t : Table M ts places n types) (x k fuel : ℕ) (first : k ≡ first_of types x) (e : Expr) (d : default_named types fuel x ≡ some e) where
-  pub not-unnamed : n ≤ k → ⊥
-  not-unnamed h = let i = unnamed types x fuel (omega (arith, t.count)) in let u : ◌≡◌ {A = ℕ} 0 1 = cc in omega arith
+module _ (M : ℕ) (ts : List TagValue) (places : List ℕ) (n : ℕ) (types : List TypeDef) (t : Table M ts places n types) (x fuel : ℕ) (e : Expr) (d : default_named types fuel x ≡ some e) where
+  pub not-unnamed : first_of types x ≡ length types → ⊥
+  not-unnamed h = let i = unnamed types x fuel (omega arith) in let u : ◌≡◌ {A = ℕ} 0 1 = cc in omega arith
 
   -- one definition further down, where a field or a target and 8 elements are enough
-  pub definition-default : k < n → (depth : ℕ) → Enough depth fuel 0 → (below q : ℕ) × Enough depth below 9 × (type_def M ts (get_or places k 0) ≡ got (def_at types k) q) × (default_of (default_named types below) (def_at types k) (def_at types k).body ≡ some e)
+  pub definition-default : (k : ℕ) → k ≡ first_of types x → k < length types → (depth : ℕ) → Enough depth fuel 0 → (below q : ℕ) × Enough depth below 9 × (type_def M ts (get_or places k 0) ≡ got (def_at types k) q) × (default_of (default_named types below) (def_at types k) (def_at types k).body ≡ some e)
   unfolding default_named
-  definition-default h depth l = go fuel d l
+  definition-default k first h depth l = go fuel d l
     where
       go : (m : ℕ) → default_named types m x ≡ some e → Enough depth m 0 → (below q : ℕ) × Enough depth below 9 × (type_def M ts (get_or places k 0) ≡ got (def_at types k) q) × (default_of (default_named types below) (def_at types k) (def_at types k).body ≡ some e)
       go zero i j = let u : ◌≡◌ {A = ℕ} 0 1 = cc in absurd (omega arith)
-      go (suc m) i j = let s = t.stands k h in (m, s.0, omega arith, s.1, sym (named_by types x m k first (omega (arith, t.count))) ∙ i)
+      go (suc m) i j = let s = t.stands k (omega (arith, t.count)) in (m, s.0, omega arith, s.1, sym (named_by types x m k first h) ∙ i)
 
 -- a definition's default, by its parts
 module _ (M : ℕ) (tags vs : List ℕ) (same_length : length vs ≡ length tags) (G : ℕ → Option Expr) (d : TypeDef) (q : ℕ) (D : Defined) (g : Described M (tokens tags vs) d q D) (e : Expr) (f : default_of G d d.body ≡ some e) where
-  pub wrote-variant : (o : Out) (y c p v : ℕ) (o₁ : Out) → D ≡ Defined.Enum y c p → v ≡ get_or vs p 0 → o₁ ≡ emits o (Token.Expression (ExprToken.Var v) ∷ []) → o₁ ≡ emits o (expr_tokens e)
+  pub wrote-variant : (o : Output) (y c p v : ℕ) (o₁ : Output) → D ≡ Defined.Enum y c p → v ≡ get_or vs p 0 → o₁ ≡ emits o (Token.Expression (ExprToken.Var v) ∷ []) → o₁ ≡ emits o (expr_tokens e)
   unfolding Described default_of expr_tokens
   wrote-variant o y c p v o₁ j i w =
       let h = rw j at g in
@@ -191,7 +181,7 @@ module _ (G : ℕ → Option Expr) where
   unfolding defaults_by
   no_fields fs es w d = let h : some Exprs.end ≡ some es = rw w at d in cc
 
-  pub wrote-no-field : (M : ℕ) (ts : List TagValue) (k p : ℕ) (fs : List Declared) (q : ℕ) (es : Exprs) (o : Out) → k ≡ 0 → times k (declaration M) ts p ≡ got fs q → defaults_by G fs ≡ some es → o ≡ emits o (field_tokens (map (λ f. f.name) fs) (operand_tokens es))
+  pub wrote-no-field : (M : ℕ) (ts : List TagValue) (k p : ℕ) (fs : List Declared) (q : ℕ) (es : Exprs) (o : Output) → k ≡ 0 → times k (declaration M) ts p ≡ got fs q → defaults_by G fs ≡ some es → o ≡ emits o (field_tokens (map (λ f. f.name) fs) (operand_tokens es))
   unfolding field_tokens operand_tokens
   wrote-no-field M ts k p fs q es o z g d =
       let n = times-nil (declaration M) ts k p fs q z g in
@@ -202,16 +192,45 @@ module _ (G : ℕ → Option Expr) where
   length-operands [] es d = rw (no_fields [] es refl d)
   length-operands (f ∷ fs) es d = let a = field-default (f ∷ fs) f fs es refl d in rw a.4 (ap suc (length-operands fs a.1 a.3))
 
-  pub wrote-record : (M : ℕ) (ts : List TagValue) (y c p : ℕ) (fs : List Declared) (q : ℕ) (es : Exprs) (e : Expr) (o o₁ o₂ : Out) → times c (declaration M) ts p ≡ got fs q → defaults_by G fs ≡ some es → e ≡ Expr.op (Head.struct y (map (λ k. k.name) fs)) es →
+  pub wrote-record : (M : ℕ) (ts : List TagValue) (y c p : ℕ) (fs : List Declared) (q : ℕ) (es : Exprs) (e : Expr) (o o₁ o₂ : Output) → times c (declaration M) ts p ≡ got fs q → defaults_by G fs ≡ some es → e ≡ Expr.op (Head.struct y (map (λ k. k.name) fs)) es →
       o₁ ≡ emits o (Token.Expression (ExprToken.Struct y) ∷ Token.Count c ∷ []) → o₂ ≡ emits o₁ (field_tokens (map (λ k. k.name) fs) (operand_tokens es)) → o₂ ≡ emits o (expr_tokens e)
   unfolding expr_tokens form_tokens
   wrote-record M ts y c p fs q es e o o₁ o₂ g d j f h =
       let n : length (operand_tokens es) ≡ c = length-operands fs es d ∙ times-length (declaration M) ts c p fs q g in
       then o o₁ o₂ _ _ _ f h (rw (j, n))
 
-pub wrote-field : (x id : ℕ) (a : Expr) (b es : Exprs) (ids names : List ℕ) (o o₁ o₂ o₃ : Out) → x ≡ id → es ≡ Exprs.and a b → names ≡ id ∷ ids → o₁ ≡ emits o (Token.Name x ∷ []) → o₂ ≡ emits o₁ (expr_tokens a) → o₃ ≡ emits o₂ (field_tokens ids (operand_tokens b)) →
+pub wrote-field : (x id : ℕ) (a : Expr) (b es : Exprs) (ids names : List ℕ) (o o₁ o₂ o₃ : Output) → x ≡ id → es ≡ Exprs.and a b → names ≡ id ∷ ids → o₁ ≡ emits o (Token.Name x ∷ []) → o₂ ≡ emits o₁ (expr_tokens a) → o₃ ≡ emits o₂ (field_tokens ids (operand_tokens b)) →
     o₃ ≡ emits o (field_tokens names (operand_tokens es))
 unfolding field_tokens operand_tokens
 wrote-field x id a b es ids names o o₁ o₂ o₃ i j k e f g =
     let h : o₂ ≡ emits o (Token.Name x ∷ expr_tokens a) = then o o₁ o₂ _ _ _ e f refl in
     then o o₂ o₃ _ _ _ h g (rw (k, j, i))
+
+-- of so many fields, those that are left, and what they write after what is written
+pub record FieldsLeft (G : ℕ → Option Expr) (M : ℕ) (ts : List TagValue) (k p q : ℕ) (all o : Output) : Type 0 where
+  pub rest : List Declared
+  pub values : Exprs
+  pub reads : times k (declaration M) ts p ≡ got rest q
+  pub by : defaults_by G rest ≡ some values
+  pub whole : all ≡ emits o (field_tokens (map (λ f. f.name) rest) (operand_tokens values))
+
+module _ (G : ℕ → Option Expr) (M : ℕ) (ts : List TagValue) (n : ℕ) where
+  pub fields-begin : (p : ℕ) (fs : List Declared) (q : ℕ) (es : Exprs) (o : Output) → times n (declaration M) ts p ≡ got fs q → defaults_by G fs ≡ some es →
+      FieldsLeft G M ts (n - 0) p q (emits o (field_tokens (map (λ f. f.name) fs) (operand_tokens es))) o
+  fields-begin p fs q es o g d = let e : n ≡ n - 0 = omega arith in record { rest = fs; values = es; reads = rw (← e) g; by = d; whole = refl }
+
+  module _ (i p q : ℕ) (all o : Output) (a : FieldsLeft G M ts (n - i) p q all o) where
+    pub fields-next : (first : ℕ) (f : FirstField M ts (n - i) p first a.rest q) (next : ℕ) → times (n - i - 1) (declaration M) ts next ≡ got f.rest q → (e : Expr) (es : Exprs) → defaults_by G f.rest ≡ some es → a.values ≡ Exprs.and e es →
+        (x : ℕ) (o₁ o₂ : Output) → x ≡ f.id → o₁ ≡ emits o (Token.Name x ∷ []) → o₂ ≡ emits o₁ (expr_tokens e) → FieldsLeft G M ts (n - (i + 1)) next q all o₂
+    fields-next first f next g e es d v x o₁ o₂ j k l =
+        let m : n - i - 1 ≡ n - (i + 1) = omega arith in
+        record {
+          rest = f.rest;
+          values = es;
+          reads = rw (← m) g;
+          by = d;
+          whole = a.whole ∙ sym (wrote-field x f.id e es a.values (map (λ y. y.name) f.rest) _ o o₁ o₂ _ j v (ap (map (λ (y : Declared). y.name)) f.whole) k l refl);
+        }
+
+    pub fields-end : n ≤ i → o ≡ all
+    fields-end h = let e : n - i ≡ 0 = omega arith in wrote-no-field G M ts (n - i) p a.rest q a.values o e a.reads a.by ∙ sym a.whole

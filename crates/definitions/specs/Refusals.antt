@@ -71,7 +71,8 @@ must false r = refused r
 abbrev pub lending : ℕ → ℕ → Answer (Unit {0})
 lending needed lent = must (leb needed lent) (Refusal.Lent needed)
 
--- what the caller's bytes are afterwards: "An accepted output fills its first bytes, the rest unchanged"; "A refusal .. writes no byte of output."
+-- what the caller's bytes are afterwards: "An accepted output fills its first bytes, the rest unchanged";
+-- "A refusal .. writes no byte of output."
 abbrev pub bytes_after : Answer (List ℕ) → List ℕ → List ℕ
 bytes_after (accepted out) lent = over out lent
 bytes_after (refused r) lent = lent

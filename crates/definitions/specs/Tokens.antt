@@ -1,5 +1,5 @@
 -- The tokens of a sheet: document 01, "Tags". The enums are those of lib.rt, which the code has too.
-use Rattle.std.specs.Prelude.{ℕ, ◌^◌, Bool, true, false, ◌&&◌, ltb, eqb}
+use Rattle.std.specs.Prelude.{ℕ, ◌^◌, Bool, true, false, ◌&&◌, ltb, eqb, Result, Ok, Err}
 use Rattle.std.proofs.Math.Option.{Option, none, some}
 use Rattle.std.proofs.Math.Dec.{leb}
 use Rattle.definitions.specs.declared.UnaryOp.{UnaryOp}
@@ -26,6 +26,11 @@ words = 2 ^ 32
 abbrev pub given : {A : Type 0} → Bool → A → Option A
 given true a = some a
 given false a = none
+
+-- what a conversion gives, where it gives something
+abbrev pub converted : {A E : Type 0} → Result A E → Option A
+converted (Ok a) = some a
+converted (Err e) = none
 
 -- "55 unary(0, 1)"
 unfoldable pub unary_of : ℕ → Option UnaryOp

@@ -2,6 +2,10 @@
 // Here are the types that definitions and code share. A number in brackets is a word of the sheet; "id" is a name's place.
 #![tactic(auto)]
 
+mod values;
+
+pub use values::UnknownValue;
+
 // Limits of document 01, and the sizes of the tables that follow from them.
 // "Limits: M 1,024"
 pub const MOST_NAMES: usize = 1024;
@@ -31,7 +35,7 @@ pub const ARRAY_LEVELS: u32 = 8;
 pub const EXPRESSION_LEVELS: u32 = 32;
 // "tokens go into working arrays of 8,192"
 pub const WORKING_TOKENS: usize = 8192;
-// A table of a clock for each name: seventeen words a clock (crate `flat`).
+// A table of a clock for each name: seventeen words a clock (crate `clock_tables`).
 pub const CLOCK_TABLE: usize = 17408;
 // A table of a finding for each token: four words and two clocks a finding (crate `findings`).
 pub const FINDING_TABLE: usize = 155648;
@@ -105,7 +109,7 @@ pub enum Literal {
 }
 
 // "41 kind(0 function, 1 operator, 2 imported)".
-#[derive(Clone, Copy)]
+#[derive(Clone, Copy, PartialEq, Eq)]
 pub enum NodeKind {
     Function,
     Operator,
@@ -167,15 +171,15 @@ pub enum Token {
     Expression(ExprToken),
 }
 
-// The test of a condition: its name is true, or is not.
-#[derive(Clone, Copy)]
+// The test of a condition: its name is true, or is not; "on before not".
+#[derive(Clone, Copy, PartialEq, Eq, PartialOrd, Ord)]
 pub enum Test {
     On,
     Not,
 }
 
 // "a condition (name, on or not)".
-#[derive(Clone, Copy)]
+#[derive(Clone, Copy, PartialEq, Eq)]
 pub struct Condition {
     pub name: u32,
     pub test: Test,

@@ -1,11 +1,15 @@
 -- What was read stands where it was read as the tokens that it is written as.
 -- Assumes nothing.
-use mathlib.Core.Path.{◌≡◌, sym, ◌∙◌, ap, ap₂, subst}
+use mathlib.Core.Path.{◌≡◌, refl, sym, ◌∙◌, ap, ap₂, subst}
 use mathlib.Core.List.{List, [], ◌∷◌, ◌++◌, map, append_assoc}
-use Prim.Native.Nat.{ℕ, suc, ◌+◌, ◌-◌, ◌≤◌, ◌<◌}
+use mathlib.Core.Bool.{Bool, true, false}
+use Prim.Native.Nat.{ℕ, suc, min, ◌+◌, ◌-◌, ◌≤◌, ◌<◌}
+use Rattle.std.proofs.Math.Nat.{min-eq_left}
 use native.Mathlib.Omega.{arith}
 use lib.ListN.{length, get_or, take, drop, length-append, length-drop}
 use lib.Seq.{take-append_seam}
+use lib.Dec.{ltb}
+use borrow.Author.Tests.{ltb-true, ltb-false}
 use Rattle.definitions.specs.declared.NodeKind.{NodeKind}
 use Rattle.definitions.specs.declared.Token.{Token}
 use Rattle.definitions.specs.Bytes.{tokens}
@@ -27,14 +31,15 @@ use Rattle.layout.specs.declared.NodeLayout.{NodeLayout}
 use Rattle.layout.specs.declared.SheetLayout.{SheetLayout}
 use Rattle.layout.specs.Spans.{Spans}
 use Rattle.layout.specs.Laid.{LaidNode, LaidSheet}
-use Rattle.emit.specs.Out.{Out, puts, emits}
+use Rattle.emit.specs.declared.output.Output.{Output}
+use Rattle.emit.specs.Out.{puts, emits}
 use Rattle.emit.proofs.Laws.{emits-append, emits-codes}
 use Rattle.emit.specs.Copies.{Copies, Words}
 
 -- ---- copying
 -- one after the other
-pub after : (o o₁ o₂ : Out) (a b : List Token) → o₁ ≡ emits o a → o₂ ≡ emits o₁ b → o₂ ≡ emits o (a ++ b)
-after o o₁ o₂ a b e f = f ∙ (ap (λ (x : Out). emits x b) e ∙ emits-append o a b)
+pub after : (o o₁ o₂ : Output) (a b : List Token) → o₁ ≡ emits o a → o₂ ≡ emits o₁ b → o₂ ≡ emits o (a ++ b)
+after o o₁ o₂ a b e f = f ∙ (ap (λ (x : Output). emits x b) e ∙ emits-append o a b)
 
 -- the values of a slice of words are words
 all_words : (ts vs : List ℕ) → ((i : ℕ) → get_or vs i 0 < 4294967296) → Words (tokens ts vs)
@@ -44,15 +49,19 @@ all_words ts vs h = tokens-wide ts vs (go vs h)
     go [] f = all_nil Word
     go (x ∷ l) f = all_cons Word x l (f 0) (go l (λ i. f (suc i)))
 
-module _ (tags vs : List ℕ) (fits : (i : ℕ) → get_or vs i 0 < 4294967296) (l : List Token) (p q : ℕ) (c : Words (tokens tags vs) → Copies (tokens tags vs) l p q) (o : Out) where
-  pub copy-none : q ≤ p → o ≡ emits o l
+module _ (tags vs : List ℕ) (fits : (i : ℕ) → get_or vs i 0 < 4294967296) (l : List Token) (p q : ℕ) (c : Words (tokens tags vs) → Copies (tokens tags vs) l p q) (o : Output) where
+  copy-none : q ≤ p → o ≡ emits o l
   unfolding puts
   copy-none h = let z : q - p ≡ 0 = omega arith in emits-codes o [] l (sym (ap (λ (k : ℕ). take k (drop p (tokens tags vs))) z) ∙ (c (all_words tags vs fits)).same)
 
-  pub copy-outside : length vs ≡ length tags → p < q → length tags < q → o ≡ emits o l
-  copy-outside e h k = absurd (omega (arith, tokens-length tags vs e, (c (all_words tags vs fits)).within h))
+  pub copy-outside : length vs ≡ length tags → length tags < q → o ≡ emits o l
+  copy-outside e k = go (ltb p q) refl
+    where
+      go : (b : Bool) → ltb p q ≡ b → o ≡ emits o l
+      go true h = absurd (omega (arith, ltb-true p q h, tokens-length tags vs e, (c (all_words tags vs fits)).within (ltb-true p q h)))
+      go false h = copy-none (ltb-false p q h)
 
-  pub copy-all : (o₁ : Out) → o₁ ≡ puts o (take (q - p) (drop p (tokens tags vs))) → o₁ ≡ emits o l
+  pub copy-all : (o₁ : Output) → o₁ ≡ puts o (take (q - p) (drop p (tokens tags vs))) → o₁ ≡ emits o l
   copy-all o₁ e = e ∙ emits-codes o _ l (c (all_words tags vs fits)).same
 
 -- ---- what was read stands there
@@ -104,37 +113,37 @@ module _ (M : ℕ) (ts : List TagValue) (w : Words ts) where
 
 -- ---- parts behind a count
 -- what a copy of a span writes
-abbrev Wrote : List TagValue → Span → Out → Out → Token → Type 0
+abbrev Wrote : List TagValue → Span → Output → Output → Token → Type 0
 Wrote ts s o o₁ head = (l : List Token) → (Words ts → Copies ts l s.at s.end) → o₁ ≡ emits o (head ∷ l)
 
 -- the count is the number of what was read
-pub counted : (ts : List TagValue) (l : List Token) (s : Span) (n : ℕ) (o o₁ : Out) → s.count ≡ n → (Words ts → Copies ts l s.at s.end) → Wrote ts s o o₁ (Token.Count s.count) → o₁ ≡ emits o (Token.Count n ∷ l)
+pub counted : (ts : List TagValue) (l : List Token) (s : Span) (n : ℕ) (o o₁ : Output) → s.count ≡ n → (Words ts → Copies ts l s.at s.end) → Wrote ts s o o₁ (Token.Count s.count) → o₁ ≡ emits o (Token.Count n ∷ l)
 counted ts l s n o o₁ e c f = f l c ∙ ap (λ (k : ℕ). emits o (Token.Count k ∷ l)) e
 
 -- the count with more that follow
-pub counted-more : (ts : List TagValue) (l : List Token) (s : Span) (n more r : ℕ) (o o₁ : Out) → s.count ≡ n → (s.count + more < 4294967296 → r ≡ s.count + more) → n + more < 4294967296
+pub counted-more : (ts : List TagValue) (l : List Token) (s : Span) (n more r : ℕ) (o o₁ : Output) → s.count ≡ n → r ≡ min (s.count + more) 4294967295 → n + more < 4294967296
     → (Words ts → Copies ts l s.at s.end) → Wrote ts s o o₁ (Token.Count r) → o₁ ≡ emits o (Token.Count (n + more) ∷ l)
-counted-more ts l s n more r o o₁ e g h c f = f l c ∙ ap (λ (k : ℕ). emits o (Token.Count k ∷ l)) (g (omega arith) ∙ ap (λ (k : ℕ). k + more) e)
+counted-more ts l s n more r o o₁ e g h c f = f l c ∙ ap (λ (k : ℕ). emits o (Token.Count k ∷ l)) (g ∙ min-eq_left (omega arith) ∙ ap (λ (k : ℕ). k + more) e)
 
 -- ---- a node
 module _ (M : ℕ) (ts : List TagValue) (n : Node) (q : ℕ) (l : NodeLayout) (h : LaidNode M ts n q l) where
-  pub declared-inputs : (o o₁ : Out) → Wrote ts l.inputs o o₁ (Token.Count l.inputs.count) → o₁ ≡ emits o (counted_tokens declared_tokens n.inputs)
+  pub declared-inputs : (o o₁ : Output) → Wrote ts l.inputs o o₁ (Token.Count l.inputs.count) → o₁ ≡ emits o (counted_tokens declared_tokens n.inputs)
   declared-inputs o o₁ f = counted ts _ l.inputs _ o o₁ h.inputs.many (λ w. declared-stand M ts w n.inputs l.inputs h.inputs) f
 
-  pub declared-outputs : (o o₁ : Out) → Wrote ts l.outputs o o₁ (Token.Count l.outputs.count) → o₁ ≡ emits o (counted_tokens declared_tokens n.outputs)
+  pub declared-outputs : (o o₁ : Output) → Wrote ts l.outputs o o₁ (Token.Count l.outputs.count) → o₁ ≡ emits o (counted_tokens declared_tokens n.outputs)
   declared-outputs o o₁ f = counted ts _ l.outputs _ o o₁ h.outputs.many (λ w. declared-stand M ts w n.outputs l.outputs h.outputs) f
 
-  pub declared-locals : (o o₁ : Out) → Wrote ts l.locals o o₁ (Token.Count l.locals.count) → o₁ ≡ emits o (counted_tokens declared_tokens n.locals)
+  pub declared-locals : (o o₁ : Output) → Wrote ts l.locals o o₁ (Token.Count l.locals.count) → o₁ ≡ emits o (counted_tokens declared_tokens n.locals)
   declared-locals o o₁ f = counted ts _ l.locals _ o o₁ h.locals.many (λ w. declared-stand M ts w n.locals l.locals h.locals) f
 
-  pub front : (o o₁ o₂ o₃ o₄ : Out) → o₁ ≡ emits o (Token.Node l.name ∷ []) → o₂ ≡ emits o₁ (Token.Kind l.kind ∷ [])
-      → Wrote ts l.inputs o₂ o₃ (Token.Count l.inputs.count) → Wrote ts l.outputs o₃ o₄ (Token.Count l.outputs.count)
-      → o₄ ≡ emits o (Token.Node n.name ∷ Token.Kind n.kind ∷ (counted_tokens declared_tokens n.inputs ++ counted_tokens declared_tokens n.outputs))
-  front o o₁ o₂ o₃ o₄ a b c d =
-      after o o₃ o₄ _ _ (after o o₂ o₃ _ _ (after o o₁ o₂ _ _ a b) (declared-inputs o₂ o₃ c)) (declared-outputs o₃ o₄ d)
+  pub front : (o o₁ o₂ o₃ : Output) → o₁ ≡ emits o (Token.Node l.name ∷ Token.Kind l.kind ∷ [])
+      → Wrote ts l.inputs o₁ o₂ (Token.Count l.inputs.count) → Wrote ts l.outputs o₂ o₃ (Token.Count l.outputs.count)
+      → o₃ ≡ emits o (Token.Node n.name ∷ Token.Kind n.kind ∷ (counted_tokens declared_tokens n.inputs ++ counted_tokens declared_tokens n.outputs))
+  front o o₁ o₂ o₃ a b c =
+      after o o₂ o₃ _ _ (after o o₁ o₂ _ _ a (declared-inputs o₁ o₂ b)) (declared-outputs o₂ o₃ c)
       ∙ ap₂ (λ (x : ℕ) (k : NodeKind). emits o (Token.Node x ∷ Token.Kind k ∷ (counted_tokens declared_tokens n.inputs ++ counted_tokens declared_tokens n.outputs))) h.named h.kinded
 
-  pub whole-node : (o o₁ o₂ o₃ o₄ : Out) → o₁ ≡ emits o (Token.Node n.name ∷ Token.Kind n.kind ∷ (counted_tokens declared_tokens n.inputs ++ counted_tokens declared_tokens n.outputs))
+  pub whole-node : (o o₁ o₂ o₃ o₄ : Output) → o₁ ≡ emits o (Token.Node n.name ∷ Token.Kind n.kind ∷ (counted_tokens declared_tokens n.inputs ++ counted_tokens declared_tokens n.outputs))
       → o₂ ≡ emits o₁ (counted_tokens declared_tokens n.locals) → o₃ ≡ emits o₂ (counted_tokens equation_tokens n.equations) → o₄ ≡ emits o₃ (counted_tokens probe_tokens n.probes) → o₄ ≡ emits o (node_tokens n)
   unfolding node_tokens
   whole-node o o₁ o₂ o₃ o₄ a b c d =
@@ -147,7 +156,7 @@ module _ (M : ℕ) (ts : List TagValue) (n : Node) (q : ℕ) (l : NodeLayout) (h
       ∙ ap (λ (x : List Token). emits o (Token.Node n.name ∷ Token.Kind n.kind ∷ x)) (append_assoc i u (v ++ (e ++ p)))
 
 -- ---- a sheet
-pub front-types : (M : ℕ) (ts : List TagValue) (s : Sheet) (l : SheetLayout) (o o₁ o₂ : Out) → LaidSheet M ts s l → Wrote ts l.types o o₁ (Token.Types l.types.count) → o₂ ≡ emits o₁ (Token.Nodes l.nodes.count ∷ [])
+pub front-types : (M : ℕ) (ts : List TagValue) (s : Sheet) (l : SheetLayout) (o o₁ o₂ : Output) → LaidSheet M ts s l → Wrote ts l.types o o₁ (Token.Types l.types.count) → o₂ ≡ emits o₁ (Token.Nodes l.nodes.count ∷ [])
     → o₂ ≡ emits o (Token.Types (length s.types) ∷ (join (map (λ d. definition_tokens d.name d.body) s.types) ++ (Token.Nodes (length s.nodes) ∷ [])))
 front-types M ts s l o o₁ o₂ h f e =
     after o o₁ o₂ _ _ (f _ (λ w. definitions-stand M ts w s.types l.types h.types)) e

@@ -2,13 +2,13 @@
 use Prim.Native.Nat.{ℕ, ◌+◌, ◌*◌, ◌≤◌, ◌<◌}
 use mathlib.Core.Path.{◌≡◌, refl, sym, ap, ap₂, ◌∙◌, subst}
 use mathlib.Core.List.{List, [], ◌∷◌, ◌++◌}
-use mathlib.Core.Bool.{Bool, true, false}
-use mathlib.Core.Option.{Option, none, some}
+use mathlib.Core.Option.{Option}
 use native.Mathlib.Omega.{arith}
-use lib.ListN.{length, take, drop, get_elem?, length-take}
+use lib.ListN.{length, take, drop, get_elem?}
+use Rattle.std.proofs.Common.{Result, Ok, Err}
 use Rattle.definitions.specs.declared.Refusal.{Refusal}
-use Rattle.definitions.specs.Lists.{choose, Letters}
-use Rattle.definitions.specs.InferClocks.{Fault, NodeFault}
+use Rattle.definitions.specs.Lists.{Letters}
+use Rattle.definitions.specs.InferClocks.{NodeFault}
 use Rattle.definitions.specs.Refusals.{accepted, refused, down, told}
 use Rattle.definitions.specs.Output.{letters_of, ClockedNode, node_faults}
 use Rattle.definitions.specs.Texts.{fault_line}
@@ -17,70 +17,52 @@ use Rattle.findings.specs.declared.Fault as struct
 use Rattle.findings.specs.Value.{fault_of}
 use Rattle.spelling.specs.Places.{letters_at}
 use Rattle.spelling.specs.Writing.{Put, farthest}
-use Rattle.spelling.proofs.Writing.{put-none, put_front, put-measure}
+use Rattle.spelling.specs.Written.{Wrote}
+use Rattle.spelling.specs.declared.text_writer.TextWriter.{TextWriter}
+use Rattle.spelling.proofs.Writing.{put_front, put-measure}
+use Rattle.spelling.proofs.Writers.{wrote_none, wrote_as}
 use Rattle.infer_clocks.proofs.Laws.{Ahead}
-use Rattle.lines.specs.declared.Lending.{Lending}
 use Rattle.lines.specs.Lending.{lent_text}
-use Rattle.lines.proofs.Joining.{put_as}
 use Rattle.lines.proofs.Listing.{put-numbered}
-use Rattle.lines.proofs.TextsLengths.{name-length, line-length, shallow-as}
+use Rattle.lines.proofs.TextsLengths.{name-length, line-length, shallow-of}
 use Rattle.lines.proofs.Giving.{gives-written, gives-lent}
 use Rattle.stateless.proofs.Nodes.{clockings-form, node-here, all-before}
 use Rattle.stateless.proofs.Answers.{input-refused}
-use Rattle.first_faults.specs.declared.FaultFound.{FaultFound}
-use Rattle.first_faults.specs.Faults.{found_of, fault_in}
+use Rattle.first_faults.specs.Faults.{fault_in}
 use Rattle.first_faults.proofs.Records.{nodes-end}
-use Rattle.listings.specs.declared.ListingAnswer.{ListingAnswer}
 use Rattle.listings.specs.Answers.{ListingGiven}
-use Rattle.listings.proofs.Given.{given-written, given-lent}
-use Rattle.fault_text.specs.declared.LinesPut.{LinesPut}
-use Rattle.fault_text.specs.Lines.{fault_lines_of, line_of, end_of, LinesStand}
+use Rattle.listings.proofs.Given.{given}
+use Rattle.fault_text.specs.Lines.{fault_lines_of, line_of, LinesStand}
 
--- ---- the line of a fault that was found
-line-found : (letters : ℕ → Letters) (i e : ℕ) (f : Fault) (b : Bool) → b ≡ true → fault_line letters i (record { equation = e; fault = f }) ≡ line_of letters i (choose b (some (record { equation = e; fault = f })) none)
-line-found letters i e f true h = refl
-line-found letters i e f false h = let z : ◌≡◌ {A = ℕ} 0 1 = cc in absurd (omega arith)
-
-line-missing : (letters : ℕ → Letters) (i e : ℕ) (f : Fault) (b : Bool) → b ≡ false → [] ≡ line_of letters i (choose b (some (record { equation = e; fault = f })) none)
-line-missing letters i e f true h = let z : ◌≡◌ {A = ℕ} 0 1 = cc in absurd (omega arith)
-line-missing letters i e f false h = refl
-
-module _ (letters : ℕ → Letters) (i : ℕ) (a : FaultFound) (at : ℕ) (s : List ℕ) where
-  pub put_one : (e next : ℕ) (after : List ℕ) → a.found ≡ true → e ≡ a.equation → Put (fault_line letters i (record { equation = e; fault = fault_of a.fault })) at s next after → Put (line_of letters i (found_of a)) at s next after
-  put_one e next after h g p = put_as (ap (λ (n : ℕ). fault_line letters i (record { equation = n; fault = fault_of a.fault })) g ∙ line-found letters i a.equation (fault_of a.fault) a.found h) p
-
-  pub put-no-line : a.found ≡ false → at ≤ farthest → Put (line_of letters i (found_of a)) at s at s
-  put-no-line h few = put_as (line-missing letters i a.equation (fault_of a.fault) a.found h) (put-none s (omega arith))
-
--- it is no longer than names let it be
-pub line-short : (starts letters : List ℕ) (i e : ℕ) (f : struct.Fault) (at next : ℕ) (s after : List ℕ) → length letters ≤ 16384
-    → Put (fault_line (letters_at starts letters) i (record { equation = e; fault = fault_of f })) at s next after → next ≤ at + 278998
-line-short starts letters i e f at next s after h p =
-    omega (arith, p.place, line-length (letters_at starts letters) (length letters) (name-length starts letters) i (record { equation = e; fault = fault_of f }) (shallow-as f f.kind))
+-- ---- the line of a fault that was found is no longer than names let it be
+pub line-short : (starts letters : List ℕ) (i e : ℕ) (f : struct.Fault) {w w₁ : TextWriter} → length letters ≤ 16384
+    → Wrote (fault_line (letters_at starts letters) i (record { equation = e; fault = fault_of f })) w w₁ → w₁.at ≤ w.at + 278998
+line-short starts letters i e f h u =
+    omega (arith, u.next, line-length (letters_at starts letters) (length letters) (name-length starts letters) i (record { equation = e; fault = fault_of f }) (shallow-of f))
 
 -- ---- node after node
 line_first : (letters : ℕ → Letters) (i : ℕ) (fs : List NodeFault) → line_of letters i (get_elem? fs 0) ≡ first_line letters i fs
 line_first letters i [] = refl
 line_first letters i (f ∷ fs) = refl
 
-pub lines_start : (r : Input) (ns : List ClockedNode) (s : List ℕ) → Put (first_lines r (take 0 ns)) 0 s 0 s
+pub lines_start : (r : Input) (ns : List ClockedNode) (w : TextWriter) → Wrote (first_lines r (take 0 ns)) w w
 unfolding first_lines
-lines_start r ns s = put-none s refl
+lines_start r ns w = wrote_none w
 
-pub lines_step : (r : Input) (ns : List ClockedNode) → clockings 0 r.sheet.nodes ≡ accepted ns → (letters : ℕ → Letters) → letters ≡ letters_of r.names → (k at next : ℕ) (s now after : List ℕ) (o : Option NodeFault)
-    → length s ≤ farthest → k < length r.sheet.nodes → o ≡ fault_in r (get_elem? ns k) 0 → Put (first_lines r (take k ns)) 0 s at now → Put (line_of letters k o) at now next after → Put (first_lines r (take (k + 1) ns)) 0 s next after
+pub lines_step : (r : Input) (ns : List ClockedNode) → clockings 0 r.sheet.nodes ≡ accepted ns → (letters : ℕ → Letters) → letters ≡ letters_of r.names → (k : ℕ) (o : Option NodeFault) {w w₁ w₂ : TextWriter}
+    → k < length r.sheet.nodes → o ≡ fault_in r (get_elem? ns k) 0 → Wrote (first_lines r (take k ns)) w w₁ → Wrote (line_of letters k o) w₁ w₂ → Wrote (first_lines r (take (k + 1) ns)) w w₂
 unfolding first_lines
-lines_step r ns clocks letters named k at next s now after o short few told so_far line =
+lines_step r ns clocks letters named k o {w} {w₁} {w₂} few told so_far line =
     let u = node-here (clockings-form 0 r.sheet.nodes ns clocks) k few in
     let faults = node_faults r.names r.sheet u.clocked in
     let e : line_of letters k o ≡ first_line (letters_of r.names) k faults =
     ap₂ (λ (f : ℕ → Letters) (x : Option NodeFault). line_of f k x) named (told ∙ ap (λ (x : Option ClockedNode). fault_in r x 0) u.here) ∙ line_first (letters_of r.names) k faults in
-    subst (λ (x : List ClockedNode). Put (first_lines r x) 0 s next after) (sym u.front)
-    (put-numbered (λ i n. first_line (letters_of r.names) i (node_faults r.names r.sheet n)) (take k ns) k u.clocked (sym u.before) short so_far (put_as e line))
+    subst (λ (x : List ClockedNode). Wrote (first_lines r x) w w₂) (sym u.front)
+    (put-numbered (λ i n. first_line (letters_of r.names) i (node_faults r.names r.sheet n)) (take k ns) k u.clocked (sym u.before) so_far (wrote_as e line))
 
 -- all nodes: the text can be measured
 pub lines_end : (r : Input) (k at : ℕ) (lent now : List ℕ) → Ahead k (drop k r.sheet.nodes) (clockings 0 r.sheet.nodes) → length r.sheet.nodes ≤ k → k ≤ 16 → at ≤ 278998 * k
-    → ((ns : List ClockedNode) → clockings 0 r.sheet.nodes ≡ accepted ns → Put (first_lines r (take k ns)) 0 lent at now) → LinesStand r lent now (LinesPut.Next at)
+    → ((ns : List ClockedNode) → clockings 0 r.sheet.nodes ≡ accepted ns → Put (first_lines r (take k ns)) 0 lent at now) → LinesStand r lent now (Ok at)
 unfolding LinesStand
 lines_end r k at lent now ahead past few low put =
     let n = nodes-end r k ahead past in
@@ -88,58 +70,61 @@ lines_end r k at lent now ahead past few low put =
     let p : Put (first_lines r n.0) 0 lent at now = rw e at (put n.0 n.1) in
     (n.0, n.1, p, omega (arith, p.place, low, few))
 
-pub lines-deep : (r : Input) (k : ℕ) (lent now : List ℕ) → clockings 0 r.sheet.nodes ≡ refused (Refusal.Deep k) → LinesStand r lent now (LinesPut.Deep k)
+pub lines-deep : (r : Input) (k : ℕ) (lent now : List ℕ) → clockings 0 r.sheet.nodes ≡ refused (Refusal.Deep k) → LinesStand r lent now (Err (Refusal.Deep k))
 unfolding LinesStand
 lines-deep r k lent now h = h
 
--- ---- measured, and then put
-pub part_low : (m : LinesPut) (n : ℕ) (lent : List ℕ) → m ≡ LinesPut.Next n → end_of m ≤ farthest → length (take n lent) ≤ farthest
-part_low m n lent e h = omega (arith, h, ap end_of e, length-take n lent)
+-- the bytes by another name, as those behind a reference when what held it ends
+pub lines-held : (r : Input) (lent now held : List ℕ) (a : Result ℕ Refusal) → held ≡ now → LinesStand r lent now a → LinesStand r lent held a
+lines-held r lent now held a e h = rw e h
 
-module _ (r : Input) (none none' lent : List ℕ) (m : LinesPut) (h : LinesStand r none none' m) where
+-- ---- measured, and then put
+module _ (r : Input) (none none' lent : List ℕ) (m : Result ℕ Refusal) (h : LinesStand r none none' m) where
   -- 9
-  pub given-deep : (k : ℕ) → m ≡ LinesPut.Deep k → ListingGiven (fault_lines_of r (length lent)) lent lent (ListingAnswer.Refused (Refusal.Deep k))
+  pub given-deep : (x : Refusal) → m ≡ Err x → ListingGiven (fault_lines_of r (length lent)) lent lent (Err x)
   unfolding LinesStand
   given-deep k e =
-      let x : clockings 0 r.sheet.nodes ≡ refused (Refusal.Deep k) = (let y : LinesStand r none none' (LinesPut.Deep k) = rw e at h in y) in
+      let x : clockings 0 r.sheet.nodes ≡ refused k = (let y : LinesStand r none none' (Err k) = rw e at h in y) in
       rw x (record { answer = refl; bytes = refl })
 
-  module _ (n : ℕ) (e : m ≡ LinesPut.Next n) where
+  module _ (n : ℕ) (e : m ≡ Ok n) where
     measured : (ns : List ClockedNode) × (clockings 0 r.sheet.nodes ≡ accepted ns) × Put (first_lines r ns) 0 none n none' × (length (first_lines r ns) ≤ farthest)
     unfolding LinesStand
-    measured = let y : LinesStand r none none' (LinesPut.Next n) = rw e at h in y
+    measured = let y : LinesStand r none none' (Ok n) = rw e at h in y
 
-    as-lines : (after : List ℕ) (a : ListingAnswer) → ListingGiven (lent_text (first_lines r measured.0) (length lent)) lent after a → ListingGiven (fault_lines_of r (length lent)) lent after a
+    as-lines : (after : List ℕ) (a : Result ℕ Refusal) → ListingGiven (lent_text (first_lines r measured.0) (length lent)) lent after a → ListingGiven (fault_lines_of r (length lent)) lent after a
     as-lines after a g = rw measured.1 g
 
     -- 12
-    pub given-few : length lent < n → ListingGiven (fault_lines_of r (length lent)) lent lent (ListingAnswer.Refused (Refusal.Lent n))
+    pub given-few : length lent < n → ListingGiven (fault_lines_of r (length lent)) lent lent (Err (Refusal.Lent n))
     given-few few =
         let m = measured in
-        as-lines lent (ListingAnswer.Refused (Refusal.Lent n)) (given-lent (first_lines r m.0) lent lent n (Lending.Lent n) refl (gives-lent (first_lines r m.0) lent n m.3 m.2 few))
+        as-lines lent (Err (Refusal.Lent n)) (given (first_lines r m.0) lent lent (Err (Refusal.Lent n)) (gives-lent (first_lines r m.0) lent n m.3 m.2 few))
 
     -- put aside, where they have room
-    pub given-aside : n ≤ length none → length none ≤ farthest → (after : List ℕ) (a : ListingAnswer) → ListingGiven (lent_text (take n none') (length lent)) lent after a → ListingGiven (fault_lines_of r (length lent)) lent after a
+    pub given-aside : n ≤ length none → length none ≤ farthest → (after : List ℕ) (a : Result ℕ Refusal) → ListingGiven (lent_text (take n none') (length lent)) lent after a → ListingGiven (fault_lines_of r (length lent)) lent after a
     given-aside room short after a g =
         let m = measured in
         let e : take n none' ≡ first_lines r m.0 = put_front (omega (arith, put-measure m.3 m.2)) short m.2 in
         as-lines after a (subst (λ (t : List ℕ). ListingGiven (lent_text t (length lent)) lent after a) e g)
 
     -- put again, over as many bytes
-    pub given-lines : (again : LinesPut) (part : List ℕ) → n ≤ length lent → LinesStand r (take n lent) part again → ListingGiven (fault_lines_of r (length lent)) lent (part ++ drop n lent) (ListingAnswer.Written n)
+    pub given-lines : (again : Result ℕ Refusal) (part : List ℕ) → n ≤ length lent → LinesStand r (take n lent) part again → ListingGiven (fault_lines_of r (length lent)) lent (part ++ drop n lent) again
     unfolding LinesStand
-    given-lines (LinesPut.Deep k) part enough s =
-        let x : accepted measured.0 ≡ refused (Refusal.Deep k) = sym measured.1 ∙ s in
+    given-lines (Err x) part enough s =
+        let y : accepted measured.0 ≡ refused x = sym measured.1 ∙ s in
         let z : ◌≡◌ {A = ℕ} 0 1 = cc in absurd (omega arith)
-    given-lines (LinesPut.Next q) part enough s =
+    given-lines (Ok q) part enough s =
         let m = measured in
         let x : accepted s.0 ≡ accepted m.0 = sym s.1 ∙ m.1 in
         let y : s.0 ≡ m.0 = cc in
         let p : Put (first_lines r m.0) 0 (take n lent) q part = rw y at s.2 in
-        as-lines (part ++ drop n lent) (ListingAnswer.Written n) (given-written (first_lines r m.0) lent (part ++ drop n lent) n (Lending.Written n) refl (gives-written (first_lines r m.0) lent n m.3 m.2 enough p))
+        let same : q ≡ n = put-measure m.3 p ∙ sym (put-measure m.3 m.2) in
+        let g = as-lines (part ++ drop n lent) (Ok n) (given (first_lines r m.0) lent (part ++ drop n lent) (Ok n) (gives-written (first_lines r m.0) lent n m.3 m.2 enough p)) in
+        rw same g
 
 -- ---- refusals 1 to 7, and a sheet that was read
-pub lines-down : (b : List ℕ) (lent : List ℕ) (x : Refusal) → told (input b) ≡ down x → ListingGiven (fault_lines_answer b (length lent)) lent lent (ListingAnswer.Refused x)
+pub lines-down : (b : List ℕ) (lent : List ℕ) (x : Refusal) → told (input b) ≡ down x → ListingGiven (fault_lines_answer b (length lent)) lent lent (Err x)
 unfolding fault_lines_answer
 lines-down b lent x h = rw (input-refused b x h) (record { answer = refl; bytes = refl })
 

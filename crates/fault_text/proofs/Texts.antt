@@ -1,11 +1,12 @@
 -- The text of a fault, refusal by refusal. Assumes nothing.
 use Prim.Native.Nat.{ℕ, zero, suc, ◌+◌, ◌-◌, ◌<◌}
-use mathlib.Core.Path.{◌≡◌, refl, sym, ap, ◌∙◌}
+use mathlib.Core.Path.{◌≡◌, refl, sym, ap, ◌∙◌, subst}
 use mathlib.Core.List.{List, [], ◌∷◌}
 use mathlib.Core.Bool.{Bool, true, false}
-use mathlib.Core.Option.{Option}
+use mathlib.Core.Option.{Option, none}
 use native.Mathlib.Omega.{arith}
 use lib.ListN.{length, get_elem?}
+use Rattle.std.proofs.Common.{Result, Ok, Err}
 use Rattle.definitions.specs.declared.Refusal.{Refusal}
 use Rattle.definitions.specs.Lists.{Letters}
 use Rattle.definitions.specs.Tokens.{TagValue}
@@ -17,26 +18,29 @@ use Rattle.definitions.specs.Refusals.{Answer, accepted, refused, down, told, �
 use Rattle.definitions.specs.Output.{letters_of, ClockedNode, node_faults}
 use Rattle.definitions.specs.Texts.{fault_text}
 use Rattle.definitions.specs.Answer.{Input, input, clockings, item_at, node_at, text_answer}
-use Rattle.findings.specs.Value.{fault_of}
-use Rattle.infer_clocks.specs.declared.Deepest.{Deepest}
+use Rattle.grammar.specs.declared.source.Source.{Source}
+use Rattle.findings.specs.Value.{fault_of, found_of}
 use Rattle.infer_clocks.specs.Clocked.{is_deep, Deeply}
 use Rattle.stateless.proofs.Answers.{text-refused}
 use Rattle.lines.specs.Lending.{lent_text, Gives}
-use Rattle.lines.specs.declared.Lending.{Lending}
-use Rattle.query.specs.Standing.{Roomy, first_from}
+use Rattle.query.specs.Standing.{first_from}
 use Rattle.query.proofs.Nodes.{asked-there, first-deep, first-behind, first-there}
-use Rattle.first_faults.specs.declared.FaultFound.{FaultFound}
-use Rattle.first_faults.specs.Faults.{found_of, RoomToPlan}
-use Rattle.listings.specs.declared.ListingAnswer.{ListingAnswer}
+use Rattle.findings.specs.declared.Found as value
+use Rattle.std.specs.Prelude as rust
+use Rattle.std.specs.Prelude.{None, Some}
+use Rattle.first_faults.specs.declared.NodeFound.{NodeFound}
+use Rattle.workspace.specs.declared.Working.{Working}
+use Rattle.workspace.specs.Room.{RoomToPlan}
+use Rattle.first_faults.specs.Faults.{deep_found}
 use Rattle.listings.specs.Answers.{ListingGiven}
-use Rattle.listings.proofs.Given.{given-written, given-lent}
+use Rattle.listings.proofs.Given.{given}
 use Rattle.fault_text.specs.Texts.{text_in, text_from, text_of}
 
-given-refused : (v : Answer Letters) (lent : List ℕ) (x : Refusal) → v ≡ refused x → ListingGiven v lent lent (ListingAnswer.Refused x)
+given-refused : (v : Answer Letters) (lent : List ℕ) (x : Refusal) → v ≡ refused x → ListingGiven v lent lent (Err x)
 given-refused v lent x e = rw e (record { answer = refl; bytes = refl })
 
 -- refusals 1 to 7
-pub text-down : (b : List ℕ) (k j : ℕ) (lent : List ℕ) (x : Refusal) → told (input b) ≡ down x → ListingGiven (text_answer b k j (length lent)) lent lent (ListingAnswer.Refused x)
+pub text-down : (b : List ℕ) (k j : ℕ) (lent : List ℕ) (x : Refusal) → told (input b) ≡ down x → ListingGiven (text_answer b k j (length lent)) lent lent (Err x)
 text-down b k j lent x h = given-refused (text_answer b k j (length lent)) lent x (text-refused b k j (length lent) x h)
 
 -- a sheet that was read
@@ -53,19 +57,19 @@ text-item names (f ∷ l) (suc j) lent = text-item names l j lent
 -- ---- the text of fault j of a node that was asked for
 module _ (r : Input) (v : Answer ClockedNode) (j : ℕ) (lent : List ℕ) where
   -- 8 or 9
-  pub text-turned : (x : Refusal) → v ≡ refused x → ListingGiven (text_from r v j (length lent)) lent lent (ListingAnswer.Refused x)
+  pub text-turned : (x : Refusal) → v ≡ refused x → ListingGiven (text_from r v j (length lent)) lent lent (Err x)
   text-turned x e = given-refused (text_from r v j (length lent)) lent x (rw e)
 
-  text-known : (n : ClockedNode) (o : FaultFound) → v ≡ accepted n → found_of o ≡ get_elem? (node_faults r.names r.sheet n) j
-      → (after : List ℕ) (y : ListingAnswer) → ListingGiven (text_in r.names (found_of o) (length lent)) lent after y → ListingGiven (text_from r v j (length lent)) lent after y
+  text-known : (n : ClockedNode) (o : rust.Option value.Found) → v ≡ accepted n → found_of o ≡ get_elem? (node_faults r.names r.sheet n) j
+      → (after : List ℕ) (y : Result ℕ Refusal) → ListingGiven (text_in r.names (found_of o) (length lent)) lent after y → ListingGiven (text_from r v j (length lent)) lent after y
   text-known n o e f after y g =
       let s : text_from r v j (length lent) ≡ text_in r.names (found_of o) (length lent) = rw e (text-item r.names (node_faults r.names r.sheet n) j (length lent) ∙ ap (λ (u : Option NodeFault). text_in r.names u (length lent)) (sym f)) in
       rw s g
 
 -- of node k among the nodes of a sheet, which stands there as clocks before it are formed
 pub text-among : (M : ℕ) (ts : List TagValue) (r : Input) (k count before at q : ℕ) → k < count → before ≡ k → times count (node M) ts at ≡ got r.sheet.nodes q
-    → (d : Deepest) → ((ns : List Node) (p : ℕ) → times before (node M) ts at ≡ got ns p → Deeply p d (clockings 0 ns)) → (p : ℕ) → d ≡ Deepest.Nowhere p
-    → (j : ℕ) (lent after : List ℕ) (y : ListingAnswer)
+    → (d : Result ℕ ℕ) → ((ns : List Node) (p : ℕ) → times before (node M) ts at ≡ got ns p → Deeply p d (clockings 0 ns)) → (p : ℕ) → d ≡ Ok p
+    → (j : ℕ) (lent after : List ℕ) (y : Result ℕ Refusal)
     → ((n : Node) (m : ℕ) (ns : List Node) → node M ts p ≡ got n m → times (count - before - 1) (node M) ts m ≡ got ns q → ListingGiven (text_from r (first_from k (n ∷ ns)) j (length lent)) lent after y)
     → ListingGiven (text_of r k j (length lent)) lent after y
 text-among M ts r k count before at q few e g d D p f j lent after y h =
@@ -78,14 +82,14 @@ text-among M ts r k count before at q few e g d D p f j lent after y h =
 -- of node k, which is n, before other nodes
 module _ (r : Input) (k j : ℕ) (lent : List ℕ) (n : Node) (ns : List Node) (b : Bool) (e : b ≡ is_deep (clocking n)) where
   -- 9 at it
-  pub text-deep : b ≡ true → ListingGiven (text_from r (first_from k (n ∷ ns)) j (length lent)) lent lent (ListingAnswer.Refused (Refusal.Deep k))
+  pub text-deep : b ≡ true → ListingGiven (text_from r (first_from k (n ∷ ns)) j (length lent)) lent lent (Err (Refusal.Deep k))
   text-deep f = text-turned r (first_from k (n ∷ ns)) j lent (Refusal.Deep k) (go (clocking n) refl (sym e ∙ f))
     where
       go : (v : Formed Clocking) → clocking n ≡ v → is_deep v ≡ true → first_from k (n ∷ ns) ≡ refused (Refusal.Deep k)
       go deep h t = first-deep k n ns h
       go (formed c) h t = let z : ◌≡◌ {A = ℕ} 0 1 = cc in absurd (omega arith)
 
-  module _ (f : b ≡ false) (q : ℕ) (d : Deepest) (D : Deeply q d (clockings 0 ns)) where
+  module _ (f : b ≡ false) (q : ℕ) (d : Result ℕ ℕ) (D : Deeply q d (clockings 0 ns)) where
     this : (c : Clocking) × (clocking n ≡ formed c)
     this = go (clocking n) refl (sym e ∙ f)
       where
@@ -94,38 +98,36 @@ module _ (r : Input) (k j : ℕ) (lent : List ℕ) (n : Node) (ns : List Node) (
         go (formed c) h t = (c, h)
 
     -- 9 behind it
-    pub text-behind : (i w : ℕ) → d ≡ Deepest.At i → w ≡ i → ListingGiven (text_from r (first_from k (n ∷ ns)) j (length lent)) lent lent (ListingAnswer.Refused (Refusal.Deep (k + 1 + w)))
+    pub text-behind : (i w : ℕ) → d ≡ Err i → w ≡ i → ListingGiven (text_from r (first_from k (n ∷ ns)) j (length lent)) lent lent (Err (Refusal.Deep (k + 1 + w)))
     unfolding Deeply
     text-behind i w g u =
-        let x : Deeply q (Deepest.At i) (clockings 0 ns) = rw g at D in
+        let x : Deeply q (Err i) (clockings 0 ns) = rw g at D in
         text-turned r (first_from k (n ∷ ns)) j lent (Refusal.Deep (k + 1 + w)) (first-behind k n ns this.0 this.1 i x ∙ ap (λ (z : ℕ). refused (Refusal.Deep (k + 1 + z))) (sym u))
 
-    pub text-there : (p : ℕ) → d ≡ Deepest.Nowhere p → (o : FaultFound) → ((c : Clocking) → clocking n ≡ formed c → found_of o ≡ get_elem? (node_faults r.names r.sheet (record { node = n; clocking = c })) j)
-        → (after : List ℕ) (y : ListingAnswer) → ListingGiven (text_in r.names (found_of o) (length lent)) lent after y → ListingGiven (text_from r (first_from k (n ∷ ns)) j (length lent)) lent after y
+    pub text-there : (p : ℕ) → d ≡ Ok p → (o : rust.Option value.Found) → ((c : Clocking) → clocking n ≡ formed c → found_of o ≡ get_elem? (node_faults r.names r.sheet (record { node = n; clocking = c })) j)
+        → (after : List ℕ) (y : Result ℕ Refusal) → ListingGiven (text_in r.names (found_of o) (length lent)) lent after y → ListingGiven (text_from r (first_from k (n ∷ ns)) j (length lent)) lent after y
     unfolding Deeply
     text-there p g o F after y h =
-        let x : Deeply q (Deepest.Nowhere p) (clockings 0 ns) = rw g at D in
+        let x : Deeply q (Ok p) (clockings 0 ns) = rw g at D in
         text-known r (first_from k (n ∷ ns)) j lent (record { node = n; clocking = this.0 }) o (first-there k n ns this.0 this.1 x.1 x.2) (F this.0 this.1) after y h
 
 -- ---- the text of a fault that was found
-module _ (names : List Letters) (letters : ℕ → Letters) (e : letters ≡ letters_of names) (a : FaultFound) (lent after : List ℕ) where
+module _ (names : List Letters) (letters : ℕ → Letters) (e : letters ≡ letters_of names) (lent after : List ℕ) where
   -- 8, no such fault
-  pub text-none : a.found ≡ false → ListingGiven (text_in names (found_of a) (length lent)) lent lent (ListingAnswer.Refused Refusal.Missing)
-  text-none f = given-refused (text_in names (found_of a) (length lent)) lent Refusal.Missing (rw f)
+  pub text-none : ListingGiven (text_in names (found_of None) (length lent)) lent lent (Err Refusal.Missing)
+  text-none = given-refused (text_in names none (length lent)) lent Refusal.Missing refl
 
-  module _ (f : a.found ≡ true) (r : Lending) (g : Gives (fault_text letters (fault_of a.fault)) lent r after) where
-    said : text_in names (found_of a) (length lent) ≡ lent_text (fault_text letters (fault_of a.fault)) (length lent)
-    said = rw (f, e)
+  pub text-given : (f : value.Found) (r : Result ℕ Refusal) → Gives (fault_text letters (fault_of f.fault)) lent r after → ListingGiven (text_in names (found_of (Some f)) (length lent)) lent after r
+  text-given f r g =
+      let said : text_in names (found_of (Some f)) (length lent) ≡ lent_text (fault_text letters (fault_of f.fault)) (length lent) = rw e in
+      rw said (given (fault_text letters (fault_of f.fault)) lent after r g)
 
-    pub text-written : (n : ℕ) → r ≡ Lending.Written n → ListingGiven (text_in names (found_of a) (length lent)) lent after (ListingAnswer.Written n)
-    text-written n h = rw said (given-written (fault_text letters (fault_of a.fault)) lent after n r h g)
+-- no clock is too deep
+pub not-deep : (a : NodeFound) → (a ≡ NodeFound.Deep → ⊥) → deep_found a ≡ false
+not-deep NodeFound.Deep u = absurd (u refl)
+not-deep (NodeFound.Faulty x) u = refl
+not-deep (NodeFound.Clean s) u = refl
 
-    pub text-lent : (n : ℕ) → r ≡ Lending.Lent n → ListingGiven (text_in names (found_of a) (length lent)) lent after (ListingAnswer.Refused (Refusal.Lent n))
-    text-lent n h = rw said (given-lent (fault_text letters (fault_of a.fault)) lent after n r h g)
-
--- ---- room to plan is room to clock
-pub plan-clocks : {M many : ℕ} {env table sites types plan : List ℕ} → RoomToPlan M many env table sites types plan → Roomy M many env table sites
-plan-clocks r = record { few = r.few; clocks = r.clocks; found = r.found; sited = r.sited }
-
-pub clocks-kept : {M many : ℕ} {e₀ f₀ s₀ e f s types plan : List ℕ} → length e ≡ length e₀ → length f ≡ length f₀ → length s ≡ length s₀ → RoomToPlan M many e₀ f₀ s₀ types plan → Roomy M many e f s
-clocks-kept a b c r = record { few = r.few; clocks = omega (arith, r.clocks, a); found = omega (arith, r.found, b); sited = omega (arith, r.sited, c) }
+-- ---- room to plan, by the source that the index has
+pub room-of : {s s' : Source} {w : Working} → s' ≡ s → RoomToPlan s.names (length s.tags.now) w → RoomToPlan s'.names (length s'.tags.now) w
+room-of {w} e r = subst (λ (s : Source). RoomToPlan s.names (length s.tags.now) w) (sym e) r

@@ -1,5 +1,5 @@
 -- The lines of a sheet's first faults, one behind another.
-use Rattle.std.specs.Prelude.{ℕ, ◌≤◌, ◌≡◌, List, [], length}
+use Rattle.std.specs.Prelude.{ℕ, ◌≤◌, ◌≡◌, List, [], length, Result, Ok, Err}
 use Rattle.std.proofs.Math.Option.{Option, none, some}
 use Rattle.definitions.specs.declared.Refusal.{Refusal}
 use Rattle.definitions.specs.Lists.{Letters}
@@ -10,7 +10,6 @@ use Rattle.definitions.specs.Texts.{fault_line}
 use Rattle.definitions.specs.Answer.{Input, clockings, first_lines}
 use Rattle.spelling.specs.Writing.{Put, farthest}
 use Rattle.lines.specs.Lending.{lent_text}
-use Rattle.fault_text.specs.declared.LinesPut.{LinesPut}
 
 -- the lines of a sheet that was read: `fault_lines_answer` behind refusals 1 to 7
 abbrev pub fault_lines_of : Input → ℕ → Answer Letters
@@ -22,11 +21,11 @@ line_of letters i none = []
 line_of letters i (some f) = fault_line letters i f
 
 -- where lines end that were put
-abbrev pub end_of : LinesPut → ℕ
-end_of (LinesPut.Deep k) = 0
-end_of (LinesPut.Next n) = n
+abbrev pub end_of : Result ℕ Refusal → ℕ
+end_of (Err e) = 0
+end_of (Ok n) = n
 
--- the first node in which too deep a clock is formed; or the lines were put at the front, and where they end
-unfoldable pub LinesStand : Input → List ℕ → List ℕ → LinesPut → Type 0
-LinesStand r lent now (LinesPut.Deep k) = clockings 0 r.sheet.nodes ≡ refused (Refusal.Deep k)
-LinesStand r lent now (LinesPut.Next n) = (ns : List ClockedNode) × (clockings 0 r.sheet.nodes ≡ accepted ns) × Put (first_lines r ns) 0 lent n now × (length (first_lines r ns) ≤ farthest)
+-- refused, as forming the clocks is: at the first node in which one is too deep; or the lines were put at the front, and where they end
+unfoldable pub LinesStand : Input → List ℕ → List ℕ → Result ℕ Refusal → Type 0
+LinesStand r lent now (Err e) = clockings 0 r.sheet.nodes ≡ refused e
+LinesStand r lent now (Ok n) = (ns : List ClockedNode) × (clockings 0 r.sheet.nodes ≡ accepted ns) × Put (first_lines r ns) 0 lent n now × (length (first_lines r ns) ≤ farthest)

@@ -1,31 +1,35 @@
 // The text of a fault, and the lines of all nodes' first faults, of a sheet that stands in the working tables: `given` has the lengths of
-// the sheet's names and `letters` their letters, `starts` where each name's letters start, `names` is how many there are; `tags` and
-// `values` are the sheet's tokens, as long as each other. The working tables are those of crate `first_faults`.
+// the sheet's names and `spelling` their letters, `source` its tokens.
 #![tactic(auto)]
 
+ghost use Rattle.grammar.specs.Read.{tokens_of};
 ghost use Rattle.std.specs.Prelude.{◌≡◌, List, ◌∷◌, ℕ, ◌≤◌, ◌+◌, ◌<◌, length};
 ghost use Rattle.definitions.specs.Lists.{sum, Letters};
-ghost use Rattle.definitions.specs.Bytes.{cut, tokens};
+ghost use Rattle.definitions.specs.Bytes.{cut};
 ghost use Rattle.definitions.specs.Tree.{Node};
 ghost use Rattle.definitions.specs.Reading.{got, times};
 ghost use Rattle.definitions.specs.Output.{letters_of};
 ghost use Rattle.definitions.specs.Answer.{Input};
-ghost use Rattle.spelling.specs.Places.{letters_at};
+ghost use Rattle.spelling.specs.Places.{letters_in};
 ghost use Rattle.query.specs.Standing.{Standing, first_from};
-ghost use Rattle.first_faults.specs.Faults.{found_of, RoomToPlan, NodeMet};
+ghost use Rattle.findings.specs.Value.{found_of};
+ghost use Rattle.workspace.specs.Room.{SameRoom, RoomToPlan};
+ghost use Rattle.first_faults.specs.Faults.{NodeMet};
 ghost use Rattle.listings.specs.Answers.{ListingGiven};
 ghost use Rattle.fault_text.specs.Texts.{text_in, text_from, text_of};
-ghost use Rattle.spelling.specs.Writing.{Put, farthest};
+ghost use Rattle.spelling.specs.Writing.{farthest};
+ghost use Rattle.spelling.specs.Written.{Wrote};
 ghost use Rattle.index.specs.Indexed.{Indexed};
 ghost use Rattle.fault_text.specs.Lines.{fault_lines_of, line_of, end_of, LinesStand};
 ghost use Rattle.definitions.specs.Grammar as grammar;
 
 use definitions::{MOST_NAMES, Refusal};
-use first_faults::{FaultFound, NodeFound};
+use findings::Found;
+use first_faults::NodeFound;
+use grammar::Source;
 use index::Index;
-use infer_clocks::Deepest;
-use lines::Lending;
-use listings::ListingAnswer;
+use spelling::{NewName, Spelling, TextWriter};
+use workspace::Working;
 
 // Two words for each hold that an output may have.
 const HOLD_TABLE: usize = 2 * MOST_NAMES;
@@ -33,98 +37,76 @@ const HOLD_TABLE: usize = 2 * MOST_NAMES;
 // ---- The text of a fault.
 
 // The text of a fault that was found, over the front of the lent bytes, if these are enough; or 8.
-fn text_found(out: &mut [u8], starts: &[u32], letters: &[u8], f: FaultFound) -> ListingAnswer
-    requires { length letters.now ≤ 16384 }
-    ensures { (names : List Letters) → letters_at starts.now letters.now ≡ letters_of names → ListingGiven (text_in names (found_of f) (length out.old)) out.old out.new result }
+fn text_found(
+    out: &mut [u8],
+    spelling: Spelling<'_>,
+    fault: Option<Found>,
+) -> Result<usize, Refusal>
+    requires { length spelling.letters.now ≤ 16384 }
+    ensures { (names : List Letters) → letters_in spelling.entry ≡ letters_of names → ListingGiven (text_in names (found_of fault) (length out.old)) out.old out.new result }
 {
-    if f.found {
-        let fault = f.fault;
-        let lent = lines::text_into(out, starts, letters, fault);
-        return match lent {
-            Lending::Written(m) => ListingAnswer::Written(m),
-            Lending::Lent(m) => ListingAnswer::Refused(Refusal::Lent(m)),
-        };
-    }
-    ListingAnswer::Refused(Refusal::Missing)
+    let Some(found) = fault else {
+        return Err(Refusal::Missing);
+    };
+    lines::text_into(out, spelling, found.fault)
 }
 
 // The text of fault j of node k, which stands there; or refusal 9 at the first of it and so many nodes behind it.
 fn text_before(
     out: &mut [u8],
-    starts: &[u32],
-    letters: &[u8],
-    tags: &[u8],
-    values: &[u32],
-    t: Index,
+    spelling: Spelling<'_>,
+    index: &Index<'_>,
     k: usize,
     j: usize,
     at: usize,
     behind: u32,
-    env: &mut [u32],
-    table: &mut [u32],
-    sites: &mut [u32],
-    types: &mut [u32],
-    plan: &mut [u32],
-) -> ListingAnswer
-    requires values_len { length values.now ≡ length tags.now }
-    requires nodes_bound { (t.nodes ≤ 16) × (t.types ≤ 32) × (length letters.now ≤ 16384) × (k < 4294967296) }
-    ensures { (i : Input) (n : Node) (p : ℕ) (ns : List Node) (q : ℕ) → Indexed tags.now values.now t i → letters_at starts.now letters.now ≡ letters_of i.names → grammar.node t.names (tokens tags.now values.now) at ≡ got n p → times behind (grammar.node t.names) (tokens tags.now values.now) p ≡ got ns q → RoomToPlan t.names (length tags.now) env.old table.old sites.old types.old plan.old → ListingGiven (text_from i (first_from k (n ∷ ns)) j (length out.old)) out.old out.new result }
+    working: &mut Working<'_>,
+) -> Result<usize, Refusal>
+    requires { (length spelling.letters.now ≤ 16384) × (k < 4294967296) }
+    ensures same_room { SameRoom working.old working.new }
+    ensures given { (i : Input) (n : Node) (p : ℕ) (ns : List Node) (q : ℕ) → Indexed index.now i → letters_in spelling.entry ≡ letters_of i.names → grammar.node index.now.source.names (tokens_of index.now.source) at ≡ got n p → times behind (grammar.node index.now.source.names) (tokens_of index.now.source) p ≡ got ns q → RoomToPlan index.now.source.names (length index.now.source.tags.now) working.old → ListingGiven (text_from i (first_from k (n ∷ ns)) j (length out.old)) out.old out.new result }
 {
-    let l = layout::node_at(tags, values, t.names, at);
+    let source = &index.source;
+    let l = layout::node_at(source, at);
     let mut holds = [0u32; HOLD_TABLE];
-    let found = first_faults::fault_in(
-        tags, values, t, l, j, env, table, sites, types, plan, &mut holds,
-    );
-    if found.deep {
-        return ListingAnswer::Refused(Refusal::Deep(k));
+    let found = first_faults::fault_in(index, l, j, working, &mut holds);
+    if let NodeFound::Deep = found {
+        return Err(Refusal::Deep(k));
     }
-    let deep = query::deep_among(tags, values, t.names, behind, l.end, env, table, sites);
-    if let Deepest::At(i) = deep {
-        return ListingAnswer::Refused(Refusal::Deep(k + 1 + widths::wide(i)));
+    let deep = query::deep_among(source, behind, l.end, working);
+    if let Err(i) = deep {
+        return Err(Refusal::Deep(k + 1 + i as usize));
     }
-    let fault = found.fault;
-    text_found(out, starts, letters, fault)
+    text_found(out, spelling, found.fault())
 }
 
 // The text of fault j of node k, over the front of the lent bytes.
 pub fn text_in(
     out: &mut [u8],
     given: &[u8],
-    starts: &[u32],
-    letters: &[u8],
-    tags: &[u8],
-    values: &[u32],
-    names: u32,
+    spelling: Spelling<'_>,
+    source: &Source<'_>,
     k: usize,
     j: usize,
-    env: &mut [u32],
-    table: &mut [u32],
-    sites: &mut [u32],
-    types: &mut [u32],
-    plan: &mut [u32],
-) -> ListingAnswer
-    requires values_len { length values.now ≡ length tags.now }
-    requires given_value { (sum given.now ≡ length letters.now) × (length given.now ≤ 1024) × (length letters.now ≤ 16384) }
-    ensures { (i : Input) → Standing starts.now letters.now tags.now values.now names i → i.names ≡ cut given.now letters.now → RoomToPlan names (length tags.now) env.old table.old sites.old types.old plan.old → ListingGiven (text_of i k j (length out.old)) out.old out.new result }
+    working: &mut Working<'_>,
+) -> Result<usize, Refusal>
+    requires given_value { (sum given.now ≡ length spelling.letters.now) × (length given.now ≤ 1024) × (length spelling.letters.now ≤ 16384) }
+    ensures same_room { SameRoom working.old working.new }
+    ensures given { (i : Input) → Standing spelling.entry.starts.now spelling.entry.letters.now source.now.tags.now source.now.values.now source.now.names i → i.names ≡ cut given.now spelling.entry.letters.now → RoomToPlan source.now.names (length source.now.tags.now) working.old → ListingGiven (text_of i k j (length out.old)) out.old out.new result }
 {
-    let condact = widths::narrow(spelling::find_condact(given, letters));
-    let t = index::index_of(tags, values, names, condact);
-    let whole = t.whole;
-    let nodes = whole.nodes;
+    let condact = spelling::find_new(given, spelling.letters, NewName::Condact) as u32;
+    let index = index::index_of(source, condact);
+    let nodes = index.whole.nodes;
     let n = nodes.count;
-    if widths::wide(n) <= k {
-        return ListingAnswer::Refused(Refusal::Missing);
+    if n as usize <= k {
+        return Err(Refusal::Missing);
     }
-    let before = widths::narrow(k);
-    let deep = query::deep_among(tags, values, t.names, before, nodes.at, env, table, sites);
-    match deep {
-        Deepest::At(i) => ListingAnswer::Refused(Refusal::Deep(widths::wide(i))),
-        Deepest::Nowhere(at) => {
+    let before = k as u32;
+    match query::deep_among(source, before, nodes.at, working) {
+        Err(i) => Err(Refusal::Deep(i as usize)),
+        Ok(at) => {
             let behind = n - before - 1;
-            text_before(
-                out, starts, letters, tags, values, t, k, j, at, behind, env, table, sites, types,
-                plan,
-            )
+            text_before(out, spelling, &index, k, j, at, behind, working)
         }
     }
 }
@@ -134,172 +116,109 @@ pub fn text_in(
 // Enough for a line of each node: the longest has 819 bytes.
 const LINES: usize = 16384;
 
-// The first node in which too deep a clock is formed; or where the lines end.
-#[derive(Clone, Copy)]
-enum LinesPut {
-    Deep(usize),
-    Next(usize),
-}
-
 // Node k: whether too deep a clock is formed in it, else its first fault.
-fn first_at(
-    tags: &[u8],
-    values: &[u32],
-    t: Index,
-    k: usize,
-    env: &mut [u32],
-    table: &mut [u32],
-    sites: &mut [u32],
-    types: &mut [u32],
-    plan: &mut [u32],
-    holds: &mut [u32],
-) -> NodeFound
-    requires values_len { length values.now ≡ length tags.now }
-    requires nodes_bound { (t.nodes ≤ 16) × (t.types ≤ 32) }
-    requires k_lt_nodes { k < t.nodes }
-    ensures { RoomToPlan t.names (length tags.now) env.old table.old sites.old types.old plan.old → NodeMet tags.now values.now t k result }
+fn first_at(index: &Index<'_>, k: usize, working: &mut Working<'_>, holds: &mut [u32]) -> NodeFound
+    requires { k < index.now.nodes.count }
+    ensures same_room { SameRoom working.old working.new }
+    ensures node_met { RoomToPlan index.now.source.names (length index.now.source.tags.now) working.old → NodeMet index.now k result }
 {
-    let places = t.places;
-    let l = layout::node_at(tags, values, t.names, places[k]);
-    first_faults::fault_in(tags, values, t, l, 0, env, table, sites, types, plan, holds)
+    let l = layout::node_at(&index.source, index.nodes.at[k]);
+    first_faults::fault_in(index, l, 0, working, holds)
 }
 
 // The line of a fault of a node, if one was found. With the lengths of names a line is no longer than said here.
-fn put_found(
-    out: &mut [u8],
-    at: usize,
-    starts: &[u32],
-    letters: &[u8],
-    node: usize,
-    f: FaultFound,
-) -> usize
-    requires out_len_bound { length out.old ≤ farthest }
-    requires at_le_farthest { at ≤ farthest }
-    requires letters_len_bound { length letters.now ≤ 16384 }
-    ensures upper_bound { result ≤ at + 278998 }
-    ensures put { Put (line_of (letters_at starts.now letters.now) node (found_of f)) at out.old result out.new }
+fn put_found(text: &mut TextWriter<'_>, spelling: Spelling<'_>, node: usize, fault: Option<Found>)
+    requires { length spelling.letters.now ≤ 16384 }
+    ensures upper_bound { text.new.at ≤ text.old.at + 278998 }
+    ensures wrote { Wrote (line_of (letters_in spelling.entry) node (found_of fault)) text.old text.new }
 {
-    if f.found {
-        let fault = f.fault;
-        let equation = widths::wide(f.equation);
-        return lines::put_fault_line(out, at, starts, letters, node, equation, fault);
+    if let Some(found) = fault {
+        let equation = found.equation as usize;
+        lines::put_fault_line(text, spelling, node, equation, found.fault);
     }
-    at
 }
 
-// The line of each faulty node's first fault from the front on, as far as the bytes reach; up to the first node in which too deep a clock is
-// formed.
+// The line of each faulty node's first fault, one behind another from the front on, and where they end; refused at the first node in which
+// too deep a clock is formed.
+fn write_lines(
+    text: &mut TextWriter<'_>,
+    spelling: Spelling<'_>,
+    index: &Index<'_>,
+    working: &mut Working<'_>,
+    holds: &mut [u32],
+) -> Result<usize, Refusal>
+    requires at_value { text.old.at ≡ 0 }
+    requires letters_len_bound { length spelling.letters.now ≤ 16384 }
+    ensures same_reference { text.new.out.ghost_name ≡ text.old.out.ghost_name }
+    ensures same_room { SameRoom working.old working.new }
+    ensures result_bound { end_of result ≤ farthest }
+    ensures lines_stand { (i : Input) → Indexed index.now i → letters_in spelling.entry ≡ letters_of i.names → RoomToPlan index.now.source.names (length index.now.source.tags.now) working.old → LinesStand i text.old.out.now text.new.out.now result }
+{
+    for k in 0..index.nodes.count {
+        let found = first_at(index, k, working, holds);
+        if let NodeFound::Deep = found {
+            return Err(Refusal::Deep(k));
+        }
+        put_found(text, spelling, k, found.fault());
+    }
+    Ok(text.place())
+}
+
+// The lines over the lent bytes, as far as they reach.
 fn put_lines(
     out: &mut [u8],
-    starts: &[u32],
-    letters: &[u8],
-    tags: &[u8],
-    values: &[u32],
-    t: Index,
-    env: &mut [u32],
-    table: &mut [u32],
-    sites: &mut [u32],
-    types: &mut [u32],
-    plan: &mut [u32],
+    spelling: Spelling<'_>,
+    index: &Index<'_>,
+    working: &mut Working<'_>,
     holds: &mut [u32],
-) -> LinesPut
-    requires values_len { length values.now ≡ length tags.now }
-    requires nodes_bound { (t.nodes ≤ 16) × (t.types ≤ 32) }
-    requires out_len_bound { length out.old ≤ farthest }
-    requires letters_len_bound { length letters.now ≤ 16384 }
+) -> Result<usize, Refusal>
+    requires { length spelling.letters.now ≤ 16384 }
+    ensures same_room { SameRoom working.old working.new }
     ensures result_bound { end_of result ≤ farthest }
-    ensures lines_stand { (i : Input) → Indexed tags.now values.now t i → letters_at starts.now letters.now ≡ letters_of i.names → RoomToPlan t.names (length tags.now) env.old table.old sites.old types.old plan.old → LinesStand i out.old out.new result }
+    ensures lines_stand { (i : Input) → Indexed index.now i → letters_in spelling.entry ≡ letters_of i.names → RoomToPlan index.now.source.names (length index.now.source.tags.now) working.old → LinesStand i out.old out.new result }
 {
-    let mut at: usize = 0;
-    let mut k: usize = 0;
-    while k < t.nodes {
-        let found = first_at(tags, values, t, k, env, table, sites, types, plan, holds);
-        if found.deep {
-            return LinesPut::Deep(k);
-        }
-        let fault = found.fault;
-        at = put_found(out, at, starts, letters, k, fault);
-        k += 1;
-    }
-    LinesPut::Next(at)
+    let mut text = TextWriter { out, at: 0 };
+    write_lines(&mut text, spelling, index, working, holds)
 }
 
 // The lines over the front of the lent bytes, if these are enough. They are put aside first, which measures them; only names that no sheet
 // has would make them longer than what is there for that, and these are put again.
 fn lines_lent(
     out: &mut [u8],
-    starts: &[u32],
-    letters: &[u8],
-    tags: &[u8],
-    values: &[u32],
-    t: Index,
-    env: &mut [u32],
-    table: &mut [u32],
-    sites: &mut [u32],
-    types: &mut [u32],
-    plan: &mut [u32],
+    spelling: Spelling<'_>,
+    index: &Index<'_>,
+    working: &mut Working<'_>,
     holds: &mut [u32],
-) -> ListingAnswer
-    requires values_len { length values.now ≡ length tags.now }
-    requires nodes_bound { (t.nodes ≤ 16) × (t.types ≤ 32) }
-    requires letters_len_bound { length letters.now ≤ 16384 }
-    ensures { (i : Input) → Indexed tags.now values.now t i → letters_at starts.now letters.now ≡ letters_of i.names → RoomToPlan t.names (length tags.now) env.old table.old sites.old types.old plan.old → ListingGiven (fault_lines_of i (length out.old)) out.old out.new result }
+) -> Result<usize, Refusal>
+    requires letters_len_bound { length spelling.letters.now ≤ 16384 }
+    ensures same_room { SameRoom working.old working.new }
+    ensures given { (i : Input) → Indexed index.now i → letters_in spelling.entry ≡ letters_of i.names → RoomToPlan index.now.source.names (length index.now.source.tags.now) working.old → ListingGiven (fault_lines_of i (length out.old)) out.old out.new result }
 {
     let mut aside = [0u8; LINES];
-    let measured = put_lines(
-        &mut aside, starts, letters, tags, values, t, env, table, sites, types, plan, holds,
-    );
-    match measured {
-        LinesPut::Deep(k) => ListingAnswer::Refused(Refusal::Deep(k)),
-        LinesPut::Next(n) => {
-            if n <= LINES {
-                return listings::lend(&aside[..n], out);
-            }
-            if out.len() < n {
-                return ListingAnswer::Refused(Refusal::Lent(n));
-            }
-            put_lines(
-                &mut out[..n],
-                starts,
-                letters,
-                tags,
-                values,
-                t,
-                env,
-                table,
-                sites,
-                types,
-                plan,
-                holds,
-            );
-            ListingAnswer::Written(n)
-        }
+    let n = put_lines(&mut aside, spelling, index, working, holds)?;
+    if n <= LINES {
+        return listings::lend(&aside[..n], out);
     }
+    if out.len() < n {
+        return Err(Refusal::Lent(n));
+    }
+    put_lines(&mut out[..n], spelling, index, working, holds)
 }
 
 // The first faults of all nodes, in order, a line each, over the front of the lent bytes.
 pub fn lines_in(
     out: &mut [u8],
     given: &[u8],
-    starts: &[u32],
-    letters: &[u8],
-    tags: &[u8],
-    values: &[u32],
-    names: u32,
-    env: &mut [u32],
-    table: &mut [u32],
-    sites: &mut [u32],
-    types: &mut [u32],
-    plan: &mut [u32],
-) -> ListingAnswer
-    requires values_len { length values.now ≡ length tags.now }
-    requires given_value { (sum given.now ≡ length letters.now) × (length given.now ≤ 1024) × (length letters.now ≤ 16384) }
-    ensures { (i : Input) → Standing starts.now letters.now tags.now values.now names i → i.names ≡ cut given.now letters.now → RoomToPlan names (length tags.now) env.old table.old sites.old types.old plan.old → ListingGiven (fault_lines_of i (length out.old)) out.old out.new result }
+    spelling: Spelling<'_>,
+    source: &Source<'_>,
+    working: &mut Working<'_>,
+) -> Result<usize, Refusal>
+    requires given_value { (sum given.now ≡ length spelling.letters.now) × (length given.now ≤ 1024) × (length spelling.letters.now ≤ 16384) }
+    ensures same_room { SameRoom working.old working.new }
+    ensures given { (i : Input) → Standing spelling.entry.starts.now spelling.entry.letters.now source.now.tags.now source.now.values.now source.now.names i → i.names ≡ cut given.now spelling.entry.letters.now → RoomToPlan source.now.names (length source.now.tags.now) working.old → ListingGiven (fault_lines_of i (length out.old)) out.old out.new result }
 {
-    let condact = widths::narrow(spelling::find_condact(given, letters));
-    let t = index::index_of(tags, values, names, condact);
+    let condact = spelling::find_new(given, spelling.letters, NewName::Condact) as u32;
+    let index = index::index_of(source, condact);
     let mut holds = [0u32; HOLD_TABLE];
-    lines_lent(
-        out, starts, letters, tags, values, t, env, table, sites, types, plan, &mut holds,
-    )
+    lines_lent(out, spelling, &index, working, &mut holds)
 }

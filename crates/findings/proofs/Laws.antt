@@ -1,26 +1,28 @@
 -- Laws of tables of findings.
--- Assumes nothing.
 use mathlib.Core.Path.{◌≡◌, refl, sym, ◌∙◌, ap}
 use mathlib.Core.List.{List, [], ◌∷◌, ◌++◌, append_assoc, append-nil}
-use mathlib.Core.Bool.{Bool, true, false, ◌||◌}
+use mathlib.Core.Bool.{Bool, true, false, ◌||◌, cond}
 use mathlib.Core.Logic.{◌⊎◌, inl, inr}
 use Prim.Native.Nat.{ℕ, zero, suc, ◌+◌, ◌-◌, ◌*◌, ◌≤◌, ◌<◌}
 use native.Mathlib.Omega.{arith}
 use native.Mathlib.Numerals.{add-one, sub-one}
-use lib.ListN.{length, get_or, set, length-set, length-append, get_or-eq_default}
+use lib.ListN.{length, get_or, set, length-set, length-append}
 use lib.Seq.{get_or-set_same, get_or-set_other}
-use lib.Dec.{eqb, ltb}
-use borrow.Author.Tests.{lt-ltb, le-ltb, eqb-true, eqb-false, ne_eqb, ltb-true, ltb-false}
-use Rattle.definitions.specs.declared.Test.{Test}
-use Rattle.definitions.specs.declared.Condition.{Condition}
 use Rattle.definitions.specs.Lists.{choose, any}
 use Rattle.definitions.specs.Clock.{Clock, is_base}
-use Rattle.definitions.specs.InferClocks.{Fault, left_elsewhere, used_elsewhere, when_elsewhere, clock_name_elsewhere, not_single_call, NodeFault, Finding, found, site, too_deep, is_too_deep, clock_faults, sites}
-use Rattle.clock_tables.specs.Flat.{word_of, test_of, clock_in}
-use Rattle.clock_tables.proofs.FlatLaws.{Within, clock-same, test_word}
-use Rattle.clock_tables.specs.Rows.{clocks_from, clocks_in, RowsHold}
-use Rattle.clock_tables.proofs.RowsLaws as rows
-use Rattle.findings.specs.Findings.{flag_word, fault_as, finding_as, fault_in, finding_in, findings_from, findings_in, FindingsHeld, no_fault}
+use Rattle.std.proofs.Math.Option.{Option, none, some}
+use Rattle.std.proofs.Math.ListN.{get_elem?}
+use Rattle.std.specs.List.{range_with_len, list_any, filter}
+use Rattle.definitions.specs.InferClocks.{NodeFault, Finding, found, site, too_deep, is_too_deep, clock_faults, sites}
+use Rattle.clock_tables.specs.Flat.{clock_in}
+use Rattle.clock_tables.proofs.FlatLaws.{Within, clock-same}
+use Rattle.clock_tables.specs.declared.Clock as clock
+use Rattle.findings.specs.declared.ClockFault.{ClockFault}
+use Rattle.findings.specs.declared.Finding as value
+use Rattle.findings.specs.Value.{finding_of}
+use Rattle.clock_tables.specs.declared.ClockTable.{ClockTable}
+use Rattle.clock_tables.specs.Grown.{Grown}
+use Rattle.findings.specs.Findings.{finding_as, finding_in, is_fault, findings_from, findings_in, FindingsHeld}
 
 -- ---- the findings of rows
 module _ (t : List ℕ) where
@@ -155,79 +157,6 @@ module _ (t : List ℕ) (n : ℕ) (f : Finding) (fs : List Finding) where
       inl (omega arith, in-last t' n ∙ rw (s, row))
   holds_more t' room len row same (inr (a, b)) = absurd (omega arith)
 
--- the words of a flag and a test, and back
-pub flag-back : (w i x : ℕ) (c d : Clock) (p : Bool) → w ≡ flag_word p → finding_as 1 x w i c d ≡ found (record { equation = i; fault = left_elsewhere x c d p })
-flag-back w i x c d true e = rw e
-flag-back w i x c d false e = rw e
-
-pub test_back : (w i : ℕ) (c d : Clock) (k : Condition) → w ≡ word_of k.test → finding_as 3 k.name w i c d ≡ found (record { equation = i; fault = when_elsewhere k d })
-test_back w i c d k e = rw (e, test_word k.test)
-
--- the same of what follows others
-pub holds_as : (t t' : List ℕ) (n r : ℕ) (f g : Finding) → f ≡ g → ((fs : List Finding) → FindingsHeld t n fs → FindingsHeld t' r (fs ++ (f ∷ []))) → (fs : List Finding) → FindingsHeld t n fs → FindingsHeld t' r (fs ++ (g ∷ []))
-holds_as t t' n r f g e h fs a = rw (sym e) (h fs a)
-
--- past the end of a table
-pub row-past : (t : List ℕ) (i j : ℕ) → length t < 38 * i → 0 ≡ get_or t (38 * i + j) 0
-row-past t i j h = let l : length t ≤ 38 * i + j = omega arith in sym (get_or-eq_default t 0 l)
-
--- ---- a row by its kind
-module _ (k x w i : ℕ) (c d : Clock) where
-  kind-fault : k < 5 → finding_as k x w i c d ≡ found (record { equation = i; fault = fault_as k x w c d })
-  kind-fault l = rw (lt-ltb k 5 l)
-
-  kind-site : k ≡ 5 → finding_as k x w i c d ≡ site d
-  kind-site e = rw e
-
-  kind-deep : 5 < k → finding_as k x w i c d ≡ too_deep
-  kind-deep l =
-      let a : 5 ≤ k = omega arith in
-      let b : k ≡ 5 → ⊥ = omega arith in
-      rw (le-ltb k 5 a, ne_eqb k 5 b)
-
-  kind-other : k ≤ 5 → is_too_deep (finding_as k x w i c d) ≡ false
-  kind-other l = go (ltb k 5) refl
-    where
-      go : (b : Bool) → ltb k 5 ≡ b → is_too_deep (finding_as k x w i c d) ≡ false
-      go true q = ap is_too_deep (kind-fault (ltb-true k 5 q))
-      go false q = let e : k ≡ 5 = omega (arith, ltb-false k 5 q) in ap is_too_deep (kind-site e)
-
-  kind-faultless : 5 ≤ k → (l : List Finding) → clock_faults (finding_as k x w i c d ∷ l) ≡ clock_faults l
-  unfolding clock_faults
-  kind-faultless h l = go (eqb k 5) refl
-    where
-      go : (b : Bool) → eqb k 5 ≡ b → clock_faults (finding_as k x w i c d ∷ l) ≡ clock_faults l
-      go true q = ap (λ (f : Finding). clock_faults (f ∷ l)) (kind-site (eqb-true k 5 q))
-      go false q = ap (λ (f : Finding). clock_faults (f ∷ l)) (kind-deep (omega (arith, eqb-false k 5 q)))
-
-  kind-siteless : (k ≡ 5 → ⊥) → (l : List Finding) → sites (finding_as k x w i c d ∷ l) ≡ sites l
-  unfolding sites
-  kind-siteless h l = go (ltb k 5) refl
-    where
-      go : (b : Bool) → ltb k 5 ≡ b → sites (finding_as k x w i c d ∷ l) ≡ sites l
-      go true q = ap (λ (f : Finding). sites (f ∷ l)) (kind-fault (ltb-true k 5 q))
-      go false q = ap (λ (f : Finding). sites (f ∷ l)) (kind-deep (omega (arith, ltb-false k 5 q, h)))
-
--- the same of a row
-module _ (t : List ℕ) (b : ℕ) where
-  row-fault : get_or t b 0 < 5 → finding_in t b ≡ found (fault_in t b)
-  row-fault = kind-fault (get_or t b 0) (get_or t (b + 1) 0) (get_or t (b + 2) 0) (get_or t (b + 3) 0) (clock_in t (b + 4)) (clock_in t (b + 21))
-
-  row-site : get_or t b 0 ≡ 5 → finding_in t b ≡ site (clock_in t (b + 21))
-  row-site = kind-site (get_or t b 0) (get_or t (b + 1) 0) (get_or t (b + 2) 0) (get_or t (b + 3) 0) (clock_in t (b + 4)) (clock_in t (b + 21))
-
-  row-deep : 5 < get_or t b 0 → finding_in t b ≡ too_deep
-  row-deep = kind-deep (get_or t b 0) (get_or t (b + 1) 0) (get_or t (b + 2) 0) (get_or t (b + 3) 0) (clock_in t (b + 4)) (clock_in t (b + 21))
-
-  row_other : get_or t b 0 ≤ 5 → is_too_deep (finding_in t b) ≡ false
-  row_other = kind-other (get_or t b 0) (get_or t (b + 1) 0) (get_or t (b + 2) 0) (get_or t (b + 3) 0) (clock_in t (b + 4)) (clock_in t (b + 21))
-
-  row-faultless : 5 ≤ get_or t b 0 → (l : List Finding) → clock_faults (finding_in t b ∷ l) ≡ clock_faults l
-  row-faultless = kind-faultless (get_or t b 0) (get_or t (b + 1) 0) (get_or t (b + 2) 0) (get_or t (b + 3) 0) (clock_in t (b + 4)) (clock_in t (b + 21))
-
-  row-siteless : (get_or t b 0 ≡ 5 → ⊥) → (l : List Finding) → sites (finding_in t b ∷ l) ≡ sites l
-  row-siteless = kind-siteless (get_or t b 0) (get_or t (b + 1) 0) (get_or t (b + 2) 0) (get_or t (b + 3) 0) (clock_in t (b + 4)) (clock_in t (b + 21))
-
 -- ---- lists of findings, one after another
 pub faults-append : (k l : List Finding) → clock_faults (k ++ l) ≡ clock_faults k ++ clock_faults l
 unfolding clock_faults
@@ -247,95 +176,102 @@ sites-append (site c ∷ k) l = go (is_base c) (sites-append k l)
     go false e = ap (λ (m : List Clock). c ∷ m) e
 sites-append (too_deep ∷ k) l = sites-append k l
 
--- ---- a row that is a fault, or not
-module _ (t : List ℕ) (b k : ℕ) (e : k ≡ get_or t b 0) where
-  pub row_is : (x : Bool) → x ≡ ltb k 5 → clock_faults (finding_in t b ∷ []) ≡ choose x (fault_in t b ∷ []) []
-  unfolding clock_faults
-  row_is true h = ap (λ (f : Finding). clock_faults (f ∷ [])) (row-fault t b (omega (arith, ltb-true k 5 (sym h))))
-  row_is false h = row-faultless t b (omega (arith, ltb-false k 5 (sym h))) []
+-- ---- the rows by their numbers
+module _ (t : List ℕ) where
+  pub any-row : (i n : ℕ) → list_any (λ j. is_too_deep (finding_in t (38 * j))) (range_with_len i n) ≡ any is_too_deep (findings_from t i n)
+  unfolding findings_from
+  any-row i zero = refl
+  any-row i (suc n) = ap (λ (b : Bool). is_too_deep (finding_in t (38 * i)) || b) (any-row (i + 1) n)
 
--- one row more
-faults-last : (t : List ℕ) (i : ℕ) → clock_faults (findings_in t (i + 1)) ≡ clock_faults (findings_in t i) ++ clock_faults (finding_in t (38 * i) ∷ [])
-faults-last t i = ap clock_faults (in-last t i) ∙ faults-append (findings_in t i) (finding_in t (38 * i) ∷ [])
+  pub fault-rows : (i n : ℕ) → length (filter (λ j. is_fault (finding_in t (38 * j))) (range_with_len i n)) ≡ length (clock_faults (findings_from t i n))
+  unfolding findings_from clock_faults
+  fault-rows i zero = refl
+  fault-rows i (suc n) = go (finding_in t (38 * i)) (fault-rows (i + 1) n)
+    where
+      others : List ℕ
+      others = filter (λ j. is_fault (finding_in t (38 * j))) (range_with_len (i + 1) n)
 
-module _ (t : List ℕ) (i : ℕ) (x : Bool) (h : clock_faults (finding_in t (38 * i) ∷ []) ≡ choose x (fault_in t (38 * i) ∷ []) []) where
-  pub faults-one : x ≡ true → clock_faults (findings_in t (i + 1)) ≡ clock_faults (findings_in t i) ++ (fault_in t (38 * i) ∷ [])
-  faults-one e = faults-last t i ∙ ap (λ (l : List NodeFault). clock_faults (findings_in t i) ++ l) (h ∙ ap (λ (b : Bool). choose b (fault_in t (38 * i) ∷ []) []) e)
+      go : (f : Finding) → length others ≡ length (clock_faults (findings_from t (i + 1) n)) → length (cond (is_fault f) (i ∷ others) others) ≡ length (clock_faults (f ∷ findings_from t (i + 1) n))
+      go (found g) e = ap suc e
+      go (site c) e = e
+      go too_deep e = e
 
-  pub faults-no : x ≡ false → clock_faults (findings_in t (i + 1)) ≡ clock_faults (findings_in t i)
-  faults-no e = faults-last t i ∙ (ap (λ (l : List NodeFault). clock_faults (findings_in t i) ++ l) (h ∙ ap (λ (b : Bool). choose b (fault_in t (38 * i) ∷ []) []) e) ∙ append-nil _)
+-- ---- a finding by value that is no fault, or no site
+pub not-fault : (x : value.Finding) → ((i : ℕ) (f : ClockFault) → x ≡ value.Finding.Fault i f → ⊥) → clock_faults (finding_of x ∷ []) ≡ []
+unfolding clock_faults
+not-fault (value.Finding.Fault i f) h = absurd (h i f refl)
+not-fault (value.Finding.Site c) h = refl
+not-fault value.Finding.Deep h = refl
 
--- ---- the rows from i on, n in all
-module _ (t : List ℕ) (n i k : ℕ) (l : i < n) (e : k ≡ get_or t (38 * i) 0) where
-  left-rows : findings_from t i (n - i) ≡ finding_in t (38 * i) ∷ findings_from t (i + 1) (n - (i + 1))
-  left-rows = let a : n - i - 1 ≡ n - (i + 1) = omega arith in from_more t i (n - i) (omega arith) ∙ rw a
+pub not-site : (x : value.Finding) → ((c : clock.Clock) → x ≡ value.Finding.Site c → ⊥) → sites (finding_of x ∷ []) ≡ []
+unfolding sites
+not-site (value.Finding.Fault i f) h = refl
+not-site (value.Finding.Site c) h = absurd (h c refl)
+not-site value.Finding.Deep h = refl
 
-  pub deep-here : 5 < k → any is_too_deep (findings_from t i (n - i)) ≡ true
-  deep-here h = ap (any is_too_deep) left-rows ∙ ap (λ (f : Finding). is_too_deep f || any is_too_deep (findings_from t (i + 1) (n - (i + 1)))) (row-deep t (38 * i) (omega arith))
+-- ---- one row more
+module _ (t : List ℕ) (i : ℕ) where
+  faults-last : clock_faults (findings_in t (i + 1)) ≡ clock_faults (findings_in t i) ++ clock_faults (finding_in t (38 * i) ∷ [])
+  faults-last = ap clock_faults (in-last t i) ∙ faults-append (findings_in t i) (finding_in t (38 * i) ∷ [])
 
-  pub deep-later : k ≤ 5 → any is_too_deep (findings_from t i (n - i)) ≡ any is_too_deep (findings_from t (i + 1) (n - (i + 1)))
-  deep-later h = ap (any is_too_deep) left-rows ∙ ap (λ (b : Bool). b || any is_too_deep (findings_from t (i + 1) (n - (i + 1)))) (row_other t (38 * i) (omega arith))
+  sites-last : sites (findings_in t (i + 1)) ≡ sites (findings_in t i) ++ sites (finding_in t (38 * i) ∷ [])
+  sites-last = ap sites (in-last t i) ∙ sites-append (findings_in t i) (finding_in t (38 * i) ∷ [])
 
-  pub fault-here : k < 5 → clock_faults (findings_from t i (n - i)) ≡ fault_in t (38 * i) ∷ clock_faults (findings_from t (i + 1) (n - (i + 1)))
-  unfolding clock_faults
-  fault-here h = ap clock_faults left-rows ∙ ap (λ (f : Finding). clock_faults (f ∷ findings_from t (i + 1) (n - (i + 1)))) (row-fault t (38 * i) (omega arith))
+  module _ (f : Finding) (e : f ≡ finding_in t (38 * i)) where
+    pub faults-one : {g : NodeFault} → f ≡ found g → clock_faults (findings_in t (i + 1)) ≡ clock_faults (findings_in t i) ++ (g ∷ [])
+    unfolding clock_faults
+    faults-one h = faults-last ∙ ap (λ (x : Finding). clock_faults (findings_in t i) ++ clock_faults (x ∷ [])) (sym e ∙ h)
 
-  pub fault-later : 5 ≤ k → clock_faults (findings_from t i (n - i)) ≡ clock_faults (findings_from t (i + 1) (n - (i + 1)))
-  fault-later h = ap clock_faults left-rows ∙ row-faultless t (38 * i) (omega arith) _
+    pub faults-no : clock_faults (f ∷ []) ≡ [] → clock_faults (findings_in t (i + 1)) ≡ clock_faults (findings_in t i)
+    faults-no h = faults-last ∙ (ap (λ (l : List NodeFault). clock_faults (findings_in t i) ++ l) (ap (λ (x : Finding). clock_faults (x ∷ [])) (sym e) ∙ h) ∙ append-nil _)
+
+    pub sites-no : sites (f ∷ []) ≡ [] → sites (findings_in t (i + 1)) ≡ sites (findings_in t i)
+    sites-no h = sites-last ∙ (ap (λ (l : List Clock). sites (findings_in t i) ++ l) (ap (λ (x : Finding). sites (x ∷ [])) (sym e) ∙ h) ∙ append-nil _)
+
+    pub sites-base : {c : Clock} → f ≡ site c → is_base c ≡ true → sites (findings_in t (i + 1)) ≡ sites (findings_in t i)
+    unfolding sites
+    sites-base {c} h b = sites-no (ap (λ (x : Finding). sites (x ∷ [])) h ∙ ap (λ (x : Bool). choose x [] (c ∷ [])) b)
+
+    pub sites-more : {c : Clock} → f ≡ site c → is_base c ≡ false → sites (findings_in t (i + 1)) ≡ sites (findings_in t i) ++ (c ∷ [])
+    unfolding sites
+    sites-more {c} h b =
+        sites-last ∙ (ap (λ (x : Finding). sites (findings_in t i) ++ sites (x ∷ [])) (sym e ∙ h)
+        ∙ ap (λ (x : Bool). sites (findings_in t i) ++ choose x [] (c ∷ [])) b)
+
+-- ---- fault j of the rows from i on, n in all
+module _ (t : List ℕ) (n i : ℕ) (l : i < n) (f : Finding) (e : f ≡ finding_in t (38 * i)) where
+  left-rows : findings_from t i (n - i) ≡ f ∷ findings_from t (i + 1) (n - (i + 1))
+  left-rows = let a : n - i - 1 ≡ n - (i + 1) = omega arith in from_more t i (n - i) (omega arith) ∙ rw (a, e)
+
+  module _ (j : ℕ) (o : Option NodeFault) (s : get_elem? (clock_faults (findings_from t i (n - i))) j ≡ o) where
+    pub nth-later : clock_faults (f ∷ []) ≡ [] → get_elem? (clock_faults (findings_from t (i + 1) (n - (i + 1)))) j ≡ o
+    nth-later h =
+        ap (λ (m : List NodeFault). get_elem? (m ++ clock_faults (findings_from t (i + 1) (n - (i + 1)))) j) (sym h)
+        ∙ (ap (λ (m : List NodeFault). get_elem? m j) (sym (faults-append (f ∷ []) _) ∙ ap clock_faults (sym left-rows)) ∙ s)
+
+    module _ (g : NodeFault) (h : f ≡ found g) where
+      fault-rows-here : clock_faults (findings_from t i (n - i)) ≡ g ∷ clock_faults (findings_from t (i + 1) (n - (i + 1)))
+      unfolding clock_faults
+      fault-rows-here = ap clock_faults left-rows ∙ ap (λ (x : Finding). clock_faults (x ∷ findings_from t (i + 1) (n - (i + 1)))) h
+
+      pub nth-here : j ≡ 0 → some g ≡ o
+      nth-here z =
+          let a : get_elem? (clock_faults (findings_from t i (n - i))) 0 ≡ o = rw z at s in
+          ap (λ (m : List NodeFault). get_elem? m 0) (sym fault-rows-here) ∙ a
+
+      pub nth-next : (j ≡ 0 → ⊥) → get_elem? (clock_faults (findings_from t (i + 1) (n - (i + 1)))) (j - 1) ≡ o
+      nth-next z =
+          let a : j ≡ suc (j - 1) = omega arith in
+          let b : get_elem? (clock_faults (findings_from t i (n - i))) (suc (j - 1)) ≡ o = ap (λ (m : ℕ). get_elem? (clock_faults (findings_from t i (n - i))) m) (sym a) ∙ s in
+          ap (λ (m : List NodeFault). get_elem? m (suc (j - 1))) (sym fault-rows-here) ∙ b
 
 -- none are left
-pub no-deep : (t : List ℕ) (n i : ℕ) → n ≤ i → any is_too_deep (findings_from t i (n - i)) ≡ false
-no-deep t n i h = ap (any is_too_deep) (from-none t i (n - i) (omega arith))
-
-pub no-fault : (t : List ℕ) (n i j : ℕ) → n ≤ i → get_or (clock_faults (findings_from t i (n - i))) j no_fault ≡ no_fault
+pub no-fault : (t : List ℕ) (n i j : ℕ) → n ≤ i → get_elem? (clock_faults (findings_from t i (n - i))) j ≡ none
 unfolding clock_faults
-no-fault t n i j h = ap (λ (l : List Finding). get_or (clock_faults l) j no_fault) (from-none t i (n - i) (omega arith))
+no-fault t n i j h = ap (λ (l : List Finding). get_elem? (clock_faults l) j) (from-none t i (n - i) (omega arith))
 
 pub all-rows : (t : List ℕ) (n : ℕ) → findings_in t n ≡ findings_from t 0 (n - 0)
 all-rows t n = let e : n ≡ n - 0 = omega arith in ap (findings_from t 0) e
-
--- fault j of those from row i on
-module _ (t : List ℕ) (n i k j : ℕ) (l : i < n) (e : k ≡ get_or t (38 * i) 0) (f : NodeFault) (s : get_or (clock_faults (findings_from t i (n - i))) j no_fault ≡ f) where
-  pub nth-later : 5 ≤ k → get_or (clock_faults (findings_from t (i + 1) (n - (i + 1)))) j no_fault ≡ f
-  nth-later h = ap (λ (m : List NodeFault). get_or m j no_fault) (sym (fault-later t n i k l e h)) ∙ s
-
-  pub nth_here : k < 5 → j ≡ 0 → fault_in t (38 * i) ≡ f
-  nth_here h z =
-      let a : get_or (clock_faults (findings_from t i (n - i))) 0 no_fault ≡ f = rw z at s in
-      ap (λ (m : List NodeFault). get_or m 0 no_fault) (sym (fault-here t n i k l e h)) ∙ a
-
-  pub nth-next : k < 5 → (j ≡ 0 → ⊥) → get_or (clock_faults (findings_from t (i + 1) (n - (i + 1)))) (j - 1) no_fault ≡ f
-  nth-next h z =
-      let a : j ≡ suc (j - 1) = omega arith in
-      let b : get_or (clock_faults (findings_from t i (n - i))) (suc (j - 1)) no_fault ≡ f = ap (λ (m : ℕ). get_or (clock_faults (findings_from t i (n - i))) m no_fault) (sym a) ∙ s in
-      ap (λ (m : List NodeFault). get_or m (suc (j - 1)) no_fault) (sym (fault-here t n i k l e h)) ∙ b
-
--- ---- the first rows, one more
-module _ (t : List ℕ) (i k : ℕ) (e : k ≡ get_or t (38 * i) 0) where
-  pub faults-more : k < 5 → clock_faults (findings_in t (i + 1)) ≡ clock_faults (findings_in t i) ++ (fault_in t (38 * i) ∷ [])
-  faults-more h = faults-one t i true (row_is t (38 * i) k e true (sym (lt-ltb k 5 h))) refl
-
-  pub faults-same : 5 ≤ k → clock_faults (findings_in t (i + 1)) ≡ clock_faults (findings_in t i)
-  faults-same h = faults-no t i false (row_is t (38 * i) k e false (sym (le-ltb k 5 h))) refl
-
-  pub sites-same : (k ≡ 5 → ⊥) → sites (findings_in t (i + 1)) ≡ sites (findings_in t i)
-  unfolding sites
-  sites-same h =
-      ap sites (in-last t i) ∙ (sites-append (findings_in t i) _
-      ∙ (ap (λ (m : List Clock). sites (findings_in t i) ++ m) (row-siteless t (38 * i) (omega arith) []) ∙ append-nil _))
-
-  site-last : k ≡ 5 → sites (findings_in t (i + 1)) ≡ sites (findings_in t i) ++ sites (site (clock_in t (38 * i + 21)) ∷ [])
-  site-last h =
-      ap sites (in-last t i) ∙ (sites-append (findings_in t i) _
-      ∙ ap (λ (f : Finding). sites (findings_in t i) ++ sites (f ∷ [])) (row-site t (38 * i) (omega arith)))
-
-  pub sites-base : k ≡ 5 → is_base (clock_in t (38 * i + 21)) ≡ true → sites (findings_in t (i + 1)) ≡ sites (findings_in t i)
-  unfolding sites
-  sites-base h b = site-last h ∙ (ap (λ (x : Bool). sites (findings_in t i) ++ choose x [] (clock_in t (38 * i + 21) ∷ [])) b ∙ append-nil _)
-
-  pub sites-more : k ≡ 5 → is_base (clock_in t (38 * i + 21)) ≡ false → sites (findings_in t (i + 1)) ≡ sites (findings_in t i) ++ (clock_in t (38 * i + 21) ∷ [])
-  unfolding sites
-  sites-more h b = site-last h ∙ ap (λ (x : Bool). sites (findings_in t i) ++ choose x [] (clock_in t (38 * i + 21) ∷ [])) b
 
 -- none yet
 pub none_yet : (t : List ℕ) → (clock_faults (findings_in t 0) ≡ []) × (sites (findings_in t 0) ≡ [])
@@ -352,72 +288,20 @@ count-more fs f m e = e₁ ∙ sym (length-append fs (f ∷ []))
 pub counted : {A : Type 0} (t : List ℕ) (n i : ℕ) (g : List Finding → A) {a : A} → i ≤ n → n ≤ i → a ≡ g (findings_in t i) → a ≡ g (findings_in t n)
 counted t n i g l h e = let q : i ≡ n = omega arith in rw (sym q) e
 
--- ---- reading a fault back
-module _ (t : List ℕ) (b k x w : ℕ) (c d : Clock) (i : k ≡ get_or t b 0) (j : x ≡ get_or t (b + 1) 0) (u : w ≡ get_or t (b + 2) 0) (p : c ≡ clock_in t (b + 4)) (q : d ≡ clock_in t (b + 21)) where
-  pub read_left : k ≡ 1 → left_elsewhere x c d (eqb w 1) ≡ (fault_in t b).fault
-  read_left h = rw (j, u, p, q, sym i ∙ h)
-
-  pub read-used : k ≡ 2 → used_elsewhere x c d ≡ (fault_in t b).fault
-  read-used h = rw (j, p, q, sym i ∙ h)
-
-  pub read-when : {m : Test} → k ≡ 3 → m ≡ test_of w → when_elsewhere (record { name = x; test = m }) d ≡ (fault_in t b).fault
-  read-when {m} h e = rw (e, j, u, q, sym i ∙ h)
-
-  pub read_name : (k ≡ 1 → ⊥) → (k ≡ 2 → ⊥) → (k ≡ 3 → ⊥) → clock_name_elsewhere x c d ≡ (fault_in t b).fault
-  read_name y z v =
-      let y' : get_or t b 0 ≡ 1 → ⊥ = λ e. y (i ∙ e) in
-      let z' : get_or t b 0 ≡ 2 → ⊥ = λ e. z (i ∙ e) in
-      let v' : get_or t b 0 ≡ 3 → ⊥ = λ e. v (i ∙ e) in
-      rw (ne_eqb _ _ y', ne_eqb _ _ z', ne_eqb _ _ v', j, p, q)
-
-pub found_as : (x : ℕ) (h : Fault) (g : NodeFault) → x ≡ g.equation → h ≡ g.fault → record { equation = x; fault = h } ≡ g
-found_as x h g i j = rw (i, j)
-
-pub found_none : (h : Fault) → h ≡ not_single_call → record { equation = 0; fault = h } ≡ no_fault
-found_none h e = rw e
-
--- ---- sites
-pub base-of : (b x : Bool) (c d : Clock) → c ≡ d → b ≡ is_base c → b ≡ x → is_base d ≡ x
-base-of b x c d e i j = ap is_base (sym e) ∙ (sym i ∙ j)
-
 -- ---- the sites of the first i rows, behind those of a table of clocks
-clocks-same : (t t' : List ℕ) (i n : ℕ) → ((k : ℕ) → k < 17 * (i + n) → get_or t' k 0 ≡ get_or t k 0) → clocks_from t' i n ≡ clocks_from t i n
-unfolding clocks_from
-clocks-same t t' i zero h = refl
-clocks-same t t' i (suc n) h =
-    let a : clock_in t' (17 * i) ≡ clock_in t (17 * i) = clock-same t t' (17 * i) (λ k u v. h k (omega arith)) in
-    let b : clocks_from t' (i + 1) n ≡ clocks_from t (i + 1) n = clocks-same t t' (i + 1) n (λ k u. h k (omega arith)) in
-    cc
+module _ (t : List ℕ) where
+  pub listed-none : (r : ClockTable) → Grown (λ cs. cs ++ sites (findings_in t 0)) r r
+  listed-none r = record { same_reference = refl; same_length = refl; held = λ cs h. rw ((none_yet t).1, append-nil cs) h }
 
-module _ (t : List ℕ) (n : ℕ) (c : Clock) (cs : List Clock) where
-  pub last-over : length t < 17 * n → RowsHold t n cs → RowsHold t n (cs ++ (c ∷ []))
-  unfolding RowsHold
-  last-over h (inl (a, e)) = absurd (omega arith)
-  last-over h (inr (a, b)) = inr (a, omega (arith, length-append cs (c ∷ [])))
+  module _ (i : ℕ) (r r' : ClockTable) where
+    pub listed_same : sites (findings_in t (i + 1)) ≡ sites (findings_in t i) → Grown (λ cs. cs ++ sites (findings_in t i)) r r' → Grown (λ cs. cs ++ sites (findings_in t (i + 1))) r r'
+    listed_same e g = rw e g
 
-  pub last-full : 17 * n ≤ length t → length t < 17 * (n + 1) → RowsHold t n cs → RowsHold t (n + 1) (cs ++ (c ∷ []))
-  unfolding RowsHold
-  last-full room full (inl (a, e)) =
-      let k : length cs ≡ n = ap length (sym e) ∙ rows.length_from t 0 n in
-      inr (full, omega (arith, length-append cs (c ∷ [])))
-  last-full room full (inr (a, b)) = absurd (omega arith)
-
-  pub last_stored : (t' : List ℕ) → 17 * n + 17 ≤ length t → length t' ≡ length t → clock_in t' (17 * n) ≡ c → Within t t' (17 * n) 17 → RowsHold t n cs → RowsHold t' (n + 1) (cs ++ (c ∷ []))
-  unfolding RowsHold
-  last_stored t' room len row same (inl (a, e)) =
-      let o : 0 + n ≡ n = omega arith in
-      let s : clocks_in t' n ≡ cs = clocks-same t t' 0 n (λ k u. same k (inl (omega arith))) ∙ e in
-      inl (omega arith, rw (add-one n) (rows.from_last t' 0 n ∙ rw (o, s, row)))
-  last_stored t' room len row same (inr (a, b)) = absurd (omega arith)
-
-pub listed-none : (t r : List ℕ) (m : ℕ) (cs : List Clock) → RowsHold r m cs → RowsHold r m (cs ++ sites (findings_in t 0))
-listed-none t r m cs h = rw ((none_yet t).1, append-nil cs) h
-
-pub listed_same : (t r : List ℕ) (i m : ℕ) (cs : List Clock) → sites (findings_in t (i + 1)) ≡ sites (findings_in t i) → RowsHold r m (cs ++ sites (findings_in t i)) → RowsHold r m (cs ++ sites (findings_in t (i + 1)))
-listed_same t r i m cs e h = rw e h
-
-pub listed_more : (t r : List ℕ) (i m : ℕ) (c d : Clock) (cs : List Clock) → sites (findings_in t (i + 1)) ≡ sites (findings_in t i) ++ (d ∷ []) → c ≡ d → RowsHold r m ((cs ++ sites (findings_in t i)) ++ (c ∷ [])) → RowsHold r m (cs ++ sites (findings_in t (i + 1)))
-listed_more t r i m c d cs e q h = rw (e, sym q, ← append_assoc cs (sites (findings_in t i)) (c ∷ [])) h
-
-pub listed-all : (t : List ℕ) (n i : ℕ) (r : List ℕ) (m : ℕ) (cs : List Clock) → i ≤ n → n ≤ i → RowsHold r m (cs ++ sites (findings_in t i)) → RowsHold r m (cs ++ sites (findings_in t n))
-listed-all t n i r m cs l h a = let q : i ≡ n = omega arith in rw (sym q) a
+    pub listed_more : (r'' : ClockTable) (c : Clock) → sites (findings_in t (i + 1)) ≡ sites (findings_in t i) ++ (c ∷ []) → Grown (λ cs. cs ++ sites (findings_in t i)) r r' → Grown (λ cs. cs ++ (c ∷ [])) r' r''
+        → Grown (λ cs. cs ++ sites (findings_in t (i + 1))) r r''
+    listed_more r'' c e g h =
+        record {
+          same_reference = h.same_reference ∙ g.same_reference;
+          same_length = h.same_length ∙ g.same_length;
+          held = λ cs k. rw (e, ← append_assoc cs (sites (findings_in t i)) (c ∷ [])) (h.held _ (g.held cs k));
+        }

@@ -2,13 +2,8 @@
 use Rattle.std.specs.Prelude.{ℕ, zero, suc, ◌+◌, ◌*◌, ◌≤◌, ◌<◌, ◌≡◌, List, [], ◌∷◌, Bool, true, false, ◌⊎◌, length, get_or, eqb, ltb}
 use Rattle.definitions.specs.Lists.{choose}
 use Rattle.definitions.specs.Clock.{Clock}
-use Rattle.definitions.specs.InferClocks.{Fault, left_elsewhere, used_elsewhere, when_elsewhere, clock_name_elsewhere, not_single_call, NodeFault, Finding, found, site, too_deep}
+use Rattle.definitions.specs.InferClocks.{Fault, left_elsewhere, used_elsewhere, when_elsewhere, clock_name_elsewhere, NodeFault, Finding, found, site, too_deep}
 use Rattle.clock_tables.specs.Flat.{test_of, clock_in}
-
--- a flag as a word
-abbrev pub flag_word : Bool → ℕ
-flag_word true = 1
-flag_word false = 0
 
 -- the fault of this number, a name, a flag, the name's clock and the clock expected
 abbrev pub fault_as : ℕ → ℕ → ℕ → Clock → Clock → Fault
@@ -30,6 +25,12 @@ module _ (t : List ℕ) (b : ℕ) where
   abbrev pub finding_in : Finding
   finding_in = finding_as (get_or t b 0) (get_or t (b + 1) 0) (get_or t (b + 2) 0) (get_or t (b + 3) 0) (clock_in t (b + 4)) (clock_in t (b + 21))
 
+-- is a finding a fault?
+abbrev pub is_fault : Finding → Bool
+is_fault (found f) = true
+is_fault (site c) = false
+is_fault too_deep = false
+
 -- the findings of n rows, from row i on
 unfoldable pub findings_from : List ℕ → ℕ → ℕ → List Finding
 findings_from t i zero = []
@@ -42,7 +43,3 @@ findings_in t n = findings_from t 0 n
 -- the first n rows are these findings; or there are more findings than rows, and n says so
 unfoldable pub FindingsHeld : List ℕ → ℕ → List Finding → Type 0
 FindingsHeld t n fs = ((38 * n ≤ length t) × (findings_in t n ≡ fs)) ⊎ ((length t < 38 * n) × (length t < 38 * length fs))
-
--- what stands for a fault that there is not
-abbrev pub no_fault : NodeFault
-no_fault = record { equation = 0; fault = not_single_call }

@@ -1,22 +1,42 @@
--- The fault that a struct stands for.
+-- The faults and findings that values stand for.
+use Rattle.std.specs.Prelude.{Option, None, Some}
+use mathlib.Core.Option as maybe
+use Rattle.std.proofs.Math.Option.{none, some}
 use Rattle.definitions.specs.InferClocks as rules
-use Rattle.definitions.specs.InferClocks.{left_elsewhere, used_elsewhere, when_elsewhere, clock_name_elsewhere, undeclared, no_default, no_output_default, not_single_call, pre_untyped}
+use Rattle.definitions.specs.InferClocks.{left_elsewhere, used_elsewhere, when_elsewhere, clock_name_elsewhere, undeclared, no_default, no_output_default, not_single_call, pre_untyped, NodeFault, found, site, too_deep}
 use Rattle.clock_tables.specs.Value.{value_of}
-use Rattle.findings.specs.declared.FaultKind.{FaultKind}
+use Rattle.findings.specs.declared.ClockFault.{ClockFault}
 use Rattle.findings.specs.declared.Fault.{Fault}
+use Rattle.findings.specs.declared.Found.{Found}
+use Rattle.findings.specs.declared.Finding.{Finding}
 
--- a struct's fields, read as a kind has them
-abbrev pub fault_as : FaultKind → Fault → rules.Fault
-fault_as FaultKind.LeftElsewhere f = left_elsewhere f.name (value_of f.on) (value_of f.expected) f.port
-fault_as FaultKind.UsedElsewhere f = used_elsewhere f.name (value_of f.on) (value_of f.expected)
-fault_as FaultKind.WhenElsewhere f = when_elsewhere (record { name = f.name; test = f.test }) (value_of f.expected)
-fault_as FaultKind.ClockNameElsewhere f = clock_name_elsewhere f.name (value_of f.on) (value_of f.expected)
-fault_as FaultKind.Undeclared f = undeclared f.name
-fault_as FaultKind.NoDefault f = no_default f.name
-fault_as FaultKind.NoOutputDefault f = no_output_default f.name f.other
-fault_as FaultKind.NotSingleCall f = not_single_call
-fault_as FaultKind.PreUntyped f = pre_untyped
+-- a clock fault
+abbrev pub clock_fault_of : ClockFault → rules.Fault
+clock_fault_of (ClockFault.LeftElsewhere x c d p) = left_elsewhere x (value_of c) (value_of d) p
+clock_fault_of (ClockFault.UsedElsewhere x c d) = used_elsewhere x (value_of c) (value_of d)
+clock_fault_of (ClockFault.WhenElsewhere k d) = when_elsewhere k (value_of d)
+clock_fault_of (ClockFault.ClockNameElsewhere x c d) = clock_name_elsewhere x (value_of c) (value_of d)
 
--- a struct's fault
+-- a fault
 abbrev pub fault_of : Fault → rules.Fault
-fault_of f = fault_as f.kind f
+fault_of (Fault.Clock f) = clock_fault_of f
+fault_of (Fault.Undeclared x) = undeclared x
+fault_of (Fault.NoDefault x) = no_default x
+fault_of (Fault.NoOutputDefault x f) = no_output_default x f
+fault_of Fault.NotSingleCall = not_single_call
+fault_of Fault.PreUntyped = pre_untyped
+
+-- a fault with its equation
+abbrev pub node_fault_of : Found → NodeFault
+node_fault_of f = record { equation = f.equation; fault = fault_of f.fault }
+
+-- the same, if there is one
+abbrev pub found_of : Option Found → maybe.Option NodeFault
+found_of None = none
+found_of (Some f) = some (node_fault_of f)
+
+-- what checking meets
+abbrev pub finding_of : Finding → rules.Finding
+finding_of (Finding.Fault i f) = found (record { equation = i; fault = clock_fault_of f })
+finding_of (Finding.Site c) = site (value_of c)
+finding_of Finding.Deep = too_deep

@@ -9,21 +9,22 @@ use native.Mathlib.Omega.{arith}
 use lib.ListN.{length, get_or, get_elem?, length-map}
 use Rattle.definitions.specs.Lists.{choose}
 use Rattle.definitions.specs.Tokens.{TagValue}
-use Rattle.definitions.specs.Bytes.{tokens}
+use Rattle.grammar.specs.Read.{tokens_of}
 use Rattle.definitions.specs.Tree.{TypeDef, Node}
 use Rattle.definitions.specs.Reading.{got}
 use Rattle.definitions.specs.Grammar.{node}
 use Rattle.definitions.specs.Refusals.{accepted}
-use Rattle.definitions.specs.InferClocks.{Formed, formed, Fault, NodeFault, Clocked, Clocking, Finding, clocking, clock_faults, uses_clocks}
+use Rattle.definitions.specs.InferClocks.{formed, Fault, NodeFault, Clocked, Clocking, Finding, clocking, clock_faults, uses_clocks}
 use Rattle.definitions.specs.Output.{condact_id, ClockedNode, node_faults}
 use Rattle.definitions.specs.Answer.{Input, clockings}
 use Rattle.shapes.proofs.Clockless.{no-node-faults}
 use Rattle.layout.specs.declared.NodeLayout.{NodeLayout}
 use Rattle.layout.specs.Laid.{LaidNode}
 use Rattle.lines.proofs.Laws.{clocked-many}
-use Rattle.findings.specs.Value.{fault_of}
-use Rattle.findings.specs.Findings.{findings_in, no_fault}
+use Rattle.findings.specs.Value.{node_fault_of}
+use Rattle.findings.specs.Findings.{findings_in}
 use Rattle.infer_clocks.specs.declared.NodeClocked.{NodeClocked}
+use Rattle.clock_tables.specs.declared.TooDeep.{TooDeep}
 use Rattle.infer_clocks.specs.Clocked.{is_deep, ClocksStand, ClockedOrDeep, SitesTold}
 use Rattle.checking.proofs.Only.{sites-alone}
 use Rattle.skeleton.specs.Sites.{EquationsSited}
@@ -32,35 +33,20 @@ use Rattle.stateless.proofs.Nodes.{clockings-form, node-here, node-checks, same-
 use Rattle.stateless.proofs.Stops as stops
 use Rattle.index.specs.declared.Index.{Index}
 use Rattle.index.specs.Indexed.{Indexed}
-use Rattle.node_plan.specs.declared.Outcome.{Outcome}
-use Rattle.node_plan.specs.Outcomes.{in_equation, met_by, PlansNode}
-use Rattle.first_faults.specs.declared.FaultFound.{FaultFound}
+use Rattle.stateless.specs.declared.Counts.{Counts}
+use Rattle.node_plan.specs.Outcomes.{met_by, PlansNode}
+use Rattle.std.specs.Prelude.{Result, Ok, Err}
+use Rattle.findings.specs.declared.Found.{Found}
+use Rattle.workspace.specs.declared.Working.{Working}
 use Rattle.first_faults.specs.declared.NodeFound.{NodeFound}
-use Rattle.first_faults.specs.Faults.{found_of, fault_in, FoundIn, NodeMet}
-
--- ---- an item of a list
-pub item-none : {A : Type 0} (l : List A) (j : ℕ) → length l ≤ j → get_elem? l j ≡ none
-item-none [] j h = refl
-item-none (a ∷ l) zero h = absurd (omega arith)
-item-none (a ∷ l) (suc j) h = item-none l j (omega arith)
-
-pub not-past : {A : Type 0} (l : List A) (j : ℕ) (a : A) → get_elem? l j ≡ some a → length l ≤ j → ⊥
-not-past l j a e h = none-ne-some a (sym (item-none l j h) ∙ e)
-
-item-some : {A : Type 0} (l : List A) (j : ℕ) (d : A) → j < length l → get_elem? l j ≡ some (get_or l j d)
-item-some [] j d h = absurd (omega arith)
-item-some (a ∷ l) zero d h = refl
-item-some (a ∷ l) (suc j) d h = item-some l j d (omega arith)
-
--- clock fault j, or none past the last
-module _ (t : List ℕ) (n m j : ℕ) (e : m ≡ length (clock_faults (findings_in t n))) where
-  pub item-found : (x : NodeFault) → j < m → x ≡ get_or (clock_faults (findings_in t n)) j no_fault → some x ≡ get_elem? (clock_faults (findings_in t n)) j
-  item-found x h f = ap some f ∙ sym (item-some (clock_faults (findings_in t n)) j no_fault (omega arith))
-
-  pub item-past : (o : Option NodeFault) → o ≡ none → m ≤ j → o ≡ get_elem? (clock_faults (findings_in t n)) j
-  item-past o f h = f ∙ sym (item-none (clock_faults (findings_in t n)) j (omega arith))
+use Rattle.first_faults.specs.Faults.{fault_in, fault_found, deep_found, FoundIn, NodeMet}
 
 -- ---- which fault is fault j
+none-first : {A : Type 0} (l : List A) (j : ℕ) → j ≡ 0 → get_elem? l j ≡ none → l ≡ []
+none-first [] j z e = refl
+none-first (a ∷ l) zero z e = absurd (none-ne-some a (sym e))
+none-first (a ∷ l) (suc j) z e = absurd (omega arith)
+
 none_in : {A : Type 0} (l : List A) → length l ≤ 0 → l ≡ []
 none_in [] h = refl
 none_in (a ∷ l) h = absurd (omega arith)
@@ -112,30 +98,19 @@ module _ (r : Input) (n : Node) (k : Clocking) (t : List ℕ) (m count j : ℕ) 
         ∙ by_first (stops.fault_of r.sheet r.names (record { node = n; clocking = k }))))
 
 -- ---- a node whose clocks are formed, by what inference tells
-clocks-as : (env tb : List ℕ) (M : ℕ) (a b : NodeClocked) (v : Formed Clocking) → a ≡ b → ClockedOrDeep env tb M a v → ClockedOrDeep env tb M b v
-clocks-as env tb M a b v e c = subst (λ (x : NodeClocked). ClockedOrDeep env tb M x v) e c
-
-module _ (env tb : List ℕ) (M : ℕ) (n : Node) (k : Clocking) (a : NodeClocked) (f : clocking n ≡ formed k) (C : ClockedOrDeep env tb M a (clocking n)) where
-  pub none_deep : a ≡ NodeClocked.Deep → ⊥
+module _ (env tb : List ℕ) (M : ℕ) (n : Node) (k : Clocking) (a : Result NodeClocked TooDeep) (f : clocking n ≡ formed k) (C : ClockedOrDeep env tb M a (clocking n)) where
+  pub none_deep : (d : TooDeep) → a ≡ Err d → ⊥
   unfolding ClockedOrDeep
-  none_deep e = not-too-deep n k f (clocks-as env tb M a NodeClocked.Deep (clocking n) e C)
+  none_deep d e = let c : ClockedOrDeep env tb M (Err d) (clocking n) = rw e at C in not-too-deep n k f c
 
-  pub tells : (passes m : ℕ) → a ≡ NodeClocked.Clocked passes m → ClocksStand env tb M passes m k
+  pub tells : (t : NodeClocked) → a ≡ Ok t → ClocksStand env tb M t.passes t.findings k
   unfolding ClockedOrDeep
-  tells passes m e =
-      let c = clocks-as env tb M a (NodeClocked.Clocked passes m) (clocking n) e C in
-      subst (λ (x : Clocking). ClocksStand env tb M passes m x) (same-clocking n c.0 k c.1 f) c.2
-
--- ---- what planning met
-told-met : (b : Bool) (e : ℕ) (f : Fault) → ◌≡◌ {A = Option NodeFault} (choose b (some (record { equation = e; fault = f })) none) (in_equation e (choose b (some f) none))
-told-met true e f = refl
-told-met false e f = refl
-
-pub met-as : (a : FaultFound) (o : Outcome) → a.found ≡ o.met.found → a.equation ≡ o.equation → a.fault ≡ o.met.fault → found_of a ≡ met_by o
-met-as a o x y z = rw (x, y, z) (told-met o.met.found o.equation (fault_of o.met.fault))
+  tells t e =
+      let c : ClockedOrDeep env tb M (Ok t) (clocking n) = rw e at C in
+      subst (λ (x : Clocking). ClocksStand env tb M t.passes t.findings x) (same-clocking n c.0 k c.1 f) c.2
 
 -- by the id of `condact` that the index has
-pub by-condact : (M : ℕ) (gs vs plan flags firsts holds types : List ℕ) (tys : List TypeDef) (ns : List Node) (n : Node) (g h : ℕ) (cs : List Clocked) (p q : ℕ) (o : Outcome) → g ≡ h
+pub by-condact : (M : ℕ) (gs vs plan flags firsts holds types : List ℕ) (tys : List TypeDef) (ns : List Node) (n : Node) (g h : ℕ) (cs : List Clocked) (p q : ℕ) (o : Result Counts Found) → g ≡ h
     → PlansNode M gs vs plan flags firsts holds types tys ns n g cs p q o → PlansNode M gs vs plan flags firsts holds types tys ns n h cs p q o
 by-condact M gs vs plan flags firsts holds types tys ns n g h cs p q o e x = subst (λ (i : ℕ). PlansNode M gs vs plan flags firsts holds types tys ns n i cs p q o) e x
 
@@ -150,41 +125,52 @@ pub all-sited : (M : ℕ) (gs vs sites : List ℕ) (n : Node) (k : Clocking) (p 
 all-sited M gs vs sites n k p q f z s = s.sited (sites-alone k.findings z (node-checks n k f).shallow)
 
 -- ---- what is found in a clocked node
-module _ (M : ℕ) (gs vs sites plan flags firsts holds types : List ℕ) (r : Input) (n : Node) (k : Clocking) (l : NodeLayout) (t : List ℕ) (m count j : ℕ) (all : findings_in t m ≡ k.findings)
+module _ (x : Index) (w : Working) (holds : List ℕ) (r : Input) (n : Node) (k : Clocking) (l : NodeLayout) (t : List ℕ) (m count j : ℕ) (all : findings_in t m ≡ k.findings)
     (counted : count ≡ length (clock_faults (findings_in t m))) (uses : uses_clocks n ≡ true) where
   abbrev this : ClockedNode
   this = record { node = n; clocking = k }
 
   -- a clock fault: the node has faults
-  pub found-clock : (a : NodeFound) (o : FaultFound) → a.fault ≡ o → 0 < count → found_of o ≡ get_elem? (clock_faults (findings_in t m)) j → FoundIn M gs vs sites plan flags firsts holds types r this l j a
-  found-clock a o same h e = record {
-    fault = ap found_of same ∙ from-clocks r n k t m count j (found_of o) all counted h e;
-    sited = λ z none. absurd (faulty none);
-    planned = λ z none. absurd (faulty none);
-  }
+  pub found-clock : (a : NodeFound) (o : Option NodeFault) → fault_found a ≡ o → 0 < count → o ≡ get_elem? (clock_faults (findings_in t m)) j → FoundIn x w holds r this l j a
+  found-clock a o same h e =
+      let f = same ∙ from-clocks r n k t m count j o all counted h e in
+      record { fault = f; sited = λ z none. absurd (faulty none); planned = λ s z c. absurd (faulty (none-first (node_faults r.names r.sheet this) j z (sym f ∙ ap fault_found c))) }
     where
       faulty : node_faults r.names r.sheet this ≡ [] → ⊥
       faulty clean = omega (arith, h, counted, ap (λ (x : List Finding). length (clock_faults x)) all, ap length (faultless r.names r.sheet this clean).0)
 
   -- none but the first
-  pub found-later : (a : NodeFound) → count ≤ 0 → 0 < j → found_of a.fault ≡ none → FoundIn M gs vs sites plan flags firsts holds types r this l j a
-  found-later a h later e = record { fault = none-later r n k t m count j (found_of a.fault) all counted h later e; sited = λ z none. absurd (omega arith); planned = λ z none. absurd (omega arith) }
+  pub found-later : (a : NodeFound) → count ≤ 0 → 0 < j → fault_found a ≡ none → FoundIn x w holds r this l j a
+  found-later a h later e = record { fault = none-later r n k t m count j (fault_found a) all counted h later e; sited = λ z none. absurd (omega arith); planned = λ s z c. absurd (omega arith) }
 
   -- what planning met
-  pub found-planned : (a : NodeFound) (o : Outcome) → found_of a.fault ≡ met_by o → a.counts ≡ o.counts → count ≤ 0 → j ≤ 0
-      → PlansNode M gs vs plan flags firsts holds types r.sheet.types r.sheet.nodes n (condact_id r.names) k.equations l.equations.at l.equations.end o
-      → EquationsSited M gs vs sites k.equations l.equations.at l.equations.end → FoundIn M gs vs sites plan flags firsts holds types r this l j a
-  found-planned a o same counts h first p s = record {
-    fault = from-rewriting r n k t m count j (found_of a.fault) all counted h first uses (same ∙ p.met);
-    sited = λ z none. s;
-    planned = λ z none. rw counts (p.planned ((faultless r.names r.sheet this none).1 uses));
-  }
+  module _ (o : Result Counts Found) (h : count ≤ 0) (first : j ≤ 0) (p : PlansNode x.source.names x.source.tags.now x.source.values.now w.chain.now w.table.now w.env.now holds w.rows.now r.sheet.types r.sheet.nodes n (condact_id r.names) k.equations l.equations.at l.equations.end o)
+      (sited : EquationsSited x.source.names x.source.tags.now x.source.values.now w.sites.now k.equations l.equations.at l.equations.end) where
+    pub found-clean : (s : Counts) → o ≡ Ok s → FoundIn x w holds r this l j (NodeFound.Clean s)
+    found-clean s e = record {
+      fault = from-rewriting r n k t m count j none all counted h first uses (sym (ap met_by e) ∙ p.met);
+      sited = λ z none. sited;
+      planned = λ s' z c. p.planned s' (e ∙ same s s' c);
+    }
+      where
+        same : (s s' : Counts) → NodeFound.Clean s ≡ NodeFound.Clean s' → ◌≡◌ {A = Result Counts Found} (Ok s) (Ok s')
+        same s s' c = cc
+
+    pub found-faulty : (f : Found) → o ≡ Err f → FoundIn x w holds r this l j (NodeFound.Faulty f)
+    found-faulty f e = record {
+      fault = from-rewriting r n k t m count j (some (node_fault_of f)) all counted h first uses (sym (ap met_by e) ∙ p.met);
+      sited = λ z none. sited;
+      planned = λ s z c. absurd (other f s c);
+    }
+      where
+        other : (f : Found) (s : Counts) → NodeFound.Faulty f ≡ NodeFound.Clean s → ⊥
+        other f s c = cc
 
 -- ---- node k
-module _ (gs vs : List ℕ) (t : Index) (r : Input) (ns : List ClockedNode) (h : Indexed gs vs t r) (f : clockings 0 r.sheet.nodes ≡ accepted ns) (k j : ℕ) where
-  pub at-node : (o : Option NodeFault) (l : NodeLayout) → k < t.nodes
-      → ((n : Node) (q : ℕ) → node t.names (tokens gs vs) (get_or t.places k 0) ≡ got n q → LaidNode t.names (tokens gs vs) n q l)
-      → ((n : Node) (q : ℕ) (c : Clocking) → LaidNode t.names (tokens gs vs) n q l → clocking n ≡ formed c → o ≡ get_elem? (node_faults r.names r.sheet (record { node = n; clocking = c })) j)
+module _ (t : Index) (r : Input) (ns : List ClockedNode) (h : Indexed t r) (f : clockings 0 r.sheet.nodes ≡ accepted ns) (k j : ℕ) where
+  pub at-node : (o : Option NodeFault) (l : NodeLayout) → k < t.nodes.count
+      → ((n : Node) (q : ℕ) → node t.source.names (tokens_of t.source) (get_or t.nodes.at k 0) ≡ got n q → LaidNode t.source.names (tokens_of t.source) n q l)
+      → ((n : Node) (q : ℕ) (c : Clocking) → LaidNode t.source.names (tokens_of t.source) n q l → clocking n ≡ formed c → o ≡ get_elem? (node_faults r.names r.sheet (record { node = n; clocking = c })) j)
       → o ≡ fault_in r (get_elem? ns k) j
   at-node o l few L F =
       let here = node-here (clockings-form 0 r.sheet.nodes ns f) k (omega (arith, few, h.nodes.count)) in
@@ -193,25 +179,25 @@ module _ (gs vs : List ℕ) (t : Index) (r : Input) (ns : List ClockedNode) (h :
       ∙ sym (ap (λ (x : Option ClockedNode). fault_in r x j) here.here)
 
 -- it is laid out where it stands
-pub laid-at : {P : Type 0} (gs vs : List ℕ) (t : Index) (r : Input) → Indexed gs vs t r → (k : ℕ) (n : Node) → get_elem? r.sheet.nodes k ≡ some n → (l : NodeLayout)
-    → ((n : Node) (q : ℕ) → node t.names (tokens gs vs) (get_or t.places k 0) ≡ got n q → LaidNode t.names (tokens gs vs) n q l)
-    → ((q : ℕ) → LaidNode t.names (tokens gs vs) n q l → P) → P
-laid-at gs vs t r h k n e l L F = let p = h.nodes.each.stands k n e in F p.0 (L n p.0 p.1)
+pub laid-at : {P : Type 0} (t : Index) (r : Input) → Indexed t r → (k : ℕ) (n : Node) → get_elem? r.sheet.nodes k ≡ some n → (l : NodeLayout)
+    → ((n : Node) (q : ℕ) → node t.source.names (tokens_of t.source) (get_or t.nodes.at k 0) ≡ got n q → LaidNode t.source.names (tokens_of t.source) n q l)
+    → ((q : ℕ) → LaidNode t.source.names (tokens_of t.source) n q l → P) → P
+laid-at t r h k n e l L F = let p = h.nodes.each.stands k n e in F p.0 (L n p.0 p.1)
 
 -- ---- node k, which has this layout
-module _ (gs vs : List ℕ) (t : Index) (k : ℕ) (l : NodeLayout) (L : (n : Node) (q : ℕ) → node t.names (tokens gs vs) (get_or t.places k 0) ≡ got n q → LaidNode t.names (tokens gs vs) n q l) (few : k < t.nodes)
-    (a : NodeFound) (deep : (n : Node) (q : ℕ) → LaidNode t.names (tokens gs vs) n q l → a.deep ≡ is_deep (clocking n)) where
+module _ (t : Index) (k : ℕ) (l : NodeLayout) (L : (n : Node) (q : ℕ) → node t.source.names (tokens_of t.source) (get_or t.nodes.at k 0) ≡ got n q → LaidNode t.source.names (tokens_of t.source) n q l) (few : k < t.nodes.count)
+    (a : NodeFound) (deep : (n : Node) (q : ℕ) → LaidNode t.source.names (tokens_of t.source) n q l → deep_found a ≡ is_deep (clocking n)) where
   -- it uses clocks
-  pub met-clocked : ((r : Input) (n : Node) (q : ℕ) (c : Clocking) → Indexed gs vs t r → LaidNode t.names (tokens gs vs) n q l → clocking n ≡ formed c → found_of a.fault ≡ get_elem? (node_faults r.names r.sheet (record { node = n; clocking = c })) 0)
-      → NodeMet gs vs t k a
+  pub met-clocked : ((r : Input) (n : Node) (q : ℕ) (c : Clocking) → Indexed t r → LaidNode t.source.names (tokens_of t.source) n q l → clocking n ≡ formed c → fault_found a ≡ get_elem? (node_faults r.names r.sheet (record { node = n; clocking = c })) 0)
+      → NodeMet t k a
   met-clocked fault = record {
-    deep = λ r n h here. laid-at gs vs t r h k n here l L (deep n);
-    fault = λ r ns h f. at-node gs vs t r ns h f k 0 (found_of a.fault) l few L (λ n q c d e. fault r n q c h d e);
+    deep = λ r n h here. laid-at t r h k n here l L (deep n);
+    fault = λ r ns h f. at-node t r ns h f k 0 (fault_found a) l few L (λ n q c d e. fault r n q c h d e);
   }
 
   -- it uses none
-  pub met-unclocked : ((n : Node) (q : ℕ) → LaidNode t.names (tokens gs vs) n q l → uses_clocks n ≡ false) → found_of a.fault ≡ none → NodeMet gs vs t k a
+  pub met-unclocked : ((n : Node) (q : ℕ) → LaidNode t.source.names (tokens_of t.source) n q l → uses_clocks n ≡ false) → fault_found a ≡ none → NodeMet t k a
   met-unclocked unused nothing = record {
-    deep = λ r n h here. laid-at gs vs t r h k n here l L (deep n);
-    fault = λ r ns h f. at-node gs vs t r ns h f k 0 (found_of a.fault) l few L (λ n q c d e. none-unclocked r n c 0 (found_of a.fault) (unused n q d) e nothing);
+    deep = λ r n h here. laid-at t r h k n here l L (deep n);
+    fault = λ r ns h f. at-node t r ns h f k 0 (fault_found a) l few L (λ n q c d e. none-unclocked r n c 0 (fault_found a) (unused n q d) e nothing);
   }

@@ -4,7 +4,7 @@ use Prim.Native.Nat.{ℕ, zero, suc, ◌+◌, ◌*◌, ◌/◌, ◌≤◌, ◌<�
 use mathlib.Core.Path.{◌≡◌, refl, sym, ap, ◌∙◌, subst}
 use mathlib.Core.List.{List, [], ◌∷◌, ◌++◌, map, append-nil}
 use mathlib.Core.Bool.{Bool, true, false}
-use mathlib.Core.Option.{Option, none, some}
+use mathlib.Core.Option.{Option, none, some, none-ne-some, some-injective}
 use native.Mathlib.Omega.{arith}
 use native.Mathlib.Numerals.{add-one}
 use lib.Dec.{leb}
@@ -75,25 +75,20 @@ entries-more lent l a b h e =
     ∙ (ap (λ (x : List ℕ). over x lent) (sym (join_last record_words l a)) ∙ sym (entries-all lent (l ++ (a ∷ [])) m)))))
 
 -- ---- the first of a node's faults behind others
-module _ (lent : List ℕ) (l : List FaultRecord) (m : ℕ) (now : List ℕ) (h : Recorded lent l m now) (node : ℕ) (fs : List NodeFault) (b : Bool) (e : ℕ) (f : Fault)
-    (told : choose b (some (record { equation = e; fault = f })) none ≡ get_elem? fs 0) where
+module _ (lent : List ℕ) (l : List FaultRecord) (m : ℕ) (now : List ℕ) (h : Recorded lent l m now) (node : ℕ) where
   -- there is none
-  pub record-none : b ≡ false → Recorded lent (l ++ first_of node fs) m now
-  record-none u = go b fs u told
-    where
-      go : (b : Bool) (fs : List NodeFault) → b ≡ false → choose b (some (record { equation = e; fault = f })) none ≡ get_elem? fs 0 → Recorded lent (l ++ first_of node fs) m now
-      go true fs u t = let z : ◌≡◌ {A = ℕ} 0 1 = cc in absurd (omega arith)
-      go false [] u t = record { counted = h.counted ∙ ap length (sym (append-nil l)); written = h.written ∙ ap (λ (x : List FaultRecord). entries_over 3 (map record_words x) lent) (sym (append-nil l)) }
-      go false (g ∷ fs) u t = let z : ◌≡◌ {A = ℕ} 0 1 = cc in absurd (omega arith)
+  pub record-none : (fs : List NodeFault) → none ≡ get_elem? fs 0 → Recorded lent (l ++ first_of node fs) m now
+  record-none [] e = record { counted = h.counted ∙ ap length (sym (append-nil l)); written = h.written ∙ ap (λ (x : List FaultRecord). entries_over 3 (map record_words x) lent) (sym (append-nil l)) }
+  record-none (g ∷ fs) e = absurd (none-ne-some g e)
 
-  -- there is one: its record
-  first-is : b ≡ true → first_of node fs ≡ record { node = node; fault = fault_number f; equation = e } ∷ []
-  first-is u = go b fs u told
+-- there is one: its record
+module _ (lent : List ℕ) (l : List FaultRecord) (m : ℕ) (now : List ℕ) (h : Recorded lent l m now) (node : ℕ) (fs : List NodeFault) (f : NodeFault) (told : some f ≡ get_elem? fs 0) where
+  first-is : first_of node fs ≡ record { node = node; fault = fault_number f.fault; equation = f.equation } ∷ []
+  first-is = go fs told
     where
-      go : (b : Bool) (fs : List NodeFault) → b ≡ true → choose b (some (record { equation = e; fault = f })) none ≡ get_elem? fs 0 → first_of node fs ≡ record { node = node; fault = fault_number f; equation = e } ∷ []
-      go false fs u t = let z : ◌≡◌ {A = ℕ} 0 1 = cc in absurd (omega arith)
-      go true [] u t = let z : ◌≡◌ {A = ℕ} 0 1 = cc in absurd (omega arith)
-      go true (g ∷ fs) u t = let x : g ≡ record { equation = e; fault = f } = cc in ap (λ (y : NodeFault). record { node = node; fault = fault_number y.fault; equation = y.equation } ∷ []) x
+      go : (fs : List NodeFault) → some f ≡ get_elem? fs 0 → first_of node fs ≡ record { node = node; fault = fault_number f.fault; equation = f.equation } ∷ []
+      go [] e = absurd (none-ne-some f (sym e))
+      go (g ∷ fs) e = ap (λ (y : NodeFault). record { node = node; fault = fault_number y.fault; equation = y.equation } ∷ []) (sym (some-injective f g e))
 
   one_more : (a : FaultRecord) → first_of node fs ≡ a ∷ [] → m + 1 ≡ length (l ++ first_of node fs)
   one_more a x = omega (arith, h.counted, length-append l (first_of node fs), ap length x)
@@ -102,24 +97,24 @@ module _ (lent : List ℕ) (l : List FaultRecord) (m : ℕ) (now : List ℕ) (h 
   long = ap length h.written ∙ entries-long lent (map record_words l)
 
   -- the list does not reach so far
-  pub record-past : b ≡ true → length now / 3 ≤ m → Recorded lent (l ++ first_of node fs) (m + 1) now
-  record-past u past =
-      let a : FaultRecord = record { node = node; fault = fault_number f; equation = e } in
-      let x = first-is u in
+  pub record-past : length now / 3 ≤ m → Recorded lent (l ++ first_of node fs) (m + 1) now
+  record-past past =
+      let a : FaultRecord = record { node = node; fault = fault_number f.fault; equation = f.equation } in
+      let x = first-is in
       let w : length lent / 3 ≤ length l = omega (arith, past, h.counted, ap (λ (n : ℕ). n / 3) long) in
       record { counted = one_more a x; written = h.written ∙ (entries-past lent l a w ∙ ap (λ (y : List FaultRecord). entries_over 3 (map record_words (l ++ y)) lent) (sym x)) }
 
   -- it does
-  pub record-more : b ≡ true → m < length now / 3 → (number : ℕ) (after : List ℕ) → number ≡ fault_number f → after ≡ over_at (3 * m) (node ∷ number ∷ e ∷ []) now → Recorded lent (l ++ first_of node fs) (m + 1) after
-  record-more u room number after g s =
-      let a : FaultRecord = record { node = node; fault = fault_number f; equation = e } in
-      let x = first-is u in
+  pub record-more : m < length now / 3 → (number : ℕ) (after : List ℕ) → number ≡ fault_number f.fault → after ≡ over_at (3 * m) (node ∷ number ∷ f.equation ∷ []) now → Recorded lent (l ++ first_of node fs) (m + 1) after
+  record-more room number after g s =
+      let a : FaultRecord = record { node = node; fault = fault_number f.fault; equation = f.equation } in
+      let x = first-is in
       let w : length l < length lent / 3 = omega (arith, room, h.counted, ap (λ (n : ℕ). n / 3) long) in
       let p : 3 * m ≡ 3 * length l = omega (arith, h.counted) in
       record {
         counted = one_more a x;
         written =
-            s ∙ (ap (λ (n : ℕ). over_at (3 * m) (node ∷ n ∷ e ∷ []) now) g
+            s ∙ (ap (λ (n : ℕ). over_at (3 * m) (node ∷ n ∷ f.equation ∷ []) now) g
             ∙ (ap (over_at (3 * m) (record_words a)) h.written
             ∙ (entries-more lent l a (3 * m) w p ∙ ap (λ (y : List FaultRecord). entries_over 3 (map record_words (l ++ y)) lent) (sym x))));
       }
@@ -146,8 +141,15 @@ take-most n k l f = go (leb (length l) k) refl
     go true e = let h = leb-true (length l) k e in take_all n l (omega (arith, f, h)) ∙ sym (take_all k l h)
     go false e = let h : n ≡ k = omega (arith, f, leb-false (length l) k e) in ap (λ (i : ℕ). take i l) h
 
+-- words that are copied over the front
+pub copied-front : (n : ℕ) (a l : List ℕ) → n ≤ length a → n ≤ length l → take n a ++ drop n l ≡ over (take n a) l
+copied-front zero a l h k = refl
+copied-front (suc n) [] l h k = absurd (omega arith)
+copied-front (suc n) (x ∷ a) [] h k = absurd (omega arith)
+copied-front (suc n) (x ∷ a) (y ∷ l) h k = ap (λ (r : List ℕ). x ∷ r) (copied-front n a l (omega arith) (omega arith))
+
 pub record-copied : (first kept lent after : List ℕ) (l : List FaultRecord) (m n : ℕ) → Recorded first l m kept → 3 * m ≤ length kept → n ≡ min m (length lent / 3)
-    → after ≡ over_at 0 (take (3 * n) kept) lent → Recorded lent l m after
+    → after ≡ over (take (3 * n) kept) lent → Recorded lent l m after
 unfolding entries_over
 record-copied first kept lent after l m n h room few e =
     let many = length-map l record_words in
@@ -155,7 +157,7 @@ record-copied first kept lent after l m n h room few e =
     let k = h.written ∙ entries-all first l (omega (arith, room, h.counted, long)) in
     let part = ap (take (3 * n)) k ∙ (take-over (3 * n) (join (map record_words l)) first (omega (arith, few, h.counted, words_long l)) (omega (arith, room, h.counted, long, words_long l)) ∙ take_words n l) in
     let same = take-most n (length lent / 3) (map record_words l) (few ∙ ap (λ (i : ℕ). min i (length lent / 3)) (h.counted ∙ sym many)) in
-    record { counted = h.counted; written = e ∙ (over-front (take (3 * n) kept) lent ∙ ap (λ (x : List ℕ). over x lent) (part ∙ ap join same)) }
+    record { counted = h.counted; written = e ∙ ap (λ (x : List ℕ). over x lent) (part ∙ ap join same) }
 
 -- ---- node after node
 module _ (r : Input) (ns : List ClockedNode) (clocks : clockings 0 r.sheet.nodes ≡ accepted ns) (lent : List ℕ) where

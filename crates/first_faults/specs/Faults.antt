@@ -1,56 +1,72 @@
 -- The faults of a sheet's nodes, and the list that first faults are put in.
-use Rattle.std.specs.Prelude.{ℕ, ◌*◌, ◌≤◌, ◌≡◌, List, [], map, length}
+use Rattle.std.specs.Prelude.{ℕ, ◌≡◌, List, [], map, length, Bool, true, false}
 use Rattle.std.proofs.Math.Option.{Option, none, some}
 use Rattle.std.proofs.Math.ListN.{get_elem?}
 use Rattle.definitions.specs.declared.FaultRecord.{FaultRecord}
 use Rattle.definitions.specs.Lists.{choose}
 use Rattle.definitions.specs.Tree.{Node}
-use Rattle.definitions.specs.InferClocks.{NodeFault, clocking}
+use Rattle.definitions.specs.InferClocks.{NodeFault, Clocked, Clocking, clocking}
 use Rattle.definitions.specs.Refusals.{accepted}
 use Rattle.definitions.specs.Output.{condact_id, ClockedNode, node_faults}
 use Rattle.definitions.specs.Answer.{Input, clockings}
-use Rattle.findings.specs.Value.{fault_of}
+use Rattle.findings.specs.Value.{node_fault_of}
+use Rattle.stateless.specs.declared.Counts.{Counts}
+use Rattle.grammar.specs.Read.{tokens_of}
 use Rattle.layout.specs.declared.NodeLayout.{NodeLayout}
-use Rattle.infer_clocks.specs.Clocked.{is_deep}
+use Rattle.layout.specs.Laid.{LaidNode}
+use Rattle.infer_clocks.specs.Clocked.{is_deep, SitesTold}
 use Rattle.skeleton.specs.Sites.{EquationsSited}
 use Rattle.index.specs.declared.Index.{Index}
 use Rattle.index.specs.Indexed.{Indexed}
 use Rattle.node_plan.specs.Outcomes.{NodePlanned}
+use Rattle.workspace.specs.declared.Working.{Working}
+use Rattle.workspace.specs.Room.{RoomToPlan}
 use Rattle.query.specs.Words.{record_words, entries_over}
-use Rattle.first_faults.specs.declared.FaultFound.{FaultFound}
 use Rattle.first_faults.specs.declared.NodeFound.{NodeFound}
 
--- the fault that an answer says, with its equation
-abbrev pub found_of : FaultFound → Option NodeFault
-found_of a = choose a.found (some (record { equation = a.equation; fault = fault_of a.fault })) none
+-- what is found: too deep a clock, or this fault
+abbrev pub deep_found : NodeFound → Bool
+deep_found NodeFound.Deep = true
+deep_found (NodeFound.Faulty f) = false
+deep_found (NodeFound.Clean s) = false
+
+abbrev pub fault_found : NodeFound → Option NodeFault
+fault_found NodeFound.Deep = none
+fault_found (NodeFound.Faulty f) = some (node_fault_of f)
+fault_found (NodeFound.Clean s) = none
 
 -- fault j of a node, from 0, if there are this node and this fault
 abbrev pub fault_in : Input → Option ClockedNode → ℕ → Option NodeFault
 fault_in r none j = none
 fault_in r (some n) j = get_elem? (node_faults r.names r.sheet n) j
 
--- the working tables have room for the clocks of M names, for what so many tokens let be found, for the clocks of sites, and for the types
--- of names and the plan of tokens
-pub record RoomToPlan (M many : ℕ) (env table sites types plan : List ℕ) : Type 0 where
-  pub few : M ≤ 1024
-  pub few-tokens : many ≤ 4096
-  pub clocks : 17 * M ≤ length env
-  pub found : 38 * many ≤ length table
-  pub sited : 17 * many ≤ length sites
-  pub typed : M ≤ length types
-  pub planned : many ≤ length plan
+-- the node n, which ends at q, has this layout among the tokens of an index
+abbrev pub LaidIn : Index → NodeLayout → Node → ℕ → Type 0
+LaidIn t l n q = LaidNode t.source.names (tokens_of t.source) n q l
 
--- the node n of the sheet r, which has this layout among M names: what was found is its fault j; and every site has its clock and the node
--- is planned, where it has no fault and the first was asked for
-pub record FoundIn (M : ℕ) (gs vs sites plan flags firsts holds types : List ℕ) (r : Input) (n : ClockedNode) (l : NodeLayout) (j : ℕ) (a : NodeFound) : Type 0 where
-  pub fault : found_of a.fault ≡ get_elem? (node_faults r.names r.sheet n) j
-  pub sited : j ≡ 0 → node_faults r.names r.sheet n ≡ [] → EquationsSited M gs vs sites n.clocking.equations l.equations.at l.equations.end
-  pub planned : j ≡ 0 → node_faults r.names r.sheet n ≡ [] → NodePlanned M gs vs plan flags firsts holds types r.sheet.types r.sheet.nodes n.node (condact_id r.names) n.clocking.equations l.equations.at l.equations.end a.counts
+-- every site of a node with this layout has its clock in a table
+abbrev pub SitedAt : Index → List ℕ → List Clocked → NodeLayout → Type 0
+SitedAt t sites cs l = EquationsSited t.source.names t.source.tags.now t.source.values.now sites cs l.equations.at l.equations.end
+
+-- the working tables have room to plan a node of the sheet with this index
+abbrev pub RoomIn : Index → Working → Type 0
+RoomIn t w = RoomToPlan t.source.names (length t.source.tags.now) w
+
+-- the sites of a node with this layout are told in the working tables, by its clocks
+abbrev pub SitesIn : Index → Working → Clocking → NodeLayout → Type 0
+SitesIn t w k l = SitesTold t.source.names t.source.tags.now t.source.values.now w.sites.now k.findings k.equations l.equations.at l.equations.end
+
+-- the node n of the sheet r, which has this layout in its index: what was found is its fault j; and every site has its clock and the node is
+-- planned in the working tables, where it has no fault and the first was asked for
+pub record FoundIn (t : Index) (w : Working) (holds : List ℕ) (r : Input) (n : ClockedNode) (l : NodeLayout) (j : ℕ) (a : NodeFound) : Type 0 where
+  pub fault : fault_found a ≡ get_elem? (node_faults r.names r.sheet n) j
+  pub sited : j ≡ 0 → node_faults r.names r.sheet n ≡ [] → SitedAt t w.sites.now n.clocking.equations l
+  pub planned : (s : Counts) → j ≡ 0 → a ≡ NodeFound.Clean s → NodePlanned t.source.names t.source.tags.now t.source.values.now w.chain.now w.table.now w.env.now holds w.rows.now r.sheet.types r.sheet.nodes n.node (condact_id r.names) n.clocking.equations l.equations.at l.equations.end s
 
 -- node k by the sheet's index: whether too deep a clock is formed in it, and its first fault
-pub record NodeMet (gs vs : List ℕ) (t : Index) (k : ℕ) (a : NodeFound) : Type 0 where
-  pub deep : (r : Input) (n : Node) → Indexed gs vs t r → get_elem? r.sheet.nodes k ≡ some n → a.deep ≡ is_deep (clocking n)
-  pub fault : (r : Input) (ns : List ClockedNode) → Indexed gs vs t r → clockings 0 r.sheet.nodes ≡ accepted ns → found_of a.fault ≡ fault_in r (get_elem? ns k) 0
+pub record NodeMet (t : Index) (k : ℕ) (a : NodeFound) : Type 0 where
+  pub deep : (r : Input) (n : Node) → Indexed t r → get_elem? r.sheet.nodes k ≡ some n → deep_found a ≡ is_deep (clocking n)
+  pub fault : (r : Input) (ns : List ClockedNode) → Indexed t r → clockings 0 r.sheet.nodes ≡ accepted ns → fault_found a ≡ fault_in r (get_elem? ns k) 0
 
 -- so many fault records, over the front of a lent list as far as it reaches in whole entries
 pub record Recorded (lent : List ℕ) (fs : List FaultRecord) (m : ℕ) (now : List ℕ) : Type 0 where

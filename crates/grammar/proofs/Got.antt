@@ -1,5 +1,6 @@
 -- What follows from a reading that gave something: its parts were read too, and it is made of theirs.
 -- Assumes nothing.
+use Rattle.std.specs.Prelude.{Result, Ok, Err}
 use mathlib.Core.Path.{◌≡◌, refl, sym, ◌∙◌, ap}
 use mathlib.Core.List.{List, [], ◌∷◌}
 use mathlib.Core.Bool.{Bool, true, false, ◌&&◌}
@@ -26,18 +27,17 @@ use Rattle.definitions.specs.Reading.{Got, got, rejected, Reader, after, allowed
 use Rattle.definitions.specs.Grammar.{value_at, tagged, counted, count, high, name, no_array, short_enough, typed, ty, append, exprs, fields, constant, form, expr, kind_at}
 use Rattle.definitions.specs.Grammar.{declaration, declarations, definition, type_def, equation, probe, node, sheet}
 use Rattle.definitions.specs.Bytes.{tokens}
-use Rattle.grammar.specs.declared.Read.{Read}
 use Rattle.grammar.specs.Outcome.{outcome}
 use Rattle.grammar.proofs.Laws.{after-got, wrap-got, there}
 use Rattle.grammar.proofs.Longer.{token-got}
 
 -- what was read was not refused
-pub no : {A : Type 0} (x : Got A) (a : A) (q : ℕ) (r : Read) (t : Refusal) → x ≡ got a q → r ≡ outcome x → r ≡ Read.Refused t → ⊥
-no x a q r t g e b = let f : Read.Next q ≡ Read.Refused t = sym (e ∙ ap outcome g) ∙ b in let z : ◌≡◌ {A = ℕ} 0 1 = cc in omega arith
+pub no : {A : Type 0} (x : Got A) (a : A) (q : ℕ) (r : Result ℕ Refusal) (t : Refusal) → x ≡ got a q → r ≡ outcome x → r ≡ Err t → ⊥
+no x a q r t g e b = let f : Ok q ≡ Err t = sym (e ∙ ap outcome g) ∙ b in let z : ◌≡◌ {A = ℕ} 0 1 = cc in omega arith
 
 -- the place after what was read is the one that the code finds
-pub same : {A : Type 0} (x : Got A) (a : A) (q : ℕ) (r : Read) (s : ℕ) → x ≡ got a q → r ≡ outcome x → r ≡ Read.Next s → q ≡ s
-same x a q r s g e b = let f : Read.Next q ≡ Read.Next s = sym (e ∙ ap outcome g) ∙ b in cc
+pub same : {A : Type 0} (x : Got A) (a : A) (q : ℕ) (r : Result ℕ Refusal) (s : ℕ) → x ≡ got a q → r ≡ outcome x → r ≡ Ok s → q ≡ s
+same x a q r s g e b = let f : Ok q ≡ Ok s = sym (e ∙ ap outcome g) ∙ b in cc
 
 -- a test that was passed
 pub limited-got : {A : Type 0} (test : A → Bool) (r : Reader A) (ts : List TagValue) (p : ℕ) (a : A) (q : ℕ) → limited test r ts p ≡ got a q → (r ts p ≡ got a q) × (test a ≡ true)

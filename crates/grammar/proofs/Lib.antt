@@ -2,7 +2,7 @@
 -- What this crate's proofs share.
 -- What the proofs of several functions use, and those of other crates.
 pub mod Back
-mod Outside
+pub mod Outside
 pub mod ReaderLaws
 pub mod Laws
 pub mod Shapes

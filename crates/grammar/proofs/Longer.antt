@@ -19,12 +19,7 @@ use Rattle.definitions.specs.Tree.{Ty, Head, Expr, Exprs}
 use Rattle.definitions.specs.Reading.{got, rejected, Reader, ◌>>=◌, return, allowed, at_token, token, limited, times}
 use Rattle.definitions.specs.Grammar.{tagged, counted, count, high, name, no_array, short_enough, typed, ty, exprs, fields, constant, iteration, form, expr, most_counted, deepest_type}
 use Rattle.definitions.specs.Grammar.{declaration, definition, type_def, equation, probe}
-use Rattle.definitions.specs.Bytes.{tokens}
-use Rattle.grammar.specs.declared.Read.{Read}
-use Rattle.grammar.specs.declared.Counted.{Counted}
-use Rattle.grammar.specs.declared.ExprHead.{ExprHead}
-use Rattle.grammar.specs.Outcome.{outcome, counts, expr_head}
-use Rattle.grammar.proofs.Laws.{after-got, next-got, count-got, expr-head-got, tokens-length}
+use Rattle.grammar.proofs.Laws.{after-got}
 
 -- it reads at least one token, and ends within the sheet
 abbrev pub Grows : {A : Type 0} → Reader A → Type 0
@@ -212,41 +207,3 @@ module _ (M : ℕ) where
   pub definition-grows : Grows (type_def M)
   unfolding type_def
   definition-grows = grows_then (token (definition_token_of M)) _ (token-grows (definition_token_of M)) definition-keeps
-
--- the same of the code's answers, over the two arrays
-module _ (ts vs : List ℕ) (same : length vs ≡ length ts) where
-  pub grown : {A : Type 0} (r : Reader A) → Grows r → (p : ℕ) (s : Read) (q : ℕ) → s ≡ outcome (r (tokens ts vs) p) → s ≡ Read.Next q → (p < q) × (q ≤ length ts)
-  grown r h p s q e g =
-      let n = next-got (r (tokens ts vs) p) s q e g in
-      let x = h (tokens ts vs) p n.0 q n.1 in
-      let l = tokens-length ts vs same in
-      (omega arith, omega arith)
-
-  pub kept : {A : Type 0} (r : Reader A) → Keeps r → (p : ℕ) (s : Read) (q : ℕ) → s ≡ outcome (r (tokens ts vs) p) → s ≡ Read.Next q → (p ≤ q) × (q ≤ p + (length ts - p))
-  kept r h p s q e g =
-      let n = next-got (r (tokens ts vs) p) s q e g in
-      let x = h (tokens ts vs) p n.0 q n.1 in
-      let l = tokens-length ts vs same in
-      (omega arith, omega arith)
-
-  pub count-grown : (tag low most p : ℕ) (s : Counted) (n q : ℕ) → s ≡ counts (counted tag low most (tokens ts vs) p) → s ≡ Counted.Count n q → (p < q) × (q ≤ length ts)
-  count-grown tag low most p s n q e g =
-      let x = counted-grows tag low most (tokens ts vs) p n q (count-got (counted tag low most (tokens ts vs) p) s n q e g) in
-      let l = tokens-length ts vs same in
-      (omega arith, omega arith)
-
-  pub token-grown : {A : Type 0} (f : ℕ → ℕ → Option A) (p : ℕ) (a : A) (q : ℕ) → token f (tokens ts vs) p ≡ got a q → (p < q) × (q ≤ length ts)
-  token-grown f p a q g =
-      let x = token-grows f (tokens ts vs) p a q g in
-      let l = tokens-length ts vs same in
-      (omega arith, omega arith)
-
-  pub head-grown : (M p : ℕ) (r : ExprHead) (h : ExprToken) (q : ℕ) → r ≡ expr_head (token (expr_token_of M) (tokens ts vs) p) → r ≡ ExprHead.Token h q → (p < q) × (q ≤ length ts)
-  head-grown M p r h q e g = token-grown (expr_token_of M) p h q (expr-head-got (token (expr_token_of M) (tokens ts vs) p) r h q e g)
-
-  -- the place after an expression, as the code finds it, is past its own and within the sheet
-  pub falls : (M d p : ℕ) (s : Read) (q : ℕ) → s ≡ outcome (expr M d (tokens ts vs) p) → s ≡ Read.Next q → (p < q) × (q ≤ length ts)
-  falls M d p s q e g = grown (expr M d) (expr-grows M d) p s q e g
-
-  pub exprs-kept : (M d k p : ℕ) (s : Read) (q : ℕ) → s ≡ outcome (exprs k (expr M d) (tokens ts vs) p) → s ≡ Read.Next q → (p ≤ q) × (q ≤ p + (length ts - p))
-  exprs-kept M d k p s q e g = kept (exprs k (expr M d)) (exprs-keeps M (expr M d) (keeps (expr M d) (expr-grows M d)) k) p s q e g

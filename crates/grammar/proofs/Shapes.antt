@@ -1,5 +1,6 @@
 -- What follows a first token is read as its shape says: the definitions' `form` has the outcome of `following`.
 -- Assumes nothing.
+use Rattle.std.specs.Prelude.{Result, Ok}
 use mathlib.Core.Path.{◌≡◌, refl, sym, ◌∙◌, ap}
 use mathlib.Core.List.{List}
 use Prim.Native.Nat.{ℕ, ◌-◌}
@@ -10,13 +11,10 @@ use Rattle.definitions.specs.Tokens.{TagValue, expr_token_of}
 use Rattle.definitions.specs.Tree.{Expr, Exprs}
 use Rattle.definitions.specs.Reading.{Got, got, rejected, Reader, after, token}
 use Rattle.definitions.specs.Grammar.{high, count, counted, exprs, fields, constant, ty, form, expr, most_counted, deepest_type}
-use Rattle.grammar.specs.declared.Read.{Read}
 use Rattle.grammar.specs.declared.Shape.{Shape}
-use Rattle.grammar.specs.declared.Counted.{Counted}
-use Rattle.grammar.specs.declared.ExprHead.{ExprHead}
-use Rattle.grammar.specs.Outcome.{outcome, counts, expr_head}
+use Rattle.grammar.specs.Outcome.{outcome, told}
 use Rattle.grammar.specs.Shape.{shape_of, literal_shape, following}
-use Rattle.grammar.proofs.Laws.{wrap, counting, uncounted, going, stopped, expr-step, expr-head-got}
+use Rattle.grammar.proofs.Laws.{wrap, counting, expr-step, told-got}
 
 -- two readings that go on alike have the same outcome
 pub alike : {A B C : Type 0} (x : Got A) (f : A → ℕ → Got B) (g : A → ℕ → Got C) → ((a : A) (q : ℕ) → outcome (f a q) ≡ outcome (g a q)) → outcome (after x f) ≡ outcome (after x g)
@@ -76,61 +74,15 @@ module _ (M : ℕ) (R : Reader Expr) (ts : List TagValue) (p : ℕ) where
   formed (ExprToken.Fold f) = iteration _
 
 -- an expression that is not too deep has the outcome of what follows its first token
-pub expr-follows : (M : ℕ) (ts : List TagValue) (p : ℕ) (r : ExprHead) → r ≡ expr_head (token (expr_token_of M) ts p) → (d q : ℕ) (h : ExprToken) → r ≡ ExprHead.Token h q →
-    (d ≡ 0 → ⊥) → (z : Shape) → z ≡ shape_of h → (s : Read) → s ≡ outcome (following M z (expr M (d - 1)) ts q) → s ≡ outcome (expr M d ts p)
+pub expr-follows : (M : ℕ) (ts : List TagValue) (p : ℕ) (r : Result (ExprToken × ℕ) Refusal) → r ≡ told (token (expr_token_of M) ts p) → (d q : ℕ) (h : ExprToken) → r ≡ Ok (h, q) →
+    (d ≡ 0 → ⊥) → (z : Shape) → z ≡ shape_of h → (s : Result ℕ Refusal) → s ≡ outcome (following M z (expr M (d - 1)) ts q) → s ≡ outcome (expr M d ts p)
 expr-follows M ts p r i d q h e n z j s f =
     f ∙ (ap (λ (y : Shape). outcome (following M y (expr M (d - 1)) ts q)) j ∙ (sym (formed M (expr M (d - 1)) ts q h) ∙
-    ap outcome (sym (expr-step M ts p d q h n (expr-head-got (token (expr_token_of M) ts p) r h q i e)))))
+    ap outcome (sym (expr-step M ts p d q h n (told-got (token (expr_token_of M) ts p) r h q i e)))))
 
 -- what follows, by its shape
 module _ (M : ℕ) (R : Reader Expr) (ts : List TagValue) (p : ℕ) where
-  pub follow-wide : (z : Shape) (s : Read) → z ≡ Shape.Wide → s ≡ outcome (high ts p) → s ≡ outcome (following M z R ts p)
-  unfolding following
-  follow-wide z s e h = rw e (h ∙ wrap (high ts p) (λ w. Exprs.end))
-
-  pub follow-operands : (z : Shape) (k : ℕ) (s : Read) → z ≡ Shape.Operands k → s ≡ outcome (exprs k R ts p) → s ≡ outcome (following M z R ts p)
-  unfolding following
-  follow-operands z k s e h = rw e h
-
-  pub follow-other : (z y : Shape) (s : Read) → z ≡ y → s ≡ outcome (following M y R ts p) → s ≡ outcome (following M z R ts p)
-  follow-other z y s e h = rw e h
-
-  module _ (r : Counted) (e : r ≡ counts (counted 3 0 64 ts p)) where
-    pub items_more : (n q : ℕ) (s : Read) → r ≡ Counted.Count n q → s ≡ outcome (exprs n R ts q) → s ≡ outcome (following M Shape.Items R ts p)
-    unfolding following count
-    items_more n q s g h = counting (counted 3 0 64 ts p) _ r s n q e g h
-
-    pub items-stop : (t : Refusal) → r ≡ Counted.Refused t → Read.Refused t ≡ outcome (following M Shape.Items R ts p)
-    unfolding following count
-    items-stop t g = uncounted (counted 3 0 64 ts p) _ r t e g
-
-    pub record-more : (n q : ℕ) (s : Read) → r ≡ Counted.Count n q → s ≡ outcome (fields M n R ts q) → s ≡ outcome (following M Shape.Fields R ts p)
+  module _ (r : Result (ℕ × ℕ) Refusal) (e : r ≡ told (counted 3 0 64 ts p)) where
+    pub record-more : (n q : ℕ) (s : Result ℕ Refusal) → r ≡ Ok (n, q) → s ≡ outcome (fields M n R ts q) → s ≡ outcome (following M Shape.Fields R ts p)
     unfolding following count
     record-more n q s g h = counting (counted 3 0 64 ts p) _ r s n q e g (h ∙ wrap (fields M n R ts q) _)
-
-    pub record-stop : (t : Refusal) → r ≡ Counted.Refused t → Read.Refused t ≡ outcome (following M Shape.Fields R ts p)
-    unfolding following count
-    record-stop t g = uncounted (counted 3 0 64 ts p) _ r t e g
-
-  module _ (r : Read) (e : r ≡ outcome (ty M 8 ts p)) where
-    pub cast-more : (q : ℕ) (s : Read) → r ≡ Read.Next q → s ≡ outcome (exprs 1 R ts q) → s ≡ outcome (following M Shape.Cast R ts p)
-    unfolding following
-    cast-more q s g h = going (ty M 8 ts p) _ r s q e g (λ a. h)
-
-    pub cast-stop : (t : Refusal) → r ≡ Read.Refused t → Read.Refused t ≡ outcome (following M Shape.Cast R ts p)
-    unfolding following
-    cast-stop t g = stopped (ty M 8 ts p) _ r t e g
-
-  module _ (r : Counted) (e : r ≡ counts (counted 3 0 1 ts p)) where
-    pub iteration-stop : (t : Refusal) → r ≡ Counted.Refused t → Read.Refused t ≡ outcome (following M Shape.Iteration R ts p)
-    unfolding following
-    iteration-stop t g = uncounted (counted 3 0 1 ts p) _ r t e g
-
-    module _ (n q : ℕ) (g : r ≡ Counted.Count n q) (f : Read) (i : f ≡ outcome (exprs n R ts q)) where
-      pub iteration-start : (t : Refusal) → f ≡ Read.Refused t → Read.Refused t ≡ outcome (following M Shape.Iteration R ts p)
-      unfolding following
-      iteration-start t h = counting (counted 3 0 1 ts p) _ r _ n q e g (stopped (exprs n R ts q) _ f t i h)
-
-      pub iteration-more : (u : ℕ) (s : Read) → f ≡ Read.Next u → s ≡ outcome (following M Shape.Items R ts u) → s ≡ outcome (following M Shape.Iteration R ts p)
-      unfolding following
-      iteration-more u s h k = counting (counted 3 0 1 ts p) _ r s n q e g (going (exprs n R ts q) _ f s u i h (λ a. k))

@@ -1,6 +1,9 @@
+pub mod Read
 pub mod Found
+pub mod Pair
 pub mod Range
 pub mod Step
+pub mod Repeated
 pub mod Outcome
 pub mod Shape
 pub mod Parts

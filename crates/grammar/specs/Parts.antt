@@ -1,27 +1,22 @@
 -- The parts of a node, a definition and a sheet that a function of their own reads, for the code's sake.
-use Rattle.std.specs.Prelude.{ℕ, ◌-◌, List, length}
-use Rattle.definitions.specs.Tree.{Declared, TypeDef, Equation, Probe, Node}
+use Rattle.std.specs.Prelude.{ℕ, ◌-◌, List, length, Result}
+use Rattle.definitions.specs.declared.Refusal.{Refusal}
+use Rattle.definitions.specs.Tokens.{TagValue}
+use Rattle.definitions.specs.Tree.{Declared, TypeDef, Expr, Equation, Probe, Node}
 use Rattle.definitions.specs.Reading.{Reader, ◌>>=◌, times}
-use Rattle.definitions.specs.Grammar.{counted, name, declaration, declarations, type_def, equation, probe, node, most_types, most_nodes, most_counted, most_declared}
-use Rattle.grammar.specs.declared.Item.{Item}
-
--- what an item of a list is
-abbrev pub PartOf : Item → Type 0
-PartOf Item.Name = ℕ
-PartOf Item.Declaration = Declared
-PartOf Item.Probe = Probe
+use Rattle.definitions.specs.Grammar.{counted, name, declarations, type_def, equation, probe, node, most_types, most_nodes, most_counted, most_declared}
+use Rattle.grammar.specs.Outcome.{outcome}
+use Rattle.grammar.specs.Repeated.{onward}
 
 -- M is the number of names
 module _ (M : ℕ) where
-  -- an item of a list
-  abbrev pub part : (i : Item) → Reader (PartOf i)
-  part Item.Name = name M
-  part Item.Declaration = declaration M
-  part Item.Probe = probe M
+  -- a field: a name, and a value that r reads
+  abbrev pub field : Reader Expr → List TagValue → ℕ → Result ℕ Refusal
+  field r ts p = onward (outcome (name M ts p)) (λ v. outcome (r ts v))
 
-  -- a list behind its count, which is from low to most
-  unfoldable pub items : (i : Item) → ℕ → ℕ → Reader (List (PartOf i))
-  items i low most = counted 3 low most >>= λ n. times n (part i)
+  -- names behind their count, which is from low to most
+  unfoldable pub names : ℕ → ℕ → Reader (List ℕ)
+  names low most = counted 3 low most >>= λ n. times n (name M)
 
   -- a node's inputs, outputs and locals: the locals
   unfoldable pub ports : Reader (List Declared)
@@ -36,7 +31,7 @@ module _ (M : ℕ) where
 
   -- a node's equations and probes: the probes
   unfoldable pub body : Reader (List Probe)
-  body = equations >>= λ es. items Item.Probe 0 most_counted
+  body = equations >>= λ es. counted 3 0 most_counted >>= λ n. times n (probe M)
 
   -- a sheet's types
   unfoldable pub sheet_types : Reader (List TypeDef)

@@ -10,7 +10,8 @@ use Rattle.definitions.specs.Grammar.{declaration, node}
 use Rattle.definitions.specs.Declock.{is_operator_kind}
 use Rattle.layout.specs.Spans.{kind_in}
 use Rattle.layout.specs.Laid.{Places}
-use Rattle.index.specs.declared.Callee.{Callee}
+use Rattle.std.specs.declared.option.Option as code
+use Rattle.std.specs.declared.option.Option.TheVariants.{None, Some}
 
 -- the number of the first node of a name
 abbrev pub first_named : ℕ → List Node → ℕ
@@ -31,8 +32,8 @@ pub record NodesStand (M : ℕ) (gs vs places : List ℕ) (n : ℕ) (l : List No
   pub each : Places (node M) (tokens gs vs) places l
 
 -- an operator's outputs stand where the answer says; anything else has none
-unfoldable pub OutputsStand : ℕ → List TagValue → Option (List Declared) → Callee → Type 0
-OutputsStand M ts none (Callee.Operator p k) = ⊥
-OutputsStand M ts none Callee.Other = Unit {0}
-OutputsStand M ts (some ds) (Callee.Operator p k) = (q : ℕ) × (times k (declaration M) ts p ≡ got ds q)
-OutputsStand M ts (some ds) Callee.Other = ⊥
+unfoldable pub OutputsStand : ℕ → List TagValue → Option (List Declared) → code.Option (ℕ × ℕ) → Type 0
+OutputsStand M ts none (Some (p, k)) = ⊥
+OutputsStand M ts none None = Unit {0}
+OutputsStand M ts (some ds) (Some (p, k)) = (q : ℕ) × (times k (declaration M) ts p ≡ got ds q)
+OutputsStand M ts (some ds) None = ⊥

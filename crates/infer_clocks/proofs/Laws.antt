@@ -1,17 +1,12 @@
 -- What is found in a node's equations, one after another; the nodes before the first too deep one.
--- Assumes nothing.
 use mathlib.Core.Path.{◌≡◌, refl, sym, ◌∙◌, ap}
 use mathlib.Core.List.{List, [], ◌∷◌, ◌++◌, map, append_assoc, append-nil}
 use mathlib.Core.Bool.{Bool, true, false}
-use mathlib.Core.Option.{Option, none, some}
 use mathlib.Core.Logic.{inl, inr}
-use Prim.Native.Nat.{ℕ, zero, suc, ◌+◌, ◌-◌, ◌*◌, ◌≤◌, ◌<◌}
+use Prim.Native.Nat.{ℕ, suc, ◌+◌, ◌-◌, ◌*◌, ◌≤◌, ◌<◌}
 use native.Mathlib.Omega.{arith}
 use native.Mathlib.Numerals.{add-one}
-use lib.ListN.{length, get_or, set}
-use lib.Seq.{get_or-set_same, get_or-set_other}
-use borrow.Author.Tests.{eqb-true, eqb-false}
-use lib.Dec.{eqb}
+use lib.ListN.{length}
 use Rattle.definitions.specs.declared.Refusal.{Refusal}
 use Rattle.definitions.specs.Lists.{choose, any, join, numbered, Letters}
 use Rattle.definitions.specs.Tokens.{TagValue}
@@ -20,8 +15,12 @@ use Rattle.definitions.specs.Tree.{Equation, Node}
 use Rattle.definitions.specs.Reading.{got, times}
 use Rattle.definitions.specs.Grammar.{equation, node}
 use Rattle.definitions.specs.Clock.{Clock, base, is_base, in_chain_order}
-use Rattle.clock_tables.specs.declared.Presence.{Presence}
-use Rattle.clock_tables.specs.Value.{natural_at}
+use Rattle.std.specs.Prelude.{Result, Ok, Err, is_err}
+use Rattle.std.specs.Prelude as maybe
+use Rattle.std.specs.Option.{unwrap_or}
+use Rattle.clock_tables.specs.declared.Clock as struct
+use Rattle.clock_tables.specs.declared.TooDeep.{TooDeep}
+use Rattle.clock_tables.specs.Value.{value_of, option_of, natural_of}
 use Rattle.definitions.specs.Refusals.{Answer, accepted, refused}
 use Rattle.definitions.specs.InferClocks.{Formed, deep, formed, ◌>>=◌, Natural, Clocks, Finding, found, site, too_deep, Inferred, Clocking, Clocked, is_too_deep, ports, natural, or_base, clocked_by, check_equation, inferred, clocking, sites, chains, samples, uses_clocks}
 use Rattle.definitions.specs.Output.{ClockedNode}
@@ -37,15 +36,14 @@ use Rattle.layout.specs.declared.NodeLayout.{NodeLayout}
 use Rattle.layout.specs.Laid.{LaidNode, LaidEquation}
 use Rattle.findings.specs.Findings.{findings_in, FindingsHeld}
 use Rattle.findings.proofs.Laws.{holds-none, holds_fits, length_from}
-use Rattle.clock_tables.specs.Rows.{clocks_from, clocks_in, RowsHold}
-use Rattle.inference.specs.declared.Inference.{Inference}
+use Rattle.clock_tables.specs.Rows.{clocks_in, RowsHold}
+use Rattle.clock_tables.proofs.RowsLaws as row-laws
 use Rattle.inference.specs.Passes.{Marked, Infers}
+use Rattle.checking.specs.declared.CheckOutput.{CheckOutput}
 use Rattle.checking.specs.Walk.{PortMarks}
 use Rattle.checking.proofs.Size.{equations-fit}
-use Rattle.infer_clocks.specs.declared.Tally.{Tally}
 use Rattle.infer_clocks.specs.declared.NodeClocked.{NodeClocked}
-use Rattle.infer_clocks.specs.declared.Deepest.{Deepest}
-use Rattle.infer_clocks.specs.Clocked.{is_deep, found_in, found_from, joined, Tallied, ClockedOrDeep, Deeply}
+use Rattle.infer_clocks.specs.Clocked.{is_deep, found_in, found_from, joined, Tallied, Counted, ClockedOrDeep, Deeply}
 
 -- ---- findings after findings
 module _ (fs gs : List Finding) where
@@ -68,38 +66,22 @@ joined-none deep = refl
 joined-none (formed l) = refl
 
 -- ---- a clock, or base
-module _ (p : Presence) (c : Clock) (o : Option Clock) (h : natural_at p c ≡ formed o) where
-  pub base-free : (r : Clock) → p ≡ Presence.Free → r ≡ base → r ≡ or_base o
-  base-free r e b = let k : formed none ≡ formed o = rw e at h in let i : none ≡ o = cc in b ∙ ap or_base i
-
-  pub base_on : p ≡ Presence.On → c ≡ or_base o
-  base_on e = let k : formed (some c) ≡ formed o = rw e at h in let i : some c ≡ o = cc in ap or_base i
-
-  pub base-deep : (r : Clock) → p ≡ Presence.Deep → r ≡ or_base o
-  base-deep r e = let k : deep ≡ formed o = rw e at h in let z : ◌≡◌ {A = ℕ} 0 1 = cc in absurd (omega arith)
-
--- ---- marks as words
-pub words_step : (marks words : List ℕ) (i w : ℕ) → i < length words → w ≡ get_or marks i 0 → ((x : ℕ) → x < i → get_or words x 0 ≡ get_or marks x 0) → (x : ℕ) → x < i + 1 → get_or (set words i w) x 0 ≡ get_or marks x 0
-words_step marks words i w l e h x u = go (eqb x i) refl
-  where
-    go : (b : Bool) → eqb x i ≡ b → get_or (set words i w) x 0 ≡ get_or marks x 0
-    go true q = let k : x ≡ i = eqb-true x i q in rw k (get_or-set_same words i w 0 l ∙ e)
-    go false q =
-        let k : x ≡ i → ⊥ = eqb-false x i q in
-        let m : x < i = omega arith in
-        get_or-set_other words i x w 0 k ∙ h x m
+pub or_value : (o : maybe.Option struct.Clock) (b c : struct.Clock) → value_of b ≡ base → c ≡ unwrap_or o b → value_of c ≡ or_base (option_of o)
+or_value maybe.None b c e i = ap value_of i ∙ e
+or_value (maybe.Some d) b c e i = ap value_of i
 
 -- ---- one equation
-module _ (n : Node) (clocks : Clocks) (t : List ℕ) (fs : List Finding) (i : ℕ) (e : Equation) where
-  pub one-deep : (v : Natural) (b : Bool) → v ≡ natural clocks e.right → b ≡ is_deep v → b ≡ true → Tallied t Tally.Deep (joined fs (found_in n clocks i e))
+module _ (n : Node) (clocks : Clocks) (o : CheckOutput) (fs : List Finding) (i : ℕ) (e : Equation) where
+  pub one-deep : (A : Type 0) (r : Result (maybe.Option struct.Clock) TooDeep) (d u : TooDeep) → natural_of r ≡ natural clocks e.right → r ≡ Err d → Tallied {A = A} o (Err u) (joined fs (found_in n clocks i e))
   unfolding Tallied found_in
-  one-deep deep b h u j = rw (← h)
-  one-deep (formed o) b h u j = let z : ◌≡◌ {A = ℕ} 0 1 = cc in absurd (omega arith)
+  one-deep A r d u h j = let f : natural clocks e.right ≡ deep = sym h ∙ ap natural_of j in rw f
 
-  pub one_found : (v : Natural) (c : Clock) (m : ℕ) (b : Bool) → v ≡ natural clocks e.right → b ≡ is_deep v → b ≡ false → ((o : Option Clock) → v ≡ formed o → c ≡ or_base o) → FindingsHeld t m (fs ++ check_equation n clocks i (record { clock = c; equation = e })) → Tallied t (Tally.Count m) (joined fs (found_in n clocks i e))
+  pub one_found : {A : Type 0} (x : A) (r : Result (maybe.Option struct.Clock) TooDeep) (u : maybe.Option struct.Clock) (c : Clock) → natural_of r ≡ natural clocks e.right → r ≡ Ok u → c ≡ or_base (option_of u) →
+      FindingsHeld o.findings.now.words.now o.findings.now.count (fs ++ check_equation n clocks i (record { clock = c; equation = e })) → Tallied o (Ok x) (joined fs (found_in n clocks i e))
   unfolding Tallied found_in
-  one_found deep c m b h u j k w = let z : ◌≡◌ {A = ℕ} 0 1 = cc in absurd (omega arith)
-  one_found (formed o) c m b h u j k w = (fs ++ check_equation n clocks i (record { clock = or_base o; equation = e }), rw (← h), rw (k o refl) at w)
+  one_found x r u c h j k w =
+      let f : natural clocks e.right ≡ formed (option_of u) = sym h ∙ ap natural_of j in
+      (fs ++ check_equation n clocks i (record { clock = or_base (option_of u); equation = e }), rw f, rw k at w)
 
 -- ---- the equations
 module _ (n : Node) (clocks : Clocks) where
@@ -135,54 +117,54 @@ module _ (n : Node) (clocks : Clocks) where
           rw x (ap (λ (l : List Equation). e ∷ l) (f rest b))
 
 -- some findings, the rest being those of the equations left; all are v
-pub record Going (M : ℕ) (ts : List TagValue) (n : Node) (clocks : Clocks) (t : List ℕ) (left i place m q : ℕ) (v : Formed (List Finding)) : Type 0 where
+pub record Going (M : ℕ) (ts : List TagValue) (n : Node) (clocks : Clocks) (o : CheckOutput) (left i place q : ℕ) (v : Formed (List Finding)) : Type 0 where
   pub rest : List Equation
   pub so_far : List Finding
   pub items : times left (equation M) ts place ≡ got rest q
-  pub holds : FindingsHeld t m so_far
+  pub holds : FindingsHeld o.findings.now.words.now o.findings.now.count so_far
   pub final : joined so_far (found_from n clocks i rest) ≡ v
 
-pub going_start : (M : ℕ) (ts : List TagValue) (n : Node) (clocks : Clocks) (t : List ℕ) (count at q : ℕ) (es : List Equation) → times count (equation M) ts at ≡ got es q → Going M ts n clocks t (count - 0) 0 at 0 q (found_from n clocks 0 es)
-going_start M ts n clocks t count at q es g =
+pub going_start : (M : ℕ) (ts : List TagValue) (n : Node) (clocks : Clocks) (o : CheckOutput) (count at q : ℕ) (es : List Equation) → times count (equation M) ts at ≡ got es q → o.findings.now.count ≡ 0 → Going M ts n clocks o (count - 0) 0 at q (found_from n clocks 0 es)
+going_start M ts n clocks o count at q es g z =
     let k : count - 0 ≡ count = omega arith in
-    record { rest = es; so_far = []; items = rw k g; holds = holds-none t; final = joined-none (found_from n clocks 0 es) }
+    record { rest = es; so_far = []; items = rw k g; holds = rw z (holds-none o.findings.now.words.now); final = joined-none (found_from n clocks 0 es) }
 
-pub going_end : (M : ℕ) (ts : List TagValue) (n : Node) (clocks : Clocks) (t : List ℕ) (left i place m q : ℕ) (v : Formed (List Finding)) → left ≡ 0 → Going M ts n clocks t left i place m q v → Tallied t (Tally.Count m) v
+pub going_end : {A : Type 0} (x : A) (M : ℕ) (ts : List TagValue) (n : Node) (clocks : Clocks) (o : CheckOutput) (left i place q : ℕ) (v : Formed (List Finding)) → left ≡ 0 → Going M ts n clocks o left i place q v → Tallied o (Ok x) v
 unfolding Tallied found_from
-going_end M ts n clocks t left i place m q v z h =
+going_end x M ts n clocks o left i place q v z h =
     let e = times-nil (equation M) ts left place h.rest q z h.items in
     let f : formed (h.so_far ++ []) ≡ v = rw e.0 at h.final in
     (h.so_far, sym f ∙ ap formed (append-nil h.so_far), h.holds)
 
-module _ (M : ℕ) (ts : List TagValue) (n : Node) (clocks : Clocks) (env marks t t' : List ℕ) (count i place m q : ℕ) (v : Formed (List Finding)) (l : EquationLayout) (r : Tally) (z : i < count) (a : Agrees env M clocks) (b : PortMarks marks M n)
+module _ {A : Type 0} (M : ℕ) (ts : List TagValue) (n : Node) (clocks : Clocks) (env : List ℕ) (marks : List Bool) (o o' : CheckOutput) (count i place q : ℕ) (v : Formed (List Finding)) (l : EquationLayout) (r : Result A TooDeep) (z : i < count) (a : Agrees env M clocks) (b : PortMarks marks M n)
     (L : (e : Equation) (q : ℕ) → equation M ts place ≡ got e q → LaidEquation M ts e q l)
-    (E : (n : Node) (clocks : Clocks) (e : Equation) (q : ℕ) (fs : List Finding) → Agrees env M clocks → PortMarks marks M n → equation M ts place ≡ got e q → tree M ts l.right ≡ got e.right q → FindingsHeld t m fs → Tallied t' r (joined fs (found_in n clocks i e)))
-    (h : Going M ts n clocks t (count - i) i place m q v) where
-  pub going_step : (k : ℕ) → r ≡ Tally.Count k → Going M ts n clocks t' (count - (i + 1)) (i + 1) l.end k q v
+    (E : (n : Node) (clocks : Clocks) (e : Equation) (q : ℕ) (fs : List Finding) → Agrees env M clocks → PortMarks marks M n → equation M ts place ≡ got e q → tree M ts l.right ≡ got e.right q → FindingsHeld o.findings.now.words.now o.findings.now.count fs → Tallied o' r (joined fs (found_in n clocks i e)))
+    (h : Going M ts n clocks o (count - i) i place q v) where
+  pub going_step : (k : A) → r ≡ Ok k → Going M ts n clocks o' (count - (i + 1)) (i + 1) l.end q v
   unfolding Tallied found_from
   going_step k j =
       let c = times-cons (equation M) ts (count - i) place h.rest q (λ y. omega (arith, y)) h.items in
       let d = L c.0 c.1 c.3 in
-      let x : Tallied t' (Tally.Count k) (joined h.so_far (found_in n clocks i c.0)) = rw j at (E n clocks c.0 c.1 h.so_far a b c.3 d.right h.holds) in
+      let x : Tallied o' (Ok k) (joined h.so_far (found_in n clocks i c.0)) = rw j at (E n clocks c.0 c.1 h.so_far a b c.3 d.right h.holds) in
       let f : joined h.so_far (found_from n clocks i (c.0 ∷ c.2)) ≡ v = rw c.5 at h.final in
       let w : joined x.0 (found_from n clocks (suc i) c.2) ≡ v = joined-next h.so_far x.0 (found_in n clocks i c.0) (found_from n clocks (suc i) c.2) v x.1 f in
       let u : count - (i + 1) ≡ count - i - 1 = omega arith in
       record { rest = c.2; so_far = x.0; items = rw (d.ends, u) c.4; holds = x.2; final = rw (add-one i) w }
 
-  pub going-deep : r ≡ Tally.Deep → Tallied t' Tally.Deep v
+  pub going-deep : (B : Type 0) (w u : TooDeep) → r ≡ Err w → Tallied {A = B} o' (Err u) v
   unfolding Tallied found_from
-  going-deep j =
+  going-deep B w u j =
       let c = times-cons (equation M) ts (count - i) place h.rest q (λ y. omega (arith, y)) h.items in
       let d = L c.0 c.1 c.3 in
-      let x : Tallied t' Tally.Deep (joined h.so_far (found_in n clocks i c.0)) = rw j at (E n clocks c.0 c.1 h.so_far a b c.3 d.right h.holds) in
+      let x : Tallied {A = A} o' (Err w) (joined h.so_far (found_in n clocks i c.0)) = rw j at (E n clocks c.0 c.1 h.so_far a b c.3 d.right h.holds) in
       let w : joined h.so_far (found_from n clocks i (c.0 ∷ c.2)) ≡ deep = joined-deep h.so_far (found_in n clocks i c.0) (found_from n clocks (suc i) c.2) x in
       let f : joined h.so_far (found_from n clocks i (c.0 ∷ c.2)) ≡ v = rw c.5 at h.final in
       sym f ∙ w
 
 -- ---- a node
--- the marks of inputs and outputs, as words
-pub marks-widened : (marks words : List ℕ) (m : ℕ) (n : Node) → Marked marks m (ports n) → ((x : ℕ) → x < m → get_or words x 0 ≡ get_or marks x 0) → PortMarks words m n
-marks-widened marks words m n k h = record { same = λ x l. ap (λ (w : ℕ). eqb w 1) (h x l) ∙ k.same x l }
+-- the marks of inputs and outputs
+ports-known : (marks : List Bool) (m : ℕ) (n : Node) → Marked marks m (ports n) → PortMarks marks m n
+ports-known marks m n k = record { same = k.same }
 
 -- what is said of a node's equations with their clocks
 abbrev saying : Node → Inferred → List Clocked → Formed Clocking
@@ -237,7 +219,7 @@ module _ (n : Node) where
             let e : any is_too_deep (join (numbered (check_equation n i.clocks) 0 a.0)) ≡ true = ap (any is_too_deep) (a.1 ∙ sym held.1) ∙ b in
             a.2 ∙ rw e
 
-        pub findings-told : any is_too_deep (findings_in t m) ≡ false → Agrees env M i.clocks → (p : ℕ) → i.passes ≡ p → ClockedOrDeep env t M (NodeClocked.Clocked p m) (clocking n)
+        pub findings-told : any is_too_deep (findings_in t m) ≡ false → Agrees env M i.clocks → (p : ℕ) → i.passes ≡ p → ClockedOrDeep env t M (Ok (record { passes = p; findings = m })) (clocking n)
         unfolding ClockedOrDeep
         findings-told b c p d =
             let a = node-found in
@@ -248,13 +230,21 @@ module _ (n : Node) where
             )
 
 -- checking's answer
-tallied-deep : (t : List ℕ) (s : Tally) (v : Formed (List Finding)) → s ≡ Tally.Deep → Tallied t s v → v ≡ deep
-unfolding Tallied
-tallied-deep t s v e h = rw e at h
+pub tallied-deep : {A : Type 0} (o : CheckOutput) (s : Result A TooDeep) (d : TooDeep) (v : Formed (List Finding)) → s ≡ Err d → Tallied o s v → (t : List ℕ) (u : TooDeep) → Counted t (Err u) v
+unfolding Tallied Counted
+tallied-deep o s d v e h t u = rw e at h
 
-tallied-count : (t : List ℕ) (s : Tally) (c : ℕ) (v : Formed (List Finding)) → s ≡ Tally.Count c → Tallied t s v → (fs : List Finding) × (v ≡ formed fs) × FindingsHeld t c fs
-unfolding Tallied
-tallied-count t s c v e h = rw e at h
+pub tallied-count : {A : Type 0} (o : CheckOutput) (s : Result A TooDeep) (a : A) (v : Formed (List Finding)) → s ≡ Ok a → Tallied o s v → (t : List ℕ) (n : ℕ) → t ≡ o.findings.now.words.now → n ≡ o.findings.now.count → Counted t (Ok n) v
+unfolding Tallied Counted
+tallied-count o s a v e h t n u w = rw (u, w) (rw e at h)
+
+counted-deep : (t : List ℕ) (s : Result ℕ TooDeep) (d : TooDeep) (v : Formed (List Finding)) → s ≡ Err d → Counted t s v → v ≡ deep
+unfolding Counted
+counted-deep t s d v e h = rw e at h
+
+counted-all : (t : List ℕ) (s : Result ℕ TooDeep) (c : ℕ) (v : Formed (List Finding)) → s ≡ Ok c → Counted t s v → (fs : List Finding) × (v ≡ formed fs) × FindingsHeld t c fs
+unfolding Counted
+counted-all t s c v e h = rw e at h
 
 -- room in tables
 pub still : (a b c : ℕ) → a ≤ b → c ≡ b → a ≤ c
@@ -264,35 +254,40 @@ pub room-stays : (ts vs t t' : List ℕ) → length vs ≡ length ts → 38 * le
 room-stays ts vs t t' e h k = omega (arith, tokens-length ts vs e, h, k)
 
 -- the code's answers: inference's r, then checking's s
-pub laid-deep : (M : ℕ) (n : Node) (env env' t : List ℕ) (r : Inference) → r ≡ Inference.Deep → Infers env M r (inferred n) → ClockedOrDeep env' t M NodeClocked.Deep (clocking n)
-unfolding Infers ClockedOrDeep
-laid-deep M n env env' t r j i = let e : inferred n ≡ deep = rw j at i in node-deep n e
+pub told-deep : (env t : List ℕ) (M : ℕ) (n : Node) (u : TooDeep) → clocking n ≡ deep → ClockedOrDeep env t M (Err u) (clocking n)
+unfolding ClockedOrDeep
+told-deep env t M n u h = h
 
-module _ (M : ℕ) (ts : List TagValue) (n : Node) (env marks words t : List ℕ) (r : Inference) (s : Tally) (k count at q : ℕ)
-    (j : r ≡ Inference.Passes k) (i : Infers env M r (inferred n)) (m : Marked marks M (ports n)) (w : (x : ℕ) → x < M → get_or words x 0 ≡ get_or marks x 0)
+pub formed-not-deep : (n : Node) (k : Clocking) → clocking n ≡ formed k → clocking n ≡ deep → ⊥
+formed-not-deep n k f h = let x : deep ≡ formed k = sym h ∙ f in let z : ◌≡◌ {A = ℕ} 0 1 = cc in omega arith
+
+pub laid-deep : (M : ℕ) (n : Node) (env : List ℕ) (r : Result ℕ TooDeep) (d : TooDeep) → r ≡ Err d → Infers env M r (inferred n) → clocking n ≡ deep
+unfolding Infers
+laid-deep M n env r d j i = let e : inferred n ≡ deep = rw j at i in node-deep n e
+
+module _ (M : ℕ) (ts : List TagValue) (n : Node) (env : List ℕ) (marks : List Bool) (t : List ℕ) (r : Result ℕ TooDeep) (s : Result ℕ TooDeep) (k count at q : ℕ)
+    (j : r ≡ Ok k) (i : Infers env M r (inferred n)) (m : Marked marks M (ports n))
     (g : times count (equation M) ts at ≡ got n.equations q)
-    (C : (n : Node) (clocks : Clocks) (es : List Equation) (q : ℕ) → Agrees env M clocks → PortMarks words M n → times count (equation M) ts at ≡ got es q → Tallied t s (found_from n clocks 0 es)) where
+    (C : (n : Node) (clocks : Clocks) (es : List Equation) (q : ℕ) → Agrees env M clocks → PortMarks marks M n → times count (equation M) ts at ≡ got es q → Counted t s (found_from n clocks 0 es)) where
   made : (i : Inferred) × (inferred n ≡ formed i) × (i.passes ≡ k) × Agrees env M i.clocks
   unfolding Infers
   made = rw j at i
 
-  tallied : Tallied t s (found_from n made.0.clocks 0 n.equations)
-  tallied = C n made.0.clocks n.equations q made.3 (marks-widened marks words M n m w) g
+  counted : Counted t s (found_from n made.0.clocks 0 n.equations)
+  counted = C n made.0.clocks n.equations q made.3 (ports-known marks M n m) g
 
-  pub laid-sunk : s ≡ Tally.Deep → ClockedOrDeep env t M NodeClocked.Deep (clocking n)
-  unfolding ClockedOrDeep
-  laid-sunk e = equations-deep n made.0 made.1 (tallied-deep t s (found_from n made.0.clocks 0 n.equations) e tallied)
+  pub laid-sunk : (d : TooDeep) → s ≡ Err d → clocking n ≡ deep
+  laid-sunk d e = equations-deep n made.0 made.1 (counted-deep t s d (found_from n made.0.clocks 0 n.equations) e counted)
 
-  module _ (c : ℕ) (e : s ≡ Tally.Count c) (room : 38 * length ts ≤ length t) (b : Bool) (d : b ≡ any is_too_deep (findings_in t c)) where
-    counted : (fs : List Finding) × (found_from n made.0.clocks 0 n.equations ≡ formed fs) × FindingsHeld t c fs
-    counted = tallied-count t s c (found_from n made.0.clocks 0 n.equations) e tallied
+  module _ (c : ℕ) (e : s ≡ Ok c) (room : 38 * length ts ≤ length t) (b : Bool) (d : b ≡ any is_too_deep (findings_in t c)) where
+    all-found : (fs : List Finding) × (found_from n made.0.clocks 0 n.equations ≡ formed fs) × FindingsHeld t c fs
+    all-found = counted-all t s c (found_from n made.0.clocks 0 n.equations) e counted
 
-    pub laid-found : b ≡ true → ClockedOrDeep env t M NodeClocked.Deep (clocking n)
-    unfolding ClockedOrDeep
-    laid-found f = findings-deep n made.0 made.1 M ts count at q g counted.0 counted.1 env t c room counted.2 (sym d ∙ f)
+    pub laid-found : b ≡ true → clocking n ≡ deep
+    laid-found f = findings-deep n made.0 made.1 M ts count at q g all-found.0 all-found.1 env t c room all-found.2 (sym d ∙ f)
 
-    pub laid-told : b ≡ false → ClockedOrDeep env t M (NodeClocked.Clocked k c) (clocking n)
-    laid-told f = findings-told n made.0 made.1 M ts count at q g counted.0 counted.1 env t c room counted.2 (sym d ∙ f) made.3 k made.2
+    pub laid-told : b ≡ false → ClockedOrDeep env t M (Ok (record { passes = k; findings = c })) (clocking n)
+    laid-told f = findings-told n made.0 made.1 M ts count at q g all-found.0 all-found.1 env t c room all-found.2 (sym d ∙ f) made.3 k made.2
 
 -- ---- was too deep a clock formed in a node?
 is-deep : {A : Type 0} (v : Formed A) → is_deep v ≡ true → v ≡ deep
@@ -313,14 +308,21 @@ pub deep-unused : (n : Node) (b : Bool) → b ≡ any (λ e. samples e.right) n.
 deep-unused n b e f = sym (ap is_deep (clockless n (sym (uses-by n b e) ∙ f)).1.clocks)
 
 -- the code's answer says it
-module _ (M : ℕ) (n : Node) (env t : List ℕ) (r : NodeClocked) (h : ClockedOrDeep env t M r (clocking n)) where
-  pub deep-told : r ≡ NodeClocked.Deep → true ≡ is_deep (clocking n)
+module _ (M : ℕ) (n : Node) (env t : List ℕ) (r : Result NodeClocked TooDeep) (h : ClockedOrDeep env t M r (clocking n)) where
+  pub deep-told : (d : TooDeep) → r ≡ Err d → true ≡ is_deep (clocking n)
   unfolding ClockedOrDeep
-  deep-told j = let x : clocking n ≡ deep = rw j at h in sym (ap is_deep x)
+  deep-told d j = let x : clocking n ≡ deep = rw j at h in sym (ap is_deep x)
 
-  pub deep-not-told : (p m : ℕ) → r ≡ NodeClocked.Clocked p m → false ≡ is_deep (clocking n)
+  pub deep-not-told : (c : NodeClocked) → r ≡ Ok c → false ≡ is_deep (clocking n)
   unfolding ClockedOrDeep
-  deep-not-told p m j = let x : ClockedOrDeep env t M (NodeClocked.Clocked p m) (clocking n) = rw j at h in sym (ap is_deep x.1)
+  deep-not-told c j = let x : ClockedOrDeep env t M (Ok c) (clocking n) = rw j at h in sym (ap is_deep x.1)
+
+  pub deep-by : is_err r ≡ is_deep (clocking n)
+  deep-by = go r refl
+    where
+      go : (s : Result NodeClocked TooDeep) → r ≡ s → is_err r ≡ is_deep (clocking n)
+      go (Ok c) e = rw e (deep-not-told c e)
+      go (Err d) e = rw e (deep-told d e)
 
 -- ---- the nodes
 -- a node whose clocks are formed, before others
@@ -380,7 +382,7 @@ nodes-start M ts count at q ns g =
     let k : count - 0 ≡ count = omega arith in
     record { rest = ns; items = rw k g; ahead = ahead-start ns }
 
-pub nodes-end : (M : ℕ) (ts : List TagValue) (left i place q : ℕ) (v : Answer (List ClockedNode)) → left ≡ 0 → Nodes M ts left i place q v → Deeply q (Deepest.Nowhere place) v
+pub nodes-end : (M : ℕ) (ts : List TagValue) (left i place q : ℕ) (v : Answer (List ClockedNode)) → left ≡ 0 → Nodes M ts left i place q v → Deeply q (Ok place) v
 unfolding Deeply
 nodes-end M ts left i place q v z h =
     let n = times-nil (node M) ts left place h.rest q z h.items in
@@ -398,7 +400,7 @@ module _ (M : ℕ) (ts : List TagValue) (count i place q : ℕ) (v : Answer (Lis
       let u : count - (i + 1) ≡ count - i - 1 = omega arith in
       record { rest = c.2; items = rw (d.ends, u) c.4; ahead = ahead_step i h.rest v h.ahead c.0 c.2 c.5 b (E c.0 c.1 d) j }
 
-  pub nodes-deep : b ≡ true → Deeply q (Deepest.At i) v
+  pub nodes-deep : b ≡ true → Deeply q (Err i) v
   unfolding Deeply
   nodes-deep j =
       let c = times-cons (node M) ts (count - i) place h.rest q (λ y. omega (arith, y)) h.items in
@@ -421,23 +423,14 @@ unfolding RowsHold
 rows-exact t m cs l (inl h) = h.1
 rows-exact t m cs l (inr h) = absurd (omega (arith, h.1))
 
-length-clocks : (t : List ℕ) (i m : ℕ) → length (clocks_from t i m) ≡ m
-unfolding clocks_from
-length-clocks t i zero = refl
-length-clocks t i (suc m) = ap suc (length-clocks t (i + 1) m)
-
 -- the sites of n findings in as many rows
 module _ (t rows rows' : List ℕ) (n m : ℕ) (room : 17 * n ≤ length rows) (same : length rows' ≡ length rows) (h : RowsHold rows' m (sites (findings_in t n))) where
   pub sites-listed : clocks_in rows' m ≡ sites (findings_in t n)
   sites-listed = rows-exact rows' m (sites (findings_in t n)) (omega (arith, few-sites (findings_in t n), length_from t 0 n, room, same)) h
 
   pub sites-fit : m ≤ n
-  sites-fit = let e : m ≡ length (sites (findings_in t n)) = sym (length-clocks rows' 0 m) ∙ ap length sites-listed in omega (arith, e, few-sites (findings_in t n), length_from t 0 n)
+  sites-fit = let e : m ≡ length (sites (findings_in t n)) = sym (row-laws.length_from rows' 0 m) ∙ ap length sites-listed in omega (arith, e, few-sites (findings_in t n), length_from t 0 n)
 
   pub chains-sorted : (letters : ℕ → Letters) (l : List Clock) → l ≡ in_chain_order letters (clocks_in rows' m) → l ≡ chains letters (findings_in t n)
   unfolding chains
   chains-sorted letters l e = e ∙ ap (in_chain_order letters) sites-listed
-
-pub has-none : (t : List ℕ) → RowsHold t 0 []
-unfolding RowsHold clocks_from
-has-none t = inl (omega arith, refl)

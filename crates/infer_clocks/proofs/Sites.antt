@@ -1,8 +1,7 @@
 -- The sites of a node's equations, one equation after another.
--- Assumes nothing.
 use Prim.Native.Nat.{ℕ, suc, ◌+◌, ◌-◌, ◌*◌, ◌≤◌, ◌<◌}
 use mathlib.Core.Path.{◌≡◌, refl, sym, ap, ◌∙◌, subst}
-use mathlib.Core.Bool.{Bool, true, false, true≢false}
+use mathlib.Core.Bool.{Bool, true, false}
 use mathlib.Core.List.{List, [], ◌∷◌}
 use mathlib.Core.Logic.{inl}
 use mathlib.Core.Option.{Option}
@@ -20,10 +19,10 @@ use Rattle.clock_tables.specs.Flat.{clock_in}
 use Rattle.skeleton.specs.Sites.{EquationsSited, EquationsOn}
 use Rattle.checking.specs.Walk.{only_sites, EquationStored}
 use Rattle.checking.proofs.Only.{only-both, only-right}
-use Rattle.infer_clocks.specs.Clocked.{is_deep, ClockedOrDeep, SitesTold}
-use Rattle.infer_clocks.specs.declared.NodeClocked.{NodeClocked}
+use Rattle.infer_clocks.specs.Clocked.{SitesTold}
 use Rattle.clock_tables.specs.Environment.{Agrees}
-use Rattle.inference.specs.declared.Inference.{Inference}
+use Rattle.std.specs.Prelude.{Result, Ok}
+use Rattle.clock_tables.specs.declared.TooDeep.{TooDeep}
 use Rattle.inference.specs.Passes.{Infers}
 
 -- two tables have the same rows from p up to q
@@ -99,9 +98,9 @@ module _ (M : ℕ) (gs vs sites sites' : List ℕ) (n : Node) (clocks : Clocks) 
             h.sited later (before later w) o (rw b.4 (c.1, s.sited clocks room (only-right n clocks i (or_base b.0) c.0 a) later (here later w), rw r at x));
       }
 
--- a clock that is formed is not too deep
-pub formed-not-deep : (v : Natural) (b : Bool) (o : Option Clock) → v ≡ formed o → b ≡ is_deep v → b ≡ true → ⊥
-formed-not-deep v b o e f g = true≢false (sym g ∙ (f ∙ ap is_deep e))
+-- the clock that is formed
+pub formed-value : (v : Natural) (o p : Option Clock) → v ≡ formed o → v ≡ formed p → o ≡ p
+formed-value v o p e f = let x : formed o ≡ formed p = sym e ∙ f in cc
 
 -- stored on the clock that it is
 pub stored_on : {M : ℕ} {gs vs sites sites' : List ℕ} {i : ℕ} {c d : Clock} {e : Equation} {p q : ℕ} → c ≡ d → EquationStored M gs vs sites sites' i c e p q → EquationStored M gs vs sites sites' i d e p q
@@ -131,12 +130,11 @@ module _ (n : Node) (i : Inferred) (k : Clocking) (h : inferred n ≡ formed i) 
 pub told-by : {M : ℕ} {gs vs sites : List ℕ} {fs gs' : List Finding} {cs : List Clocked} {p q : ℕ} → fs ≡ gs' → SitesTold M gs vs sites fs cs p q → SitesTold M gs vs sites gs' cs p q
 told-by {M} {gs} {vs} {sites} {cs = cs} {p = p} {q = q} e s = subst (λ (x : List Finding). SitesTold M gs vs sites x cs p q) e s
 
--- a node whose clocks are formed is not told as too deep
-pub told-not-deep : (env t : List ℕ) (M : ℕ) (n : Node) (k : Clocking) → clocking n ≡ formed k → ClockedOrDeep env t M NodeClocked.Deep (clocking n) → ⊥
-unfolding ClockedOrDeep
-told-not-deep env t M n k f h = let x : deep ≡ formed k = sym h ∙ f in let z : ◌≡◌ {A = ℕ} 0 1 = cc in omega arith
+-- the same of a table that is that one
+pub told-in : {M : ℕ} {gs vs : List ℕ} (sites sites' : List ℕ) {fs : List Finding} {cs : List Clocked} {p q : ℕ} → sites' ≡ sites → SitesTold M gs vs sites fs cs p q → SitesTold M gs vs sites' fs cs p q
+told-in {M} {gs} {vs} sites sites' {fs} {cs} {p} {q} e s = subst (λ (x : List ℕ). SitesTold M gs vs x fs cs p q) (sym e) s
 
 -- what inference answered
-pub inferred-here : (M : ℕ) (n : Node) (env : List ℕ) (r : Inference) (k : ℕ) → r ≡ Inference.Passes k → Infers env M r (inferred n) → (i : Inferred) × (inferred n ≡ formed i) × Agrees env M i.clocks
+pub inferred-here : (M : ℕ) (n : Node) (env : List ℕ) (r : Result ℕ TooDeep) (k : ℕ) → r ≡ Ok k → Infers env M r (inferred n) → (i : Inferred) × (inferred n ≡ formed i) × Agrees env M i.clocks
 unfolding Infers
-inferred-here M n env r k j h = let x : Infers env M (Inference.Passes k) (inferred n) = rw j at h in (x.0, x.1, x.3)
+inferred-here M n env r k j h = let x : Infers env M (Ok k) (inferred n) = rw j at h in (x.0, x.1, x.3)

@@ -9,10 +9,11 @@ use Rattle.definitions.specs.Output.{ClockedNode}
 use Rattle.clock_tables.specs.Environment.{Agrees}
 use Rattle.findings.specs.Findings.{findings_in, FindingsHeld}
 use Rattle.skeleton.specs.Sites.{EquationsOn, EquationsSited}
+use Rattle.checking.specs.declared.CheckOutput.{CheckOutput}
 use Rattle.checking.specs.Walk.{only_sites}
-use Rattle.infer_clocks.specs.declared.Tally.{Tally}
+use Rattle.std.specs.Prelude.{Result, Ok, Err}
+use Rattle.clock_tables.specs.declared.TooDeep.{TooDeep}
 use Rattle.infer_clocks.specs.declared.NodeClocked.{NodeClocked}
-use Rattle.infer_clocks.specs.declared.Deepest.{Deepest}
 
 module _ (node : Node) (clocks : Clocks) where
   -- what is found in equation i, on its natural clock or base
@@ -35,10 +36,15 @@ is_deep (formed a) = false
 abbrev pub joined : List Finding → Formed (List Finding) → Formed (List Finding)
 joined fs v = v >>= λ l. formed (fs ++ l)
 
--- so many findings, which the table holds
-unfoldable pub Tallied : List ℕ → Tally → Formed (List Finding) → Type 0
-Tallied t Tally.Deep v = v ≡ deep
-Tallied t (Tally.Count n) v = (fs : List Finding) × (v ≡ formed fs) × FindingsHeld t n fs
+-- too deep a clock, or findings, which the table holds
+unfoldable pub Tallied : {A : Type 0} → CheckOutput → Result A TooDeep → Formed (List Finding) → Type 0
+Tallied o (Err d) v = v ≡ deep
+Tallied o (Ok a) v = (fs : List Finding) × (v ≡ formed fs) × FindingsHeld o.findings.now.words.now o.findings.now.count fs
+
+-- the same of a table's words, and how many findings there are
+unfoldable pub Counted : List ℕ → Result ℕ TooDeep → Formed (List Finding) → Type 0
+Counted t (Err d) v = v ≡ deep
+Counted t (Ok n) v = (fs : List Finding) × (v ≡ formed fs) × FindingsHeld t n fs
 
 -- a node's clocks: the number of passes, the names' clocks in one table, the findings in another
 pub record ClocksStand (env t : List ℕ) (m passes n : ℕ) (k : Clocking) : Type 0 where
@@ -53,11 +59,11 @@ pub record SitesTold (M : ℕ) (gs vs sites : List ℕ) (fs : List Finding) (cs 
   pub sited : only_sites fs ≡ true → EquationsSited M gs vs sites cs p q
 
 -- a node's clocks, unless too deep a clock was formed
-unfoldable pub ClockedOrDeep : List ℕ → List ℕ → ℕ → NodeClocked → Formed Clocking → Type 0
-ClockedOrDeep env t m NodeClocked.Deep v = v ≡ deep
-ClockedOrDeep env t m (NodeClocked.Clocked passes n) v = (k : Clocking) × (v ≡ formed k) × ClocksStand env t m passes n k
+unfoldable pub ClockedOrDeep : List ℕ → List ℕ → ℕ → Result NodeClocked TooDeep → Formed Clocking → Type 0
+ClockedOrDeep env t m (Err d) v = v ≡ deep
+ClockedOrDeep env t m (Ok c) v = (k : Clocking) × (v ≡ formed k) × ClocksStand env t m c.passes c.findings k
 
--- the first node in which too deep a clock is formed; or q, where the nodes end
-unfoldable pub Deeply : ℕ → Deepest → Answer (List ClockedNode) → Type 0
-Deeply q (Deepest.At i) v = v ≡ refused (Refusal.Deep i)
-Deeply q (Deepest.Nowhere p) v = (p ≡ q) × (l : List ClockedNode) × (v ≡ accepted l)
+-- q, where the nodes end; or the first in which too deep a clock is formed
+unfoldable pub Deeply : ℕ → Result ℕ ℕ → Answer (List ClockedNode) → Type 0
+Deeply q (Err i) v = v ≡ refused (Refusal.Deep i)
+Deeply q (Ok p) v = (p ≡ q) × (l : List ClockedNode) × (v ≡ accepted l)

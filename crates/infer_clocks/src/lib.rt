@@ -1,284 +1,202 @@
 // What clock inference and checking say of a node, and the first node in which too deep a clock is formed.
-// `tags` and `values` are as long as each other; `names` is the number of names. `env` has seventeen words a name, `marks` a byte
-// and `ports` a word a name, `table` thirty-eight words a token, `sites` seventeen words a token.
+// `env` has seventeen words a name, `marks` has a mark a name, `table` thirty-eight words a token, `sites` seventeen words a token.
 #![tactic(auto)]
 
-ghost use Rattle.std.specs.Prelude.{◌≡◌, List, true, ℕ, ◌*◌, ◌≤◌, ◌<◌, length, get_or};
+ghost use Rattle.std.specs.Prelude.{◌≡◌, List, ◌++◌, true, ℕ, ◌*◌, ◌≤◌, ◌<◌, length, get_or, IsOk};
 ghost use Rattle.std.proofs.Math.Option.{Option};
-ghost use Rattle.definitions.specs.Bytes.{tokens};
+ghost use Rattle.grammar.specs.Read.{tokens_of};
 ghost use Rattle.definitions.specs.Lists.{join, numbered};
 ghost use Rattle.definitions.specs.Tree.{Equation, Node};
 ghost use Rattle.definitions.specs.Reading.{got, times};
 ghost use Rattle.definitions.specs.Grammar.{equation, node};
 ghost use Rattle.definitions.specs.Clock as trees;
 ghost use Rattle.definitions.specs.InferClocks as rules;
-ghost use Rattle.definitions.specs.InferClocks.{Clocks, Finding, Clocked, Clocking, formed, or_base, clocked_by, check_equation, clocking, chains};
+ghost use Rattle.definitions.specs.InferClocks.{Clocks, Finding, Clocked, Clocking, formed, or_base, clocked_by, check_equation, clocking, sites, chains};
 ghost use Rattle.definitions.specs.Answer.{clockings};
 ghost use Rattle.clock_tables.specs.Value.{value_of, natural_of};
 ghost use Rattle.clock_tables.specs.Environment.{Agrees};
+ghost use Rattle.clock_tables.specs.Rows.{RowsHold};
 ghost use Rattle.findings.specs.Findings.{findings_in, FindingsHeld};
-ghost use Rattle.spelling.specs.Places.{letters_at};
+ghost use Rattle.spelling.specs.Places.{letters_in};
 ghost use Rattle.chain_order.specs.Order.{row_of, picked};
 ghost use Rattle.operands.specs.Spread.{tree};
 ghost use Rattle.layout.specs.Laid.{LaidNode};
-ghost use Rattle.checking.specs.Walk.{PortMarks, EquationStored};
-ghost use Rattle.infer_clocks.specs.declared.Tally.{Tally};
-ghost use Rattle.infer_clocks.specs.Clocked.{is_deep, found_in, found_from, joined, Tallied, ClockedOrDeep, Deeply, SitesTold};
+ghost use Rattle.checking.specs.Walk.{PortMarks, EquationStored, Stays};
+ghost use Rattle.infer_clocks.specs.Clocked.{is_deep, found_in, found_from, joined, Tallied, Counted, ClockedOrDeep, Deeply, SitesTold};
 
-use clock_tables::{Clock, Natural, Presence};
-use inference::Inference;
-use layout::NodeLayout;
+use checking::{CheckInput, CheckOutput};
+use clock_tables::{Clock, ClockTable, TooDeep};
+use findings::{FindingList, Findings};
+use grammar::Source;
+use layout::{NodeLayout, Span};
+use spelling::Spelling;
 
-// Checking so far: too deep a natural clock was formed, or the number of findings.
+// How many passes inference made over a node's equations, and how many findings there are.
 #[derive(Clone, Copy)]
-pub enum Tally {
-    Deep,
-    Count(usize),
-}
-
-// A node: too deep a clock was formed, or the number of passes and that of findings.
-#[derive(Clone, Copy)]
-pub enum NodeClocked {
-    Deep,
-    Clocked(usize, usize),
-}
-
-// The first of some nodes in which too deep a clock is formed; or where they end.
-#[derive(Clone, Copy)]
-pub enum Deepest {
-    Nowhere(usize),
-    At(u32),
-}
-
-// A natural clock, or base.
-fn or_base(n: Natural) -> Clock
-    ensures { (o : Option trees.Clock) → natural_of n ≡ formed o → value_of result ≡ or_base o }
-{
-    let p = n.presence;
-    match p {
-        Presence::Free => clock_tables::base(),
-        Presence::On => n.clock,
-        Presence::Deep => clock_tables::base(),
-    }
-}
-
-// Is it too deep a clock?
-fn is_deep(n: Natural) -> bool
-    ensures { result ≡ is_deep (natural_of n) }
-{
-    let p = n.presence;
-    match p {
-        Presence::Free => false,
-        Presence::On => false,
-        Presence::Deep => true,
-    }
-}
-
-fn wide(x: u8) -> u32
-    ensures { result ≡ x }
-{
-    x as u32
-}
-
-// The marks of the names below m as words, if both have room for them.
-fn widen(marks: &[u8], ports: &mut [u32], m: u32)
-    ensures { m ≤ length marks.now → m ≤ length ports.old → (x : ℕ) → x < m → get_or ports.new x 0 ≡ get_or marks.now x 0 }
-{
-    let n = m as usize;
-    if marks.len() < n {
-        return;
-    }
-    if ports.len() < n {
-        return;
-    }
-    let mut i: usize = 0;
-    while i < n {
-        ports[i] = wide(marks[i]);
-        i += 1;
-    }
+pub struct NodeClocked {
+    pub passes: usize,
+    pub findings: usize,
 }
 
 // What is found in the equation that stands there, its right side at `right`.
 fn check_one(
-    tags: &[u8],
-    values: &[u32],
-    names: u32,
-    env: &[u32],
-    ports: &[u32],
-    table: &mut [u32],
-    sites: &mut [u32],
-    number: u32,
+    input: &CheckInput<'_>,
+    output: &mut CheckOutput<'_, '_>,
     at: usize,
     right: usize,
-    n: usize,
-) -> Tally
-    requires { length values.now ≡ length tags.now }
-    ensures tallied { (node : Node) (clocks : Clocks) (e : Equation) (q : ℕ) (fs : List Finding) → Agrees env.now names clocks → PortMarks ports.now names node → equation names (tokens tags.now values.now) at ≡ got e q → tree names (tokens tags.now values.now) right ≡ got e.right q → FindingsHeld table.old n fs → Tallied table.new result (joined fs (found_in node clocks number e)) }
-    ensures equation_stored { (clocks : Clocks) (e : Equation) (q : ℕ) (o : Option trees.Clock) → Agrees env.now names clocks → equation names (tokens tags.now values.now) at ≡ got e q → tree names (tokens tags.now values.now) right ≡ got e.right q → rules.natural clocks e.right ≡ formed o → EquationStored names tags.now values.now sites.old sites.new number (or_base o) e at q }
+) -> Result<(), TooDeep>
+    ensures stays { Stays output.old output.new }
+    ensures tallied { (node : Node) (clocks : Clocks) (e : Equation) (q : ℕ) (fs : List Finding) → Agrees input.now.env.now input.now.source.names clocks → PortMarks input.now.ports.now input.now.source.names node → equation input.now.source.names (tokens_of input.now.source) at ≡ got e q → tree input.now.source.names (tokens_of input.now.source) right ≡ got e.right q → FindingsHeld output.old.findings.now.words.now output.old.findings.now.count fs → Tallied output.new result (joined fs (found_in node clocks input.now.equation e)) }
+    ensures equation_stored { (clocks : Clocks) (e : Equation) (q : ℕ) (o : Option trees.Clock) → Agrees input.now.env.now input.now.source.names clocks → equation input.now.source.names (tokens_of input.now.source) at ≡ got e q → tree input.now.source.names (tokens_of input.now.source) right ≡ got e.right q → rules.natural clocks e.right ≡ formed o → EquationStored input.now.source.names input.now.source.tags.now input.now.source.values.now output.old.sites.now output.new.sites.now input.now.equation (or_base o) e at q }
 {
-    let own = inference::natural_clock(tags, values, names, env, right);
-    if is_deep(own) {
-        return Tally::Deep;
-    }
-    let c = or_base(own);
-    let w = checking::check_equation(
-        tags, values, names, env, ports, table, sites, number, c, at, n,
-    );
-    Tally::Count(w.count)
+    let own = inference::natural_clock(&input.source, input.env, right)?;
+    let on = own.unwrap_or(Clock::base());
+    checking::check_equation(input, output, on, at);
+    Ok(())
 }
 
-// What is found in so many equations.
+// What is found in these equations, one after another.
 fn check_all(
-    tags: &[u8],
-    values: &[u32],
-    names: u32,
-    env: &[u32],
-    ports: &[u32],
+    input: &CheckInput<'_>,
+    output: &mut CheckOutput<'_, '_>,
+    equations: Span,
+) -> Result<(), TooDeep>
+    ensures stays { Stays output.old output.new }
+    ensures tallied { (node : Node) (clocks : Clocks) (es : List Equation) (q : ℕ) → Agrees input.now.env.now input.now.source.names clocks → PortMarks input.now.ports.now input.now.source.names node → times equations.count (equation input.now.source.names) (tokens_of input.now.source) equations.at ≡ got es q → output.old.findings.now.count ≡ 0 → Tallied output.new result (found_from node clocks 0 es) }
+    ensures by_index { (node : Node) (clocks : Clocks) (es : List Equation) (q : ℕ) (cs : List Clocked) → IsOk result → Agrees input.now.env.now input.now.source.names clocks → times equations.count (equation input.now.source.names) (tokens_of input.now.source) equations.at ≡ got es q → 17 * length input.now.source.tags.now ≤ length output.old.sites.now → clocked_by clocks es ≡ formed cs → SitesTold input.now.source.names input.now.source.tags.now input.now.source.values.now output.new.sites.now (join (numbered (check_equation node clocks) 0 cs)) cs equations.at q }
+{
+    let mut place = equations.at;
+    for equation in 0..equations.count {
+        let numbered = CheckInput { equation, ..*input };
+        let laid = layout::equation_at(&input.source, place);
+        check_one(&numbered, output, place, laid.right)?;
+        place = laid.end;
+    }
+    Ok(())
+}
+
+// What is found in a node's equations, in tables of its own: how much there is.
+fn check_node(
+    input: &CheckInput<'_>,
+    equations: Span,
     table: &mut [u32],
     sites: &mut [u32],
-    count: u32,
-    at: usize,
-) -> Tally
-    requires { length values.now ≡ length tags.now }
-    ensures tallied { (node : Node) (clocks : Clocks) (es : List Equation) (q : ℕ) → Agrees env.now names clocks → PortMarks ports.now names node → times count (equation names) (tokens tags.now values.now) at ≡ got es q → Tallied table.new result (found_from node clocks 0 es) }
-    ensures by_index { (m : ℕ) (node : Node) (clocks : Clocks) (es : List Equation) (q : ℕ) (cs : List Clocked) → result ≡ Tally.Count m → Agrees env.now names clocks → times count (equation names) (tokens tags.now values.now) at ≡ got es q → 17 * length tags.now ≤ length sites.old → clocked_by clocks es ≡ formed cs → SitesTold names tags.now values.now sites.new (join (numbered (check_equation node clocks) 0 cs)) cs at q }
+) -> Result<usize, TooDeep>
+    ensures counted { (node : Node) (clocks : Clocks) (es : List Equation) (q : ℕ) → Agrees input.now.env.now input.now.source.names clocks → PortMarks input.now.ports.now input.now.source.names node → times equations.count (equation input.now.source.names) (tokens_of input.now.source) equations.at ≡ got es q → Counted table.new result (found_from node clocks 0 es) }
+    ensures by_index { (node : Node) (clocks : Clocks) (es : List Equation) (q : ℕ) (cs : List Clocked) → IsOk result → Agrees input.now.env.now input.now.source.names clocks → times equations.count (equation input.now.source.names) (tokens_of input.now.source) equations.at ≡ got es q → 17 * length input.now.source.tags.now ≤ length sites.old → clocked_by clocks es ≡ formed cs → SitesTold input.now.source.names input.now.source.tags.now input.now.source.values.now sites.new (join (numbered (check_equation node clocks) 0 cs)) cs equations.at q }
 {
-    let mut k: u32 = 0;
-    let mut place = at;
-    let mut n: usize = 0;
-    while k < count {
-        let l = layout::equation_at(tags, values, names, place);
-        let right = l.right;
-        let end = l.end;
-        let found = check_one(
-            tags, values, names, env, ports, table, sites, k, place, right, n,
-        );
-        match found {
-            Tally::Count(m) => {
-                n = m;
-                place = end;
-                k += 1;
-            }
-            Tally::Deep => {
-                return Tally::Deep;
-            }
-        }
-    }
-    Tally::Count(n)
+    let mut findings = Findings {
+        words: table,
+        count: 0,
+    };
+    let mut output = CheckOutput {
+        findings: &mut findings,
+        sites,
+    };
+    check_all(input, &mut output, equations)?;
+    Ok(findings.count)
 }
 
 // The clocks of a node with this layout.
 pub fn clock_laid(
-    tags: &[u8],
-    values: &[u32],
-    names: u32,
+    source: &Source<'_>,
     l: NodeLayout,
     env: &mut [u32],
-    marks: &mut [u8],
-    ports: &mut [u32],
+    marks: &mut [bool],
     table: &mut [u32],
     sites: &mut [u32],
-) -> NodeClocked
-    requires { length values.now ≡ length tags.now }
-    ensures clocked_or_deep { (n : Node) (q : ℕ) → LaidNode names (tokens tags.now values.now) n q l → 17 * names ≤ length env.old → names ≤ length marks.old → names ≤ length ports.old → 38 * length tags.now ≤ length table.old → ClockedOrDeep env.new table.new names result (clocking n) }
-    ensures sites_told { (n : Node) (q : ℕ) (k : Clocking) → LaidNode names (tokens tags.now values.now) n q l → clocking n ≡ formed k → 17 * names ≤ length env.old → names ≤ length marks.old → names ≤ length ports.old → 38 * length tags.now ≤ length table.old → 17 * length tags.now ≤ length sites.old → SitesTold names tags.now values.now sites.new k.findings k.equations l.equations.at l.equations.end }
+) -> Result<NodeClocked, TooDeep>
+    ensures clocked_or_deep { (n : Node) (q : ℕ) → LaidNode source.now.names (tokens_of source.now) n q l → 17 * source.now.names ≤ length env.old → source.now.names ≤ length marks.old → 38 * length source.now.tags.now ≤ length table.old → ClockedOrDeep env.new table.new source.now.names result (clocking n) }
+    ensures sites_told { (n : Node) (q : ℕ) (k : Clocking) → LaidNode source.now.names (tokens_of source.now) n q l → clocking n ≡ formed k → 17 * source.now.names ≤ length env.old → source.now.names ≤ length marks.old → 38 * length source.now.tags.now ≤ length table.old → 17 * length source.now.tags.now ≤ length sites.old → SitesTold source.now.names source.now.tags.now source.now.values.now sites.new k.findings k.equations l.equations.at l.equations.end }
 {
-    let inferred = inference::infer(tags, values, names, l, env, marks);
-    match inferred {
-        Inference::Deep => NodeClocked::Deep,
-        Inference::Passes(k) => {
-            widen(marks, ports, names);
-            let e = l.equations;
-            let count = e.count;
-            let at = e.at;
-            let found = check_all(tags, values, names, env, ports, table, sites, count, at);
-            match found {
-                Tally::Deep => NodeClocked::Deep,
-                Tally::Count(n) => {
-                    if findings::any_deep(table, n) {
-                        return NodeClocked::Deep;
-                    }
-                    NodeClocked::Clocked(k, n)
-                }
-            }
-        }
+    let passes = inference::infer(source, l, env, marks)?;
+    let parts = layout::parts_table();
+    let input = CheckInput {
+        source: *source,
+        parts: &parts,
+        env,
+        ports: marks,
+        equation: 0,
+    };
+    let findings = check_node(&input, l.equations, table, sites)?;
+    let list = FindingList {
+        words: table,
+        count: findings,
+    };
+    if list.any_deep() {
+        return Err(TooDeep);
     }
+    Ok(NodeClocked { passes, findings })
 }
 
 // Is too deep a clock formed in a node with this layout? Not in one that uses no clocks, so its clocks are not inferred.
 fn deep_laid(
-    tags: &[u8],
-    values: &[u32],
-    names: u32,
+    source: &Source<'_>,
     l: NodeLayout,
     env: &mut [u32],
-    marks: &mut [u8],
-    ports: &mut [u32],
+    marks: &mut [bool],
     table: &mut [u32],
     sites: &mut [u32],
 ) -> bool
-    requires { length values.now ≡ length tags.now }
-    ensures { (n : Node) (q : ℕ) → LaidNode names (tokens tags.now values.now) n q l → 17 * names ≤ length env.old → names ≤ length marks.old → names ≤ length ports.old → 38 * length tags.now ≤ length table.old → result ≡ is_deep (clocking n) }
+    ensures { (n : Node) (q : ℕ) → LaidNode source.now.names (tokens_of source.now) n q l → 17 * source.now.names ≤ length env.old → source.now.names ≤ length marks.old → 38 * length source.now.tags.now ≤ length table.old → result ≡ is_deep (clocking n) }
 {
     let e = l.equations;
-    let uses = layout::equations_use_clocks(tags, values, e.count, e.at);
-    if !uses {
-        return false;
-    }
-    let k = clock_laid(tags, values, names, l, env, marks, ports, table, sites);
-    match k {
-        NodeClocked::Deep => true,
-        NodeClocked::Clocked(_, _) => false,
-    }
+    layout::equations_use_clocks(source, e.count, e.at)
+        && clock_laid(source, l, env, marks, table, sites).is_err()
 }
 
-// The first of so many nodes, the first of which stands there, in which too deep a clock is formed; or where they end.
+// Where so many nodes end, the first of which stands there; or the number of the first in which too deep a clock is formed.
+// Stays (no plainer): a count and a place, for nodes before or behind one that is asked about: no part of a sheet, which a `Span` is.
 pub fn first_deep(
-    tags: &[u8],
-    values: &[u32],
-    names: u32,
+    source: &Source<'_>,
     count: u32,
     at: usize,
     env: &mut [u32],
-    marks: &mut [u8],
-    ports: &mut [u32],
+    marks: &mut [bool],
     table: &mut [u32],
     sites: &mut [u32],
-) -> Deepest
-    requires { length values.now ≡ length tags.now }
-    ensures { (ns : List Node) (q : ℕ) → times count (node names) (tokens tags.now values.now) at ≡ got ns q → 17 * names ≤ length env.old → names ≤ length marks.old → names ≤ length ports.old → 38 * length tags.now ≤ length table.old → Deeply q result (clockings 0 ns) }
+) -> Result<usize, u32>
+    ensures { (ns : List Node) (q : ℕ) → times count (node source.now.names) (tokens_of source.now) at ≡ got ns q → 17 * source.now.names ≤ length env.old → source.now.names ≤ length marks.old → 38 * length source.now.tags.now ≤ length table.old → Deeply q result (clockings 0 ns) }
 {
-    let mut i: u32 = 0;
     let mut place = at;
-    while i < count {
-        let l = layout::node_at(tags, values, names, place);
-        if deep_laid(tags, values, names, l, env, marks, ports, table, sites) {
-            return Deepest::At(i);
+    for i in 0..count {
+        let l = layout::node_at(source, place);
+        if deep_laid(source, l, env, marks, table, sites) {
+            return Err(i);
         }
         place = l.end;
-        i += 1;
     }
-    Deepest::Nowhere(place)
+    Ok(place)
+}
+
+// The clocks of sites other than base, in a table of their own: how many there are.
+fn site_rows(findings: FindingList<'_>, rows: &mut [u32]) -> usize
+    ensures same_length { length rows.new ≡ length rows.old }
+    ensures held { (cs : List trees.Clock) → RowsHold rows.old 0 cs → RowsHold rows.new result (cs ++ sites (findings_in findings.entry.words.now findings.entry.count)) }
+{
+    let mut sites = ClockTable {
+        words: rows,
+        count: 0,
+    };
+    findings.list_sites(&mut sites);
+    sites.count
 }
 
 // The chains of a node by its findings, in order: how many there are, and which rows.
 pub fn chain_rows(
-    starts: &[u32],
-    letters: &[u8],
-    table: &[u32],
-    n: usize,
+    spelling: Spelling<'_>,
+    findings: FindingList<'_>,
     rows: &mut [u32],
     chain: &mut [u32],
 ) -> usize
-    ensures { 17 * n ≤ length rows.old → n ≤ length chain.old → n < 4294967296 → picked (row_of rows.new) chain.new 0 result ≡ chains (letters_at starts.now letters.now) (findings_in table.now n) }
+    ensures { 17 * findings.entry.count ≤ length rows.old → findings.entry.count ≤ length chain.old → findings.entry.count < 4294967296 → picked (row_of rows.new) chain.new 0 result ≡ chains (letters_in spelling.entry) (findings_in findings.entry.words.now findings.entry.count) }
 {
-    let m = findings::list_sites(table, n, rows, 0);
-    if chain.len() < m {
+    let count = site_rows(findings, rows);
+    if chain.len() < count {
         return 0;
     }
-    if 4294967295 < m {
-        return 0;
+    match u32::try_from(count) {
+        Ok(n) => chain_order::sort_rows(spelling, rows, chain, n),
+        Err(_) => 0,
     }
-    let k = m as u32;
-    chain_order::sort_rows(starts, letters, rows, chain, k)
 }

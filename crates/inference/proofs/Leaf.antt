@@ -1,5 +1,7 @@
 -- A leaf without a clock. Assumes nothing.
 use Prim.Native.Nat.{ℕ, ◌*◌, ◌<◌}
+use Rattle.std.specs.Prelude as rust
+use Rattle.std.specs.Prelude.{Some}
 use mathlib.Core.Path.{◌≡◌, sym, ◌∙◌, ap}
 use mathlib.Core.List.{List}
 use mathlib.Core.Option.{none}
@@ -17,9 +19,9 @@ use Rattle.operands.specs.Spread.{tree}
 use Rattle.operands.proofs.Leaves.{leaf-says}
 use Rattle.inference.proofs.Low.{role-low}
 
-module _ (M : ℕ) (gs vs : List ℕ) (same : length vs ≡ length gs) (p : ℕ) (e : Expr) (q : ℕ) (g : tree M (tokens gs vs) p ≡ got e q) (k : Leaf) (i : k ≡ leaf_at (length gs) (get_or gs p 0) (get_or vs p 0) p) (env : List ℕ) (clocks : Clocks) (a : Agrees env M clocks) where
+module _ (M : ℕ) (gs vs : List ℕ) (same : length vs ≡ length gs) (p : ℕ) (e : Expr) (q : ℕ) (g : tree M (tokens gs vs) p ≡ got e q) (k : rust.Option Leaf) (i : k ≡ leaf_at (length gs) (get_or gs p 0) (get_or vs p 0) p) (env : List ℕ) (clocks : Clocks) (a : Agrees env M clocks) where
   -- a name that has none
-  pub free-name : (x s w : ℕ) → k ≡ Leaf.Name x s → w ≡ get_or env (17 * x) 0 → w ≡ 0 → (natural clocks e ≡ formed none) × (s ≡ q)
+  pub free-name : (x s w : ℕ) → k ≡ Some (Leaf.Name x s) → w ≡ get_or env (17 * x) 0 → w ≡ 0 → (natural clocks e ≡ formed none) × (s ≡ q)
   unfolding natural env_at role_of_expr
   free-name x s w j u z =
       let l : (e ≡ Expr.var x) × (q ≡ s) = rw j at (leaf-says M gs vs same p e q g k i) in
@@ -27,7 +29,7 @@ module _ (M : ℕ) (gs vs : List ℕ) (same : length vs ≡ length gs) (p : ℕ)
       let n : env_at env x ≡ none = rw (eq-eqb (get_or env (17 * x) 0) 0 (sym u ∙ z)) in
       (ap (natural clocks) l.0 ∙ ap formed (sym (a.same x b) ∙ n), sym l.1)
 
-  pub free-constant : (s : ℕ) → k ≡ Leaf.Constant s → (natural clocks e ≡ formed none) × (s ≡ q)
+  pub free-constant : (s : ℕ) → k ≡ Some (Leaf.Constant s) → (natural clocks e ≡ formed none) × (s ≡ q)
   unfolding natural
   free-constant s j =
       let l = rw j at (leaf-says M gs vs same p e q g k i) in

@@ -1,6 +1,8 @@
 -- The natural clock, arm by arm, and the walk over operands.
 -- Assumes nothing.
-use Prim.Native.Nat.{ℕ, ◌-◌, ◌<◌}
+use Prim.Native.Nat.{ℕ, ◌+◌, ◌-◌, ◌<◌}
+use Rattle.std.specs.Prelude as rust
+use Rattle.std.specs.Prelude.{Some}
 use mathlib.Core.Path.{◌≡◌, refl, sym, ◌∙◌, ap}
 use mathlib.Core.List.{List}
 use mathlib.Core.Bool.{Bool, true, false}
@@ -24,7 +26,7 @@ use Rattle.operands.specs.Role.{role_of_expr, operands_of}
 use Rattle.operands.specs.Spread.{tree, spread, later, operand_at, rest_at}
 use Rattle.operands.proofs.Laws.{spread-nil}
 use Rattle.operands.proofs.Apart.{Apart, apart}
-use Rattle.inference.specs.declared.Found.{Found}
+use Rattle.inference.specs.declared.FoundClock.{FoundClock}
 use Rattle.inference.specs.Natural.{is_free, Finds, lifted, first_of}
 
 -- ---- clocks or none
@@ -61,20 +63,6 @@ sample-some k (formed none) none h = over-some k base h
 sample-some k (formed none) (some c) h = over-some k c h
 sample-some k (formed (some c)) o h = over-some k c h
 
--- ---- the parent of what was found
-module _ (f : Found) (n : Natural) (q : ℕ) (h : Finds f n q) where
-  pub above-free : is_free (natural_of f.natural) ≡ true → Finds f (parent_of n) q
-  above-free i = let j : n ≡ formed none = sym h.clock ∙ free-none _ i in rw j (record { clock = h.clock ∙ j; end = λ e. h.end j })
-
-  module _ (r : Found) (up : Natural) (i : up ≡ parent_of (natural_of f.natural)) where
-    pub above-none : is_free up ≡ true → (natural_of r.natural ≡ formed none) × (r.end ≡ q) → Finds r (parent_of n) q
-    above-none j k = record { clock = k.0 ∙ (sym (free-none up j) ∙ (i ∙ ap parent_of h.clock)); end = λ e. k.1 }
-
-    pub above-some : is_free up ≡ false → natural_of r.natural ≡ up → Finds r (parent_of n) q
-    above-some j k =
-        let l : up ≡ parent_of n = i ∙ ap parent_of h.clock in
-        record { clock = k ∙ l; end = λ e. absurd (kept-some up j (l ∙ e)) }
-
 -- ---- operands
 -- the first clock among them is that of the definitions
 first-naturals : (clocks : Clocks) (es : Exprs) → first_of clocks false es ≡ naturals clocks es
@@ -89,10 +77,7 @@ pub record Remains (M : ℕ) (ts : List TagValue) (clocks : Clocks) (up : Bool) 
   pub same : first_of clocks up others ≡ all
 
 module _ (M : ℕ) (ts : List TagValue) (clocks : Clocks) (up : Bool) (g : Gap) (n p q : ℕ) where
-  pub remains-all : (es : Exprs) → spread M g n (tree M) ts p ≡ got es q → Remains M ts clocks up g n p q (first_of clocks up es)
-  remains-all es h = record { others = es; stand = h; same = refl }
-
-  pub remains-none : (all : Natural) → Remains M ts clocks up g n p q all → n ≡ 0 → (r : Found) → (natural_of r.natural ≡ formed none) × (r.end ≡ p) → Finds r all q
+  pub remains-none : (all : Natural) → Remains M ts clocks up g n p q all → n ≡ 0 → (r : FoundClock) → (natural_of r.natural ≡ formed none) × (r.end ≡ p) → Finds r all q
   unfolding first_of
   remains-none all h z r k =
       let i = spread-nil M (tree M) ts g n p h.others q z h.stand in
@@ -109,24 +94,24 @@ lifted-none false n i = i
 
 module _ (M : ℕ) (ts : List TagValue) (env : List ℕ) (up : Bool) (place : ℕ) where
   -- a leaf
-  pub passed-leaf : (end : ℕ) → place < end → ((N : ℕ) (e : Expr) (q : ℕ) (clocks : Clocks) → tree N ts place ≡ got e q → Agrees env N clocks → place < end → (natural clocks e ≡ formed none) × (end ≡ q)) → Passed M ts env up place end
-  passed-leaf end b F = record { passed = λ e q clocks g a. let f = F M e q clocks g a b in (lifted-none up (natural clocks e) f.0, f.1) }
+  pub passed-leaf : (end : ℕ) (r : rust.Option ℕ) → r ≡ Some end → ((N : ℕ) (e : Expr) (q s : ℕ) (clocks : Clocks) → tree N ts place ≡ got e q → Agrees env N clocks → r ≡ Some s → (natural clocks e ≡ formed none) × (s ≡ q)) → Passed M ts env up place end
+  passed-leaf end r b F = record { passed = λ e q clocks g a. let f = F M e q end clocks g a b in (lifted-none up (natural clocks e) f.0, f.1) }
 
   -- what was walked
-  pub passed-walk : (f : Found) → is_free (natural_of f.natural) ≡ true → ((e : Expr) (q : ℕ) (clocks : Clocks) → tree M ts place ≡ got e q → Agrees env M clocks → Finds f (lifted up (natural clocks e)) q) → Passed M ts env up place f.end
+  pub passed-walk : (f : FoundClock) → is_free (natural_of f.natural) ≡ true → ((e : Expr) (q : ℕ) (clocks : Clocks) → tree M ts place ≡ got e q → Agrees env M clocks → Finds f (lifted up (natural clocks e)) q) → Passed M ts env up place f.end
   passed-walk f i F = record { passed = λ e q clocks g a. let h = F e q clocks g a in let j : lifted up (natural clocks e) ≡ formed none = sym h.clock ∙ free-none _ i in (j, h.end j) }
 
 -- the first of the operands that are left; M is the number of names
-module _ (M : ℕ) (gs vs env : List ℕ) (same : length vs ≡ length gs) (up : Bool) (g : Gap) (n p place : ℕ) (i : place ≡ operand_at (length gs) g p) (z : n ≡ 0 → ⊥) (q : ℕ) (clocks : Clocks) (a : Agrees env M clocks) (all : Natural) (h : Remains M (tokens gs vs) clocks up g n p q all) where
-  abbrev split : Apart M gs vs g n p h.others q place
-  split = apart M gs vs same g n p h.others q place z i h.stand
+module _ (M : ℕ) (gs vs env : List ℕ) (same : length vs ≡ length gs) (up : Bool) (g : Gap) (n k p place : ℕ) (i : place ≡ operand_at (length gs) g p) (z : k < n) (q : ℕ) (clocks : Clocks) (a : Agrees env M clocks) (all : Natural) (h : Remains M (tokens gs vs) clocks up g (n - k) p q all) where
+  abbrev split : Apart M gs vs g (n - k) p h.others q place
+  split = apart M gs vs same g (n - k) p h.others q place (λ y. omega (arith, y, z)) i h.stand
 
   whole : lifted up (natural clocks split.first) or first_of clocks up split.rest ≡ all
   unfolding first_of
   whole = ap (first_of clocks up) (sym split.whole) ∙ h.same
 
   -- it has a clock
-  pub remains-here : (f : Found) → is_free (natural_of f.natural) ≡ false → ((e : Expr) (q : ℕ) (clocks : Clocks) → tree M (tokens gs vs) place ≡ got e q → Agrees env M clocks → Finds f (lifted up (natural clocks e)) q) → Finds f all q
+  pub remains-here : (f : FoundClock) → is_free (natural_of f.natural) ≡ false → ((e : Expr) (q : ℕ) (clocks : Clocks) → tree M (tokens gs vs) place ≡ got e q → Agrees env M clocks → Finds f (lifted up (natural clocks e)) q) → Finds f all q
   remains-here f j F =
       let r = F split.first split.end clocks split.here a in
       let k : is_free (lifted up (natural clocks split.first)) ≡ false = rw r.clock at j in
@@ -134,40 +119,38 @@ module _ (M : ℕ) (gs vs env : List ℕ) (same : length vs ≡ length gs) (up :
       record { clock = r.clock ∙ m; end = λ e. absurd (kept-some _ k (m ∙ e)) }
 
   -- it has none
-  module _ (end : ℕ) (b : Passed M (tokens gs vs) env up place end) (next : ℕ) (k : next ≡ rest_at (length gs) g end) where
+  module _ (end : ℕ) (b : Passed M (tokens gs vs) env up place end) (next : ℕ) (j : next ≡ rest_at (length gs) g end) where
     ends : next ≡ rest_at (length gs) g split.end
-    ends = k ∙ ap (rest_at (length gs) g) (b.passed split.first split.end clocks split.here a).1
+    ends = j ∙ ap (rest_at (length gs) g) (b.passed split.first split.end clocks split.here a).1
 
     pub remains-past : p < next
     remains-past = rw ends split.past
 
-    pub remains-rest : (l : Gap) → l ≡ later g → Remains M (tokens gs vs) clocks up l (n - 1) next q all
+    pub remains-rest : (l : Gap) → l ≡ later g → Remains M (tokens gs vs) clocks up l (n - (k + 1)) next q all
     remains-rest l e =
         let m = (b.passed split.first split.end clocks split.here a).0 in
-        record { others = split.rest; stand = rw (e, ends) split.others; same = rw m at whole }
+        let f : n - (k + 1) ≡ n - k - 1 = omega arith in
+        record { others = split.rest; stand = rw (f, e, ends) split.others; same = rw m at whole }
 
 -- ---- an expression, by its role
 pub var-ends : (e : Expr) (x : ℕ) → e ≡ Expr.var x → operands_of e ≡ Exprs.end
 unfolding operands_of
 var-ends e x i = rw i
 
-pub sampled-of : (k : Condition) (r c i n o l : Natural) (x : Option Clock) (b : Clock) → r ≡ condition_over k c → c ≡ i or l → i ≡ n or o → o ≡ formed x → l ≡ formed (some b) → b ≡ base → r ≡ condition_over k (n or formed x or formed (some base))
-sampled-of k r c i n o l x b h₁ h₂ h₃ h₄ h₅ h₆ = rw (h₁, h₂, h₃, h₄, h₅, h₆)
-
 -- M is the number of names
 module _ (M : ℕ) (env : List ℕ) (clocks : Clocks) (a : Agrees env M clocks) (e : Expr) (q : ℕ) where
-  pub name-arm : (x : ℕ) (r : Found) (p : ℕ) → e ≡ Expr.var x → x < M → natural_of r.natural ≡ formed (env_at env x) → p ≡ q → r.end ≡ p → Finds r (natural clocks e) q
+  pub name-arm : (x : ℕ) (r : FoundClock) (p : ℕ) → e ≡ Expr.var x → x < M → natural_of r.natural ≡ formed (env_at env x) → p ≡ q → r.end ≡ p → Finds r (natural clocks e) q
   unfolding natural
   name-arm x r p i l j k m = rw i (record { clock = j ∙ ap formed (a.same x l); end = λ z. m ∙ k })
 
-  pub sample-arm : (k : Condition) (b : Expr) (f r : Found) → e ≡ Expr.when k b → k.name < M → Finds f (first_of clocks false (operands_of e)) q →
+  pub sample-arm : (k : Condition) (b : Expr) (f r : FoundClock) → e ≡ Expr.when k b → k.name < M → Finds f (first_of clocks false (operands_of e)) q →
       natural_of r.natural ≡ condition_over k (natural_of f.natural or formed (env_at env k.name) or formed (some base)) → Finds r (natural clocks e) q
   unfolding natural first_of operands_of
   sample-arm k b f r i l h j =
       let n : natural_of f.natural ≡ natural clocks b = rw i at h.clock ∙ or-none (natural clocks b) in
       rw i (record { clock = j ∙ rw (n, a.same k.name l); end = λ z. absurd (sample-some k (natural clocks b) _ z) })
 
-  pub join-name : (x : ℕ) (b c : Expr) (r : Found) → e ≡ Expr.merge x b c → x < M → natural_of r.natural ≡ formed (env_at env x) → is_free (natural_of r.natural) ≡ false → Finds r (natural clocks e) q
+  pub join-name : (x : ℕ) (b c : Expr) (r : FoundClock) → e ≡ Expr.merge x b c → x < M → natural_of r.natural ≡ formed (env_at env x) → is_free (natural_of r.natural) ≡ false → Finds r (natural clocks e) q
   unfolding natural
   join-name x b c r i l j f =
       let n : natural_of r.natural ≡ formed (clock_of clocks x) = j ∙ ap formed (a.same x l) in
@@ -176,7 +159,7 @@ module _ (M : ℕ) (env : List ℕ) (clocks : Clocks) (a : Agrees env M clocks) 
       let m : formed (clock_of clocks x) or parent_of (natural clocks b) or parent_of (natural clocks c) ≡ formed (clock_of clocks x) = rw k (kept-first _ _ g) in
       rw i (record { clock = n ∙ sym m; end = λ z. absurd (kept-some _ g (sym m ∙ z)) })
 
-  pub join-branches : (x : ℕ) (b c : Expr) (n : Natural) (r : Found) → e ≡ Expr.merge x b c → x < M → n ≡ formed (env_at env x) → is_free n ≡ true → Finds r (first_of clocks true (operands_of e)) q → Finds r (natural clocks e) q
+  pub join-branches : (x : ℕ) (b c : Expr) (n : Natural) (r : FoundClock) → e ≡ Expr.merge x b c → x < M → n ≡ formed (env_at env x) → is_free n ≡ true → Finds r (first_of clocks true (operands_of e)) q → Finds r (natural clocks e) q
   unfolding natural first_of operands_of
   join-branches x b c n r i l j f h =
       let k : formed (clock_of clocks x) ≡ formed none = sym (j ∙ ap formed (a.same x l)) ∙ free-none n f in
@@ -199,7 +182,7 @@ rest clocks (Expr.call f es) h = refl
 rest clocks (Expr.when k a) h = absurd (h.sample k refl)
 rest clocks (Expr.merge x a b) h = absurd (h.join x refl)
 
-pub rest-arm : (clocks : Clocks) (e : Expr) (v : Role) (r : Found) (q : ℕ) → v ≡ role_of_expr e → ((x : ℕ) → v ≡ Role.Name x → ⊥) → ((k : Condition) → v ≡ Role.Sample k → ⊥) → ((x : ℕ) → v ≡ Role.Join x → ⊥)
+pub rest-arm : (clocks : Clocks) (e : Expr) (v : Role) (r : FoundClock) (q : ℕ) → v ≡ role_of_expr e → ((x : ℕ) → v ≡ Role.Name x → ⊥) → ((k : Condition) → v ≡ Role.Sample k → ⊥) → ((x : ℕ) → v ≡ Role.Join x → ⊥)
     → Finds r (first_of clocks false (operands_of e)) q → Finds r (natural clocks e) q
 rest-arm clocks e v r q i n s m j =
     rw (sym (rest clocks e (record { name = λ x z. n x (i ∙ z); sample = λ k z. s k (i ∙ z); join = λ x z. m x (i ∙ z) })) ∙ sym (first-naturals clocks (operands_of e))) j

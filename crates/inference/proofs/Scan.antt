@@ -1,6 +1,6 @@
 -- The natural clock of an expression by its tokens: that of the first name that has one, where no when or merge stands before it;
 -- none, where no token gives one. Assumes nothing.
-use Prim.Native.Nat.{ℕ, ◌+◌, ◌-◌, ◌*◌, ◌<◌, ◌≤◌}
+use Prim.Native.Nat.{ℕ, ◌+◌, ◌-◌, ◌*◌, ◌<◌}
 use mathlib.Core.Path.{◌≡◌, refl, sym, ◌∙◌, ap, ap₂, subst}
 use mathlib.Core.List.{List}
 use mathlib.Core.Bool.{Bool, true, false, not}
@@ -8,7 +8,7 @@ use mathlib.Core.Option.{Option, none, some}
 use native.Mathlib.Omega.{arith}
 use lib.Dec.{eqb, ltb}
 use lib.ListN.{length, get_or}
-use borrow.Author.Tests.{eqb-true, ne_eqb, lt-ltb, ltb-true}
+use borrow.Author.Tests.{ne_eqb, lt-ltb, ltb-true}
 use Rattle.definitions.specs.Lists.{choose}
 use Rattle.definitions.specs.Bytes.{tokens}
 use Rattle.definitions.specs.Tokens.{given}
@@ -23,8 +23,9 @@ use Rattle.layout.proofs.Owed.{owed_none, owed-step, owed-on}
 use Rattle.layout.proofs.Ends.{expr-part}
 use Rattle.layout.proofs.Marks.{bears, borne, expr-marks, marks-none, marks-found, marks-past}
 use Rattle.operands.specs.Spread.{tree}
-use Rattle.inference.specs.declared.Told.{Told}
-use Rattle.inference.specs.Natural.{is_free, listed, told_by, Tells}
+use Rattle.std.specs.declared.option.Option as code
+use Rattle.std.specs.declared.option.Option.TheVariants.{None, Some}
+use Rattle.inference.specs.Natural.{is_free, listed, Tells}
 use Rattle.inference.proofs.NaturalLaws.{free-none, kept-first}
 
 -- ---- a token
@@ -128,26 +129,23 @@ module _ {env gs vs : List ℕ} {p : ℕ} where
     rest : Owed gs vs place owed q × Marks (listed env) gs vs place q (bears (clock-mark clocks M) e)
     rest = l.left q _ (expr-part gs vs same M 32 p e q g) (expr-marks (listed env) gs vs same M (clock-mark clocks M) (listed-mark clocks M env a) 32 p e q g)
 
-    pub left-none : owed ≤ 0 → natural clocks e ≡ formed none
+    pub left-none : owed ≡ 0 → natural clocks e ≡ formed none
     left-none z =
         let i = owed_none rest.0 (omega arith) in
         says-by clocks M e none (marks-none rest.1 (omega arith))
 
-    pub left-found : (tag v : ℕ) (r : Told) → tag ≡ get_or gs place 0 → v ≡ get_or vs place 0 → 0 < owed → there (mark_of (listed env) tag v) ≡ true → r ≡ told_by tag v → Tells r env (natural clocks e)
-    left-found tag v r i j z h k = rw k (go (eqb tag 54) refl)
-      where
-        go : (b : Bool) → eqb tag 54 ≡ b → Tells (choose b (Told.Name v) Told.Open) env (natural clocks e)
-        go true u =
-            let m : mark_of (listed env) (get_or gs place 0) (get_or vs place 0) ≡ some (named v) = ap₂ (mark_of (listed env)) (sym i) (sym j) ∙ name-marked (listed env) tag v (eqb-true tag 54 u) h in
-            let n = owed-on rest.0 in
-            let s = says-by clocks M e (some (named v)) (marks-found (named v) rest.1 (omega arith) m) in
-            s.0 ∙ ap formed (sym (a.same v s.2))
-        go false u = tt
+    -- a name that gives one
+    pub left-found : (tag v : ℕ) → tag ≡ get_or gs place 0 → v ≡ get_or vs place 0 → 0 < owed → there (mark_of (listed env) tag v) ≡ true → tag ≡ 54 → natural clocks e ≡ formed (env_at env v)
+    left-found tag v i j z h k =
+        let m : mark_of (listed env) (get_or gs place 0) (get_or vs place 0) ≡ some (named v) = ap₂ (mark_of (listed env)) (sym i) (sym j) ∙ name-marked (listed env) tag v k h in
+        let n = owed-on rest.0 in
+        let s = says-by clocks M e (some (named v)) (marks-found (named v) rest.1 (omega arith) m) in
+        s.0 ∙ ap formed (sym (a.same v s.2))
 
 -- ---- what is told, found
-module _ (t : Told) (env : List ℕ) (n : Natural) (h : Tells t env n) (r : Natural) where
-  pub told_free : t ≡ Told.Free → r ≡ formed none → r ≡ n
-  told_free i k = k ∙ sym (subst (λ (x : Told). Tells x env n) i h)
+module _ (t : code.Option (code.Option ℕ)) (env : List ℕ) (n : Natural) (h : Tells t env n) (r : Natural) where
+  pub told_free : t ≡ Some None → r ≡ formed none → r ≡ n
+  told_free i k = k ∙ sym (subst (λ (x : code.Option (code.Option ℕ)). Tells x env n) i h)
 
-  pub told-name : (x : ℕ) → t ≡ Told.Name x → r ≡ formed (env_at env x) → r ≡ n
-  told-name x i k = k ∙ sym (subst (λ (y : Told). Tells y env n) i h)
+  pub told-name : (x : ℕ) → t ≡ Some (Some x) → r ≡ formed (env_at env x) → r ≡ n
+  told-name x i k = k ∙ sym (subst (λ (y : code.Option (code.Option ℕ)). Tells y env n) i h)

@@ -1,13 +1,13 @@
 -- What the walk finds: a natural clock, with the place behind what has none.
 use Rattle.std.specs.Prelude.{ℕ, ◌*◌, ◌≡◌, List, Bool, true, false, not, eqb, get_or}
 use Rattle.std.proofs.Math.Option.{none, some}
-use Rattle.definitions.specs.Lists.{choose}
 use Rattle.definitions.specs.Tree.{Exprs}
 use Rattle.definitions.specs.InferClocks.{Natural, Clocks, deep, formed, ◌or◌, parent_of, natural}
 use Rattle.clock_tables.specs.Value.{natural_of}
 use Rattle.clock_tables.specs.Environment.{env_at}
-use Rattle.inference.specs.declared.Found.{Found}
-use Rattle.inference.specs.declared.Told.{Told}
+use Rattle.inference.specs.declared.FoundClock.{FoundClock}
+use Rattle.std.specs.declared.option.Option as code
+use Rattle.std.specs.declared.option.Option.TheVariants.{None, Some}
 
 -- is there no clock?
 abbrev pub is_free : Natural → Bool
@@ -16,7 +16,7 @@ is_free (formed none) = true
 is_free (formed (some c)) = false
 
 -- r is the natural clock n of what ends at q; without a clock it says where that is
-pub record Finds (r : Found) (n : Natural) (q : ℕ) : Type 0 where
+pub record Finds (r : FoundClock) (n : Natural) (q : ℕ) : Type 0 where
   pub clock : natural_of r.natural ≡ n
   pub end : n ≡ formed none → r.end ≡ q
 
@@ -35,12 +35,8 @@ first_of clocks up (Exprs.and e es) = lifted up (natural clocks e) or first_of c
 abbrev pub listed : List ℕ → ℕ → Bool
 listed env x = not (eqb (get_or env (17 * x) 0) 0)
 
--- what the first token that gives a clock tells: a "54 var(id)" is the first that has one
-abbrev pub told_by : ℕ → ℕ → Told
-told_by tag v = choose (eqb tag 54) (Told.Name v) Told.Open
-
 -- what is told is so of the natural clock n
-abbrev pub Tells : Told → List ℕ → Natural → Type 0
-Tells Told.Free env n = n ≡ formed none
-Tells (Told.Name x) env n = n ≡ formed (env_at env x)
-Tells Told.Open env n = Unit {0}
+abbrev pub Tells : code.Option (code.Option ℕ) → List ℕ → Natural → Type 0
+Tells (Some None) env n = n ≡ formed none
+Tells (Some (Some x)) env n = n ≡ formed (env_at env x)
+Tells None env n = Unit {0}

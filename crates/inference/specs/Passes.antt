@@ -1,21 +1,21 @@
 -- What inference keeps in its tables, and what it answers.
-use Rattle.std.specs.Prelude.{ℕ, ◌<◌, ◌≡◌, List, ◌∷◌, Bool, true, false, ◌||◌, eqb, get_or}
+use Rattle.std.specs.Prelude.{ℕ, ◌<◌, ◌≡◌, List, ◌∷◌, Bool, true, false, ◌||◌, get_or, Result, Ok, Err}
 use Rattle.std.proofs.Math.Option.{Option, none, some}
 use Rattle.definitions.specs.Lists.{choose, among}
 use Rattle.definitions.specs.Tree.{Equation, Node}
 use Rattle.definitions.specs.Clock.{Clock, base, same_clock}
 use Rattle.definitions.specs.InferClocks.{Formed, deep, formed, ◌>>=◌, Pass, Inferred, natural, is_port, has_clock, give_natural}
 use Rattle.clock_tables.specs.Environment.{env_at, Agrees}
-use Rattle.inference.specs.declared.Inference.{Inference}
+use Rattle.clock_tables.specs.declared.TooDeep.{TooDeep}
 
 -- of the names below m, those of l are marked
-pub record Marked (t : List ℕ) (m : ℕ) (l : List ℕ) : Type 0 where
-  pub same : (x : ℕ) → x < m → eqb (get_or t x 0) 1 ≡ among x l
+pub record Marked (t : List Bool) (m : ℕ) (l : List ℕ) : Type 0 where
+  pub same : (x : ℕ) → x < m → get_or t x false ≡ among x l
 
 -- once those of r are put on base and marked too, the tables are what t₀ and p₀ are with those of l on base and marked
-pub record PortsPlaced (m : ℕ) (t p r t₀ p₀ l : List ℕ) : Type 0 where
+pub record PortsPlaced (m : ℕ) (t : List ℕ) (p : List Bool) (r t₀ : List ℕ) (p₀ : List Bool) (l : List ℕ) : Type 0 where
   pub clocks : (x : ℕ) → x < m → choose (among x r) (some base) (env_at t x) ≡ choose (among x l) (some base) (env_at t₀ x)
-  pub marks : (x : ℕ) → x < m → choose (among x r) 1 (get_or p x 0) ≡ choose (among x l) 1 (get_or p₀ x 0)
+  pub marks : (x : ℕ) → x < m → choose (among x r) true (get_or p x false) ≡ choose (among x l) true (get_or p₀ x false)
 
 -- a pass so far
 pub record PassSoFar (t : List ℕ) (m : ℕ) (changed : Bool) (p : Pass) : Type 0 where
@@ -36,6 +36,6 @@ abbrev pub stepped : Node → Equation → Pass → Formed Pass
 stepped n e p = natural p.clocks e.right >>= λ o. formed (give_natural n o e.left p)
 
 -- the code's answer for a node: the number of passes, and the clocks in the table
-unfoldable pub Infers : List ℕ → ℕ → Inference → Formed Inferred → Type 0
-Infers t m Inference.Deep v = v ≡ deep
-Infers t m (Inference.Passes k) v = (i : Inferred) × (v ≡ formed i) × (i.passes ≡ k) × Agrees t m i.clocks
+unfoldable pub Infers : List ℕ → ℕ → Result ℕ TooDeep → Formed Inferred → Type 0
+Infers t m (Err d) v = v ≡ deep
+Infers t m (Ok k) v = (i : Inferred) × (v ≡ formed i) × (i.passes ≡ k) × Agrees t m i.clocks

@@ -1,5 +1,5 @@
 -- Which equations a pass need not read: those none of whose names changed in it or in the pass before.
-use Rattle.std.specs.Prelude.{ℕ, zero, suc, ◌≤◌, ◌<◌, ◌≡◌, Bool, true, false, ◌||◌, eqb, ltb, leb, length, get_or, set}
+use Rattle.std.specs.Prelude.{ℕ, zero, suc, ◌≤◌, ◌<◌, ◌≡◌, Bool, true, false, ◌||◌, eqb, ltb, leb, length, get_or, set, Result, Ok, Err}
 use mathlib.Core.List.{List, [], ◌∷◌, Memᴰ}
 use Rattle.std.proofs.Math.Option.{Option, none, some}
 use Rattle.definitions.specs.Lists.{choose}
@@ -10,7 +10,7 @@ use Rattle.definitions.specs.Clock.{Clock}
 use Rattle.definitions.specs.InferClocks.{Formed, deep, formed, Clocks, clock_of, natural, Pass, is_port, has_clock}
 use Rattle.grammar.specs.Outcome.{outcome}
 use Rattle.layout.specs.Spans.{end_of}
-use Rattle.inference.specs.declared.Passing.{Passing}
+use Rattle.clock_tables.specs.declared.TooDeep.{TooDeep}
 use Rattle.inference.specs.Passes.{PassSoFar, given, stepped}
 
 -- where the equation at p ends; p, where it is refused
@@ -99,12 +99,12 @@ dates n c present (x ∷ xs) p since = dates n c present xs (given n c x p) (dat
 pub record Moves (present : ℕ) (since since' : List ℕ) (clocks clocks' : Clocks) : Type 0 where
   pub same : (x b : ℕ) → b ≤ present → Unchanged since' b x → Unchanged since b x × (clock_of clocks' x ≡ clock_of clocks x)
 
--- the code's answer for an equation in the pass `present`
-unfoldable pub Turned : Node → Equation → ℕ → List ℕ → List ℕ → List ℕ → ℕ → Pass → Passing → Type 0
-Turned n e present since since' t m p Passing.Deep = stepped n e p ≡ deep
-Turned n e present since since' t m p (Passing.Made b) = (p' : Pass) × (stepped n e p ≡ formed p') × PassSoFar t m b p' × Moves present since since' p.clocks p'.clocks × Calm n since' present p'.clocks e
+-- the code's answer for an equation in the pass `present`, in which something had changed before or not
+unfoldable pub Turned : Node → Equation → ℕ → List ℕ → List ℕ → List ℕ → ℕ → Pass → Bool → Result Bool TooDeep → Type 0
+Turned n e present since since' t m p before (Err d) = stepped n e p ≡ deep
+Turned n e present since since' t m p before (Ok b) = (p' : Pass) × (stepped n e p ≡ formed p') × PassSoFar t m (b || before) p' × Moves present since since' p.clocks p'.clocks × Calm n since' present p'.clocks e
 
 -- the code's answer for the pass `present`
-unfoldable pub Gone : Node → List Equation → ℕ → List ℕ → List ℕ → ℕ → Passing → Formed Pass → Type 0
-Gone n es present since' t m Passing.Deep v = v ≡ deep
-Gone n es present since' t m (Passing.Made b) v = (p : Pass) × (v ≡ formed p) × PassSoFar t m b p × Calms n since' present p.clocks es
+unfoldable pub Gone : Node → List Equation → ℕ → List ℕ → List ℕ → ℕ → Result Bool TooDeep → Formed Pass → Type 0
+Gone n es present since' t m (Err d) v = v ≡ deep
+Gone n es present since' t m (Ok b) v = (p : Pass) × (v ≡ formed p) × PassSoFar t m b p × Calms n since' present p.clocks es

@@ -31,7 +31,3 @@ module _ (M : ℕ) (ts : List TagValue) (d : TypeDef) (q : ℕ) (r : Defined) (h
   pub summary-alias : (x p : ℕ) → r ≡ Defined.Alias x p → record { name = x; kind = TypeKind.Alias; count = 1 } ≡ type_summary d
   unfolding Described
   summary-alias x p e = let g = known (Defined.Alias x p) e in sym (ap type_summary g.2)
-
-  pub summary-none : r ≡ Defined.Nothing → ⊥
-  unfolding Described
-  summary-none e = known Defined.Nothing e

@@ -5,7 +5,6 @@ use Prim.Native.Nat.{ℕ, zero, suc, ◌+◌, ◌*◌, ◌-◌, ◌<◌, ◌≤�
 use native.Mathlib.Omega.{arith}
 use native.Mathlib.Numerals.{sub-one}
 use lib.ListN.{length, get_or}
-use Rattle.definitions.specs.Tokens.{TagValue}
 use Rattle.definitions.specs.Bytes.{tokens}
 use Rattle.definitions.specs.Tree.{Ty, Declared, TypeDef, Expr, Equation, Probe}
 use Rattle.definitions.specs.Reading.{got, Reader, times}
@@ -82,10 +81,6 @@ module _ (gs vs : List ℕ) (same : length vs ≡ length gs) where
     unfolding Described
     alias-ends x p e f = let a = rw e at h in f q (type-part M 8 p a.0 q a.1)
 
-    pub nothing_ends : D ≡ Defined.Nothing → r ≡ q
-    unfolding Described
-    nothing_ends e = absurd (rw e at h)
-
   -- an equation's parts, by their ends
   pub equation-ends : (p n first right r : ℕ) → n ≡ get_or vs p 0 → (1 ≤ length gs - p → first ≡ p + 1)
       → ((M : ℕ) (l : List ℕ) (q : ℕ) → times n (name M) (tokens gs vs) first ≡ got l q → right ≡ q)
@@ -100,13 +95,3 @@ module _ (gs vs : List ℕ) (same : length vs ≡ length gs) where
       let m : n ≡ t.0 = i ∙ sym v.0 in
       let s : right ≡ t.3 = k M t.2 t.3 (rw (m, f) t.6) in
       l M 32 t.4 q (rw s t.7)
-
--- a loop over items: those left end where all do
-module _ {A : Type 0} (R : Reader A) (ts : List TagValue) where
-  pub more_left : (n p r q : ℕ) → 0 < n → ((a : A) (s : ℕ) → R ts p ≡ got a s → r ≡ s) → (k : List A) × (times n R ts p ≡ got k q) → (k : List A) × (times (n - 1) R ts r ≡ got k q)
-  more_left n p r q z e h =
-      let t = times-cons R ts n p h.0 q (λ i. omega (arith, i, z)) h.1 in
-      (t.2, rw (e t.0 t.1 t.3) t.4)
-
-  pub none_left : (n p q : ℕ) → n ≤ 0 → (k : List A) × (times n R ts p ≡ got k q) → p ≡ q
-  none_left n p q z h = sym (times-nil R ts n p h.0 q (omega arith) h.1).1

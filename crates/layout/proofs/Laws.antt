@@ -4,7 +4,7 @@ use mathlib.Core.Path.{◌≡◌, refl, sym, ◌∙◌, ap, subst}
 use mathlib.Core.List.{List, [], ◌∷◌}
 use mathlib.Core.Bool.{Bool, true, false}
 use mathlib.Core.Option.{Option, none, some}
-use Prim.Native.Nat.{ℕ, zero, suc, ◌+◌, ◌<◌}
+use Prim.Native.Nat.{ℕ, zero, suc, ◌+◌, ◌<◌, min}
 use native.Mathlib.Omega.{arith}
 use lib.Dec.{eqb}
 use native.Mathlib.Numerals.{add-one, sub-one}
@@ -14,7 +14,7 @@ use borrow.Author.Tests.{lt-ltb}
 use Rattle.definitions.specs.declared.NodeKind.{NodeKind}
 use Rattle.definitions.specs.Lists.{choose}
 use Rattle.definitions.specs.Tokens.{TagValue, kind_of}
-use Rattle.definitions.specs.Tree.{Declared, Expr, Equation, Node, Sheet}
+use Rattle.definitions.specs.Tree.{TypeDef, Declared, Expr, Equation, Node, Sheet}
 use Rattle.definitions.specs.Bytes.{tokens}
 use Rattle.definitions.specs.Reading.{Got, got, Reader, token, times}
 use Rattle.definitions.specs.Grammar.{tagged, counted, count, name, kind_at, declaration, declarations, type_def, expr, equation, probe, node, sheet}
@@ -25,7 +25,9 @@ use Rattle.grammar.proofs.Longer.{token-got, counted-grows, tagged-grows, name-g
 use Rattle.grammar.proofs.Got.{times-nil, times-cons, token-value, tagged-value, counted-value, declarations-got, equation-got, node-got, sheet-got}
 use Rattle.layout.proofs.TypedefsLaws.{place_at, item}
 use Rattle.layout.specs.declared.Span.{Span}
+use Rattle.layout.specs.declared.SheetLayout.{SheetLayout}
 use Rattle.layout.specs.Spans.{past_in, kind_or, kind_in, end_of, Spanned, Spans}
+use Rattle.layout.specs.Table.{Table}
 use Rattle.layout.specs.Laid.{LaidNode, LaidEquation, LaidSheet, Places}
 
 past_is : (n p : ℕ) → p < n → past_in n p ≡ p + 1
@@ -48,7 +50,7 @@ module _ (ts vs : List ℕ) (same_length : length vs ≡ length ts) where
   pub spanned-by : {A : Type 0} (R : Reader A) (p : ℕ) → Spanned R ts vs p (span_by R p)
   spanned-by R p = record { first = refl; counted = refl; ended = λ l q g. ap (λ (x : Got (List _)). end_of (outcome x) p) g }
 
-  -- the same items, by equal counts and places
+  -- the same items, by equal told and places
   moved : {A : Type 0} (R : Reader A) (n m p r : ℕ) (l : List A) (q : ℕ) → n ≡ m → p ≡ r → times n R (tokens ts vs) p ≡ got l q → times m R (tokens ts vs) r ≡ got l q
   moved R n m p r l q e f h = rw (← e, ← f) h
 
@@ -105,7 +107,7 @@ module _ (ts vs : List ℕ) (same_length : length vs ≡ length ts) where
         let d = declarations-got M (tokens ts vs) p most l q g in
         span-at (declaration M) p 3 0 most d.0 d.1 l q d.2 d.3 s p' e f
 
-    -- the places and counts that the code finds are those of the node that was read
+    -- the places and told that the code finds are those of the node that was read
     pub laid : (p a b : ℕ) → a ≡ past_in (length ts) p → b ≡ past_in (length ts) a →
         (i o l k r : Span) → Spanned (declaration M) ts vs b i → Spanned (declaration M) ts vs i.end o → Spanned (declaration M) ts vs o.end l →
         Spanned (equation M) ts vs l.end k → Spanned (probe M) ts vs k.end r →
@@ -187,3 +189,18 @@ places R ts ps n p l q filled g = record {
       let y = item R ts n i p l q a g h in
       (y.0, ap (R ts) (filled i h) ∙ y.1 ∙ ap (λ (b : _). got b y.0) x.0);
 }
+
+-- the parts of a sheet, as many as its layout says within their limit, stand where their places say
+as-many : {A : Type 0} (R : Reader A) (ts : List TagValue) (n count at q : ℕ) (l : List A) → n ≡ count → times count R ts at ≡ got l q → times n R ts at ≡ got l q
+as-many R ts n count at q l e g = rw e g
+
+module _ (M : ℕ) (ts : List TagValue) (s : Sheet) (l : SheetLayout) (h : LaidSheet M ts s l) (n k : ℕ) (ps : List ℕ) where
+  pub types-placed : n ≡ min 32 l.types.count → k ≡ n → ((types : List TypeDef) (q : ℕ) → times n (type_def M) ts l.types.at ≡ got types q → Table M ts ps n types) → Table M ts ps k s.types
+  types-placed a b f =
+      let few = h.few-types in
+      subst (λ (m : ℕ). Table M ts ps m s.types) (sym b) (f s.types l.types.end (as-many (type_def M) ts n l.types.count l.types.at l.types.end s.types (omega arith) h.types.items))
+
+  pub nodes-placed : n ≡ min 16 l.nodes.count → k ≡ n → ((nodes : List Node) (q : ℕ) → times n (node M) ts l.nodes.at ≡ got nodes q → Places (node M) ts ps nodes) → (length s.nodes ≡ k) × Places (node M) ts ps s.nodes
+  nodes-placed a b f =
+      let few = h.few-nodes in
+      (omega (arith, a, b, h.nodes.many, few), f s.nodes l.nodes.end (as-many (node M) ts n l.nodes.count l.nodes.at l.nodes.end s.nodes (omega arith) h.nodes.items))

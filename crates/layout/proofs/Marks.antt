@@ -6,7 +6,10 @@ use mathlib.Core.Bool.{Bool, true, false, ◌||◌}
 use Prim.Native.Nat.{ℕ, zero, suc, ◌+◌, ◌<◌, ◌≤◌}
 use native.Mathlib.Omega.{arith}
 use lib.Dec.{eqb}
-use lib.ListN.{length, get_or, get_or-eq_default}
+use native.Mathlib.Numerals.{add-one}
+use lib.ListN.{length, get_or, take, drop}
+use Rattle.std.specs.List.{list_any}
+use Rattle.std.proofs.lemmas.List.{get_or-take}
 use borrow.Author.Tests.{eqb-true}
 use Rattle.definitions.specs.declared.Refusal.{Refusal}
 use Rattle.definitions.specs.declared.Literal.{Literal}
@@ -92,14 +95,15 @@ joined : {test : ℕ → Bool} {gs vs : List ℕ} {p m q : ℕ} {a b : Option Ma
 joined unmarked k = k
 joined {test} {gs} {vs} {p} {m} {q} {a} {b} (marked {b = c} h) k = subst (λ (x : Option Mark). Marks test gs vs p q x) (sym (first-assoc (mark_of test (get_or gs p 0) (get_or vs p 0)) c b)) (marked (joined h k))
 
+-- a stretch goes on
+marks-on : {test : ℕ → Bool} {gs vs : List ℕ} {p q : ℕ} {b : Option Mark} → Marks test gs vs p q b → p ≤ q
+marks-on unmarked = omega arith
+marks-on (marked h) = let f = marks-on h in omega arith
+
 -- no token is left, or one is taken off
 pub marks-none : {test : ℕ → Bool} {gs vs : List ℕ} {p q : ℕ} {b : Option Mark} → Marks test gs vs p q b → q ≤ p → b ≡ none
 marks-none unmarked l = refl
 marks-none (marked h) l = absurd (let f = marks-on h in omega arith)
-  where
-    marks-on : {test : ℕ → Bool} {gs vs : List ℕ} {p q : ℕ} {b : Option Mark} → Marks test gs vs p q b → p ≤ q
-    marks-on unmarked = omega arith
-    marks-on (marked h) = let f = marks-on h in omega arith
 
 pub marks-found : {test : ℕ → Bool} {gs vs : List ℕ} {p q : ℕ} {b : Option Mark} (m : Mark) → Marks test gs vs p q b → p < q → mark_of test (get_or gs p 0) (get_or vs p 0) ≡ some m → b ≡ some m
 marks-found m unmarked l e = absurd (omega arith)
@@ -109,11 +113,32 @@ pub marks-past : {test : ℕ → Bool} {gs vs : List ℕ} {p q : ℕ} {b : Optio
 marks-past unmarked l e = absurd (omega arith)
 marks-past {test} {gs} {vs} {p} {q} {b} (marked {b = c} h) l e = subst (λ (x : Option Mark). Marks test gs vs (p + 1) q x) (sym (ap (λ (x : Option Mark). first x c) e)) h
 
--- past the last token there is none
-pub marks-beyond : {test : ℕ → Bool} {gs vs : List ℕ} {p q : ℕ} {b : Option Mark} → Marks test gs vs p q b → length gs ≤ p → b ≡ none
-unfolding mark_of
-marks-beyond unmarked l = refl
-marks-beyond {test} {gs} {vs} {p} (marked {b = c} h) l = ap₂ first (ap (λ (t : ℕ). mark_of test t (get_or vs p 0)) (get_or-eq_default gs 0 l)) (marks-beyond h (omega arith))
+-- a test of what stands at a place, and behind it
+any-drop : (f : ℕ → Bool) → f 0 ≡ false → (p : ℕ) (l : List ℕ) → list_any f (drop p l) ≡ (f (get_or l p 0) || list_any f (drop (suc p) l))
+any-drop f e zero [] = rw e refl
+any-drop f e (suc p) [] = rw e refl
+any-drop f e zero (x ∷ l) = refl
+any-drop f e (suc p) (x ∷ l) = any-drop f e p l
+
+given-there : (b : Bool) (m : Mark) → there (given b m) ≡ b
+given-there true m = refl
+given-there false m = refl
+
+none-left : (p : ℕ) (l : List ℕ) → drop p (take p l) ≡ []
+none-left zero l = refl
+none-left (suc p) [] = refl
+none-left (suc p) (x ∷ l) = none-left p l
+
+-- where no name has one, there is a mark where one of the tags of the stretch is that of a when or a merge
+pub marks-any : {gs vs : List ℕ} {p q : ℕ} {b : Option Mark} → Marks nowhere gs vs p q b → there b ≡ list_any is_sample (drop p (take q gs))
+unfolding is_sample
+marks-any {gs} {vs} {p} unmarked = rw (none-left p gs)
+marks-any {gs} {vs} {p} {q} {b} (marked {b = c} h) =
+    let on = marks-on h in
+    let t = get_or gs p 0 in
+    there-first (mark_of nowhere t (get_or vs p 0)) c
+    ∙ ap₂ ◌||◌ (ap there (sample-mark t (get_or vs p 0)) ∙ given-there (is_sample t) sampling ∙ ap is_sample (sym (get_or-take q gs p 0 (omega arith)))) (marks-any h ∙ ap (λ (k : ℕ). list_any is_sample (drop k (take q gs))) (add-one p))
+    ∙ sym (any-drop is_sample refl p (take q gs))
 
 module _ (test : ℕ → Bool) (gs vs : List ℕ) (same : length vs ≡ length gs) where
   -- what is said of a reading's tokens

@@ -1,4 +1,5 @@
--- What a token that was read says: how many parts follow it, and its mark: a when or a merge, or a name that passes a test. Assumes nothing.
+-- What a token that was read says: how many parts follow it, and its mark: a when or a merge, or a name that passes a test.
+-- Assumes nothing.
 use mathlib.Core.Path.{◌≡◌, ◌∙◌, ap, subst}
 use mathlib.Core.Option.{Option, some, none}
 use mathlib.Core.Bool.{Bool}

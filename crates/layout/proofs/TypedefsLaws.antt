@@ -1,16 +1,19 @@
 -- Laws of the table of definitions, and of a definition's parts.
 -- Assumes nothing.
-use mathlib.Core.Path.{◌≡◌, refl, sym, ◌∙◌, ap}
+use Rattle.std.specs.Prelude.{Result, Ok, Err, Option, Some, None, ◌==◌, nat_lt, cond, position}
+use Rattle.std.specs.List.{position_or_len}
+use Rattle.std.proofs.lemmas.List.{get_or-take, length-take-le}
+use mathlib.Core.Path.{◌≡◌, refl, sym, ◌∙◌, ap, ap₂}
 use mathlib.Core.List.{List, [], ◌∷◌}
 use mathlib.Core.Bool.{Bool, true, false}
 use mathlib.Core.Option.{none, some}
 use Prim.Native.Nat.{ℕ, zero, suc, ◌+◌, ◌-◌, ◌≤◌, ◌<◌}
 use native.Mathlib.Omega.{arith}
 use native.Mathlib.Numerals.{add-one}
-use lib.ListN.{length, get_or, set, drop}
-use lib.Seq.{get_or-set_same, get_or-set_other, drop-cons, drop-length}
+use lib.ListN.{length, get_or, set, take}
+use lib.Seq.{get_or-set_same, get_or-set_other}
 use lib.Dec.{eqb, ltb}
-use borrow.Author.Tests.{eq-eqb, ne_eqb, eqb-true, eqb-false}
+use borrow.Author.Tests.{eqb-true, eqb-false, lt-ltb, ltb-true, ltb-false}
 use Rattle.definitions.specs.declared.Refusal.{Refusal}
 use Rattle.definitions.specs.declared.DefinitionToken.{DefinitionToken}
 use Rattle.definitions.specs.declared.Primitive.{Primitive}
@@ -21,16 +24,13 @@ use Rattle.definitions.specs.Tree.{Ty, Declared, TypeDef}
 use Rattle.definitions.specs.Reading.{Got, got, rejected, Reader, token, times}
 use Rattle.definitions.specs.Grammar.{counted, count, name, tagged, ty, declaration, definition, type_def}
 use Rattle.definitions.specs.Bytes.{tokens}
-use Rattle.grammar.specs.declared.Read.{Read}
-use Rattle.grammar.specs.declared.Counted.{Counted}
-use Rattle.grammar.specs.declared.DefinitionHead.{DefinitionHead}
-use Rattle.grammar.specs.declared.TypeHead.{TypeHead}
-use Rattle.grammar.specs.Outcome.{outcome, counts, type_head, definition_head}
-use Rattle.grammar.proofs.Laws.{count-got, count-refused, type-head-got, type-head-refused, definition-head-got, definition-head-refused, after-got, wrap-got, times-length, tokens-length}
+use Rattle.grammar.specs.Outcome.{outcome, told, told, told}
+use Rattle.grammar.proofs.Laws.{told-got, told-refused, after-got, wrap-got, times-length, tokens-length}
 use Rattle.grammar.proofs.Longer.{token-got}
 use Rattle.grammar.proofs.Got.{definition-got, enum-got, record-got, alias-got, token-value, tagged-value, type-got, primitive-got, named-got, element-got, declaration-got, times-cons, no, same}
 use Rattle.layout.specs.declared.Defined.{Defined}
-use Rattle.layout.specs.Table.{nowhere, def_at, name_at, is_named, first_of, Table, Named, Described}
+use Rattle.layout.specs.Spans.{past_in, Ended, here, later}
+use Rattle.layout.specs.Table.{nowhere, def_at, is_named, Found, FoundFirst, Table, Named, Described}
 
 -- a list that a loop fills, one element a turn: of each element so far, with its place, P is known
 pub filled-such : (P : ℕ → ℕ → Type 0) (l : List ℕ) (i v : ℕ) → i < length l → ((k : ℕ) → k < i → P k (get_or l k 0)) → P i v → (k : ℕ) → k < i + 1 → P k (get_or (set l i v) k 0)
@@ -43,6 +43,13 @@ filled-such P l i v h filled e k b = go (eqb k i) refl
 -- the same, where the k-th element is to be F k
 pub filled_more : (F : ℕ → ℕ) (l : List ℕ) (i v : ℕ) → i < length l → ((k : ℕ) → k < i → get_or l k 0 ≡ F k) → v ≡ F i → (k : ℕ) → k < i + 1 → get_or (set l i v) k 0 ≡ F k
 filled_more F l i v h filled e = filled-such (λ k x. x ≡ F k) l i v h filled e
+
+-- one item more is gone through, and its place is in the table
+pub further : {E : ℕ → ℕ → Type 0} {p n q r : ℕ} → Ended E p n q → E q r → Ended E p (n + 1) r
+further {n = n} o e = rw (add-one n) (later o e)
+
+pub placed-more : {E : ℕ → ℕ → Type 0} {p : ℕ} (l : List ℕ) (i v : ℕ) → i < length l → ((k : ℕ) → k < i → Ended E p k (get_or l k 0)) → Ended E p i v → (k : ℕ) → k < i + 1 → Ended E p k (get_or (set l i v) k 0)
+placed-more {E} {p} l i v h filled e = filled-such (λ k x. Ended E p k x) l i v h filled e
 
 -- where a reading that starts at p goes on; p itself, where it is refused
 abbrev pub following : {A : Type 0} → Got A → ℕ → ℕ
@@ -76,15 +83,33 @@ module _ {A : Type 0} (R : Reader A) (ts : List TagValue) where
       let f : place_at p (suc k) ≡ place_at a.1 k = shift k p ∙ ap (λ (x : ℕ). place_at x k) e in
       (r.0, ap (R ts) f ∙ r.1 ∙ ap (λ (y : List A). got (get_or y (suc k) d) r.0) (sym b.2))
 
-  -- the place after an item that was read is the next one's, and one more place is in the table
-  pub placed-next : (n p i place next : ℕ) (d : A) (places : List ℕ) (l : List A) (q : ℕ) → times n R ts p ≡ got l q → i < n → i < length places → ((a : A) (s : ℕ) → R ts place ≡ got a s → next ≡ s) →
-      (place ≡ place_at p i) × ((k : ℕ) → k < i → get_or places k 0 ≡ place_at p k) → (next ≡ place_at p (i + 1)) × ((k : ℕ) → k < i + 1 → get_or (set places i place) k 0 ≡ place_at p k)
-  unfolding place_at
-  placed-next n p i place next d places l q g h b e f =
-      let a = item n i p l q d g h in
-      let r : R ts place ≡ got (get_or l i d) a.0 = ap (R ts) f.0 ∙ a.1 in
-      let m : following (R ts place) place ≡ next = ap (λ (x : Got A). following x place) r ∙ sym (e (get_or l i d) a.0 r) in
-      (rw (add-one i) (sym m ∙ ap (λ (x : ℕ). following (R ts x) x) f.0), filled_more (place_at p) places i place b f.1 f.0)
+  -- all of them end at the place behind the last
+  all-end : (n p : ℕ) (l : List A) (q : ℕ) → times n R ts p ≡ got l q → place_at p n ≡ q
+  unfolding times place_at
+  all-end zero p l q g = cc
+  all-end (suc n) p l q g =
+      let a = after-got (R ts p) _ l q g in
+      let b = wrap-got (times n R ts a.1) _ l q a.3 in
+      let e : following (R ts p) p ≡ a.1 = ap (λ (x : Got A). following x p) a.2 in
+      shift n p ∙ ap (λ (x : ℕ). place_at x n) e ∙ all-end n a.1 b.0 q b.1
+
+  -- something was read at each place
+  there : (n k p : ℕ) (l : List A) (q : ℕ) → times n R ts p ≡ got l q → k < n → (a : A) × (s : ℕ) × (R ts (place_at p k) ≡ got a s)
+  there n k p [] q g h = let m = times-length R ts n p [] q g in absurd (omega arith)
+  there n k p (d ∷ l) q g h = let i = item n k p (d ∷ l) q d g h in (get_or (d ∷ l) k d, i.0, i.1)
+
+  -- items that are gone through by where each ends, which is where it was read to end
+  module _ (E : ℕ → ℕ → Type 0) (ends : (p r : ℕ) → E p r → (a : A) (s : ℕ) → R ts p ≡ got a s → r ≡ s) (n p : ℕ) (l : List A) (q : ℕ) (g : times n R ts p ≡ got l q) where
+    pub ended-at : {k r : ℕ} → Ended E p k r → k ≤ n → r ≡ place_at p k
+    unfolding place_at
+    ended-at here h = refl
+    ended-at (later {n = k} {q = m} {r = r} o e) h =
+        let i : m ≡ place_at p k = ended-at o (omega arith) in
+        let a = there n k p l q g (omega arith) in
+        ends m r e a.0 a.1 (ap (R ts) i ∙ a.2) ∙ sym (ap (λ (x : Got A). following x (place_at p k)) a.2)
+
+    pub ended : (r : ℕ) → Ended E p n r → r ≡ q
+    ended r o = ended-at o (omega arith) ∙ all-end n p l q g
 
 -- a table that is filled
 pub placed : (M : ℕ) (ts : List TagValue) (places : List ℕ) (n p : ℕ) (types : List TypeDef) (q : ℕ) → ((k : ℕ) → k < n → get_or places k 0 ≡ place_at (type_def M) ts p k) →
@@ -135,6 +160,15 @@ module _ (M : ℕ) (tags vs : List ℕ) (same_length : length vs ≡ length tags
       let k = token-got _ (tokens tags vs) p x q g in
       (tagged-value tags vs same_length p 4 M x q (omega (arith, k.1, tokens-length tags vs same_length)) g).0
 
+  -- what follows a name stands behind it
+  pub name-next : (p x q : ℕ) → name M (tokens tags vs) p ≡ got x q → q ≡ past_in (length tags) p
+  unfolding name tagged
+  name-next p x q g =
+      let k = token-got _ (tokens tags vs) p x q g in
+      let b : p < length tags = omega (arith, k.1, tokens-length tags vs same_length) in
+      let e : p + 1 ≡ past_in (length tags) p = rw (lt-ltb p (length tags) b) in
+      (tagged-value tags vs same_length p 4 M x q b g).3 ∙ e
+
   -- where the definitions stand, their names stand
   pub named : (places : List ℕ) (n : ℕ) (types : List TypeDef) → Table M (tokens tags vs) places n types → Named vs places n types
   named places n types t = record {
@@ -142,30 +176,56 @@ module _ (M : ℕ) (tags vs : List ℕ) (same_length : length vs ≡ length tags
     same = λ i h. let s = t.stands i h in definition-name (get_or places i 0) (def_at types i) s.0 s.1;
   }
 
--- the first definition of a name, from the i-th on
-module _ (types : List TypeDef) (x n : ℕ) (many : length types ≡ n) where
-  pub first-here : (i : ℕ) → i < n → first_of types x ≡ i + place_by (is_named x) (drop i types) → name_at types i ≡ x → i ≡ first_of types x
-  first-here i h e s = rw e (rw (drop-cons types i nowhere (omega arith)) (rw (eq-eqb _ _ s) (omega arith)))
+-- the first item that passes a test, found among the places of all by what stands there
+module _ {A : Type 0} (f : ℕ → Bool) (p : A → Bool) (d : A) where
+  place-few : (l : List A) → place_by p l ≤ length l
+  place-few [] = omega arith
+  place-few (a ∷ l) = go (p a) (place-few l)
+    where
+      go : (b : Bool) → place_by p l ≤ length l → choose b 0 (suc (place_by p l)) ≤ suc (length l)
+      go true h = omega arith
+      go false h = omega arith
 
-  pub first-later : (i : ℕ) → i < n → first_of types x ≡ i + place_by (is_named x) (drop i types) → (name_at types i ≡ x → ⊥) → first_of types x ≡ (i + 1) + place_by (is_named x) (drop (i + 1) types)
-  first-later i h e s = e ∙ rw (drop-cons types i nowhere (omega arith)) (rw (ne_eqb _ _ s, add-one i) (omega arith))
+  first-place : (ps : List ℕ) (l : List A) → length ps ≡ length l → ((i : ℕ) → i < length l → f (get_or ps i 0) ≡ p (get_or l i d)) → position_or_len f ps ≡ place_by p l
+  first-place [] [] e h = refl
+  first-place [] (a ∷ l) e h = absurd (omega arith)
+  first-place (x ∷ ps) [] e h = absurd (omega arith)
+  first-place (x ∷ ps) (a ∷ l) e h = go (p a) (h 0 (omega arith)) (first-place ps l (omega arith) (λ i j. h (suc i) (omega arith)))
+    where
+      go : (b : Bool) → f x ≡ b → position_or_len f ps ≡ place_by p l → position_or_len f (x ∷ ps) ≡ choose b 0 (suc (place_by p l))
+      go true j k = rw j
+      go false j k = rw j (rw k (omega arith))
 
-  pub first-none : (i : ℕ) → n ≤ i → i ≤ n → first_of types x ≡ i + place_by (is_named x) (drop i types) → n ≡ first_of types x
-  first-none i h k e = let f : i ≡ length types = omega arith in sym (e ∙ rw f (rw (drop-length types) (omega arith)))
+  pub found : (ps : List ℕ) (n : ℕ) (l : List A) → n ≤ length ps → length l ≡ n → ((i : ℕ) → i < n → f (get_or ps i 0) ≡ p (get_or l i d)) → (r : Option ℕ) → r ≡ position f (take n ps) → Found (place_by p l) (length l) r
+  found ps n l b m h r e = go (nat_lt (place_by p l) (length l)) refl (e ∙ ap₂ (λ (k w : ℕ). cond (nat_lt k w) (Some k) None) k w)
+    where
+      w : length (take n ps) ≡ length l
+      w = length-take-le n ps b ∙ sym m
+
+      k : position_or_len f (take n ps) ≡ place_by p l
+      k = first-place (take n ps) l w (λ i j. let g : i < n = omega arith in ap f (get_or-take n ps i 0 g) ∙ h i g)
+
+      go : (t : Bool) → nat_lt (place_by p l) (length l) ≡ t → r ≡ cond t (Some (place_by p l)) None → Found (place_by p l) (length l) r
+      go true j i = rw i (refl, ltb-true _ _ j)
+      go false j i = rw i (omega (arith, ltb-false _ _ j, place-few l))
+
+-- the first definition of a name
+pub found-first : (vs places : List ℕ) (n : ℕ) (types : List TypeDef) (x : ℕ) → n ≤ length places → Named vs places n types → (r : Option ℕ) → r ≡ position (λ p. get_or vs p 0 == x) (take n places) → FoundFirst types x r
+found-first vs places n types x b t r e = found (λ p. get_or vs p 0 == x) (is_named x) nowhere places n types b t.count (λ i h. ap (λ (y : ℕ). y == x) (t.same i h)) r e
 
 -- the parts of a definition, as the code finds them
-module _ (M : ℕ) (ts : List TagValue) (p : ℕ) (r : DefinitionHead) (i : r ≡ definition_head (token (definition_token_of M) ts p)) (d : TypeDef) (q : ℕ) (g : type_def M ts p ≡ got d q) where
-  pub describe-stop : (t : Refusal) → r ≡ DefinitionHead.Refused t → ⊥
+module _ (M : ℕ) (ts : List TagValue) (p : ℕ) (r : Result (DefinitionToken × ℕ) Refusal) (i : r ≡ told (token (definition_token_of M) ts p)) (d : TypeDef) (q : ℕ) (g : type_def M ts p ≡ got d q) where
+  pub describe-stop : (t : Refusal) → r ≡ Err t → ⊥
   describe-stop t e =
       let a = definition-got M ts p d q g in
-      let f = definition-head-refused (token (definition_token_of M) ts p) r t i e in
+      let f = told-refused (token (definition_token_of M) ts p) r t i e in
       let z : ◌≡◌ {A = ℕ} 0 1 = cc in omega arith
 
-  module _ (h : DefinitionToken) (s : ℕ) (e : r ≡ DefinitionHead.Token h s) where
+  module _ (h : DefinitionToken) (s : ℕ) (e : r ≡ Ok (h, s)) where
     is : (k : DefinitionToken) → h ≡ k → definition M k ts s ≡ got d q
     is k j =
         let a = definition-got M ts p d q g in
-        let f = definition-head-got (token (definition_token_of M) ts p) r h s i e in
+        let f = told-got (token (definition_token_of M) ts p) r h s i e in
         let u : a.0 ≡ k = cc in
         let v : p + 1 ≡ s = cc in
         rw (u, v) at a.2
@@ -174,66 +234,66 @@ module _ (M : ℕ) (ts : List TagValue) (p : ℕ) (r : DefinitionHead) (i : r �
     unfolding Described
     describe-alias x j = alias-got M ts s x d q (is (DefinitionToken.Alias x) j)
 
-    module _ (c : Counted) (ec : c ≡ counts (counted 3 0 64 ts s)) (x : ℕ) where
-      pub describe-enum : (n u : ℕ) → h ≡ DefinitionToken.Enum x → c ≡ Counted.Count n u → Described M ts d q (Defined.Enum x n u)
+    module _ (c : Result (ℕ × ℕ) Refusal) (ec : c ≡ told (counted 3 0 64 ts s)) (x : ℕ) where
+      pub describe-enum : (n u : ℕ) → h ≡ DefinitionToken.Enum x → c ≡ Ok (n, u) → Described M ts d q (Defined.Enum x n u)
       unfolding Described count
       describe-enum n u j f =
           let a = enum-got M ts s x d q (is (DefinitionToken.Enum x) j) in
-          let b = count-got (counted 3 0 64 ts s) c n u ec f in
+          let b = told-got (counted 3 0 64 ts s) c n u ec f in
           let v : a.0 ≡ n = cc in
           let w : a.1 ≡ u = cc in
           (a.2, rw (v, w) at a.4, a.5)
 
-      pub describe-record : (n u : ℕ) → h ≡ DefinitionToken.Record x → c ≡ Counted.Count n u → Described M ts d q (Defined.Record x n u)
+      pub describe-record : (n u : ℕ) → h ≡ DefinitionToken.Record x → c ≡ Ok (n, u) → Described M ts d q (Defined.Record x n u)
       unfolding Described count
       describe-record n u j f =
           let a = record-got M ts s x d q (is (DefinitionToken.Record x) j) in
-          let b = count-got (counted 3 0 64 ts s) c n u ec f in
+          let b = told-got (counted 3 0 64 ts s) c n u ec f in
           let v : a.0 ≡ n = cc in
           let w : a.1 ≡ u = cc in
           (a.2, rw (v, w) at a.4, a.5)
 
-      pub describe-no-enum : (t : Refusal) → h ≡ DefinitionToken.Enum x → c ≡ Counted.Refused t → ⊥
+      pub describe-no-enum : (t : Refusal) → h ≡ DefinitionToken.Enum x → c ≡ Err t → ⊥
       unfolding count
       describe-no-enum t j f =
           let a = enum-got M ts s x d q (is (DefinitionToken.Enum x) j) in
-          let b = count-refused (counted 3 0 64 ts s) c t ec f in
+          let b = told-refused (counted 3 0 64 ts s) c t ec f in
           let z : ◌≡◌ {A = ℕ} 0 1 = cc in omega arith
 
-      pub describe-no-record : (t : Refusal) → h ≡ DefinitionToken.Record x → c ≡ Counted.Refused t → ⊥
+      pub describe-no-record : (t : Refusal) → h ≡ DefinitionToken.Record x → c ≡ Err t → ⊥
       unfolding count
       describe-no-record t j f =
           let a = record-got M ts s x d q (is (DefinitionToken.Record x) j) in
-          let b = count-refused (counted 3 0 64 ts s) c t ec f in
+          let b = told-refused (counted 3 0 64 ts s) c t ec f in
           let z : ◌≡◌ {A = ℕ} 0 1 = cc in omega arith
 
 -- a type by its first token, as the code finds it
-module _ (M : ℕ) (ts : List TagValue) (p : ℕ) (r : TypeHead) (i : r ≡ type_head (token (type_token_of M) ts p)) (depth : ℕ) (t : Ty) (q : ℕ) (g : ty M depth ts p ≡ got t q) where
-  pub type-not-refused : (f : Refusal) → r ≡ TypeHead.Refused f → ⊥
+module _ (M : ℕ) (ts : List TagValue) (p : ℕ) (r : Result (TypeToken × ℕ) Refusal) (i : r ≡ told (token (type_token_of M) ts p)) (depth : ℕ) (t : Ty) (q : ℕ) (g : ty M depth ts p ≡ got t q) where
+  pub type-not-refused : (f : Refusal) → r ≡ Err f → ⊥
   type-not-refused f e =
       let a = type-got M ts p depth t q g in
-      let b = type-head-refused (token (type_token_of M) ts p) r f i e in
+      let b = told-refused (token (type_token_of M) ts p) r f i e in
       let z : ◌≡◌ {A = ℕ} 0 1 = cc in omega arith
 
-  module _ (h : TypeToken) (s : ℕ) (e : r ≡ TypeHead.Token h s) where
+  module _ (h : TypeToken) (s : ℕ) (e : r ≡ Ok (h, s)) where
     pub type-is-basic : (b : Primitive) → h ≡ TypeToken.Basic b → t ≡ Ty.primitive b
     type-is-basic b j =
         let a = type-got M ts p depth t q g in
-        let f = type-head-got (token (type_token_of M) ts p) r h s i e in
+        let f = told-got (token (type_token_of M) ts p) r h s i e in
         let u : a.0 ≡ TypeToken.Basic b = cc in
         (primitive-got M ts p b depth t q (p + 1) (rw u at a.3)).0
 
     pub type-is-named : (x : ℕ) → h ≡ TypeToken.Named x → t ≡ Ty.named x
     type-is-named x j =
         let a = type-got M ts p depth t q g in
-        let f = type-head-got (token (type_token_of M) ts p) r h s i e in
+        let f = told-got (token (type_token_of M) ts p) r h s i e in
         let u : a.0 ≡ TypeToken.Named x = cc in
         (named-got M ts p x depth t q (p + 1) (rw u at a.3)).0
 
     pub type-is-array : (n : ℕ) → h ≡ TypeToken.Array n → (b : Ty) × (depth ≡ 0 → ⊥) × (n ≤ 256) × (ty M (depth - 1) ts s ≡ got b q) × (t ≡ Ty.array n b)
     type-is-array n j =
         let a = type-got M ts p depth t q g in
-        let f = type-head-got (token (type_token_of M) ts p) r h s i e in
+        let f = told-got (token (type_token_of M) ts p) r h s i e in
         let u : a.0 ≡ TypeToken.Array n = cc in
         let v : p + 1 ≡ s = cc in
         element-got M ts p n depth t q s (rw (u, v) at a.3) (rw u at a.2)
@@ -249,8 +309,8 @@ pub record FirstField (M : ℕ) (ts : List TagValue) (k p first : ℕ) (fs : Lis
   pub others : times (k - 1) (declaration M) ts next ≡ got rest q
   pub whole : fs ≡ record { name = id; type = type } ∷ rest
 
-module _ (M : ℕ) (ts : List TagValue) (k p : ℕ) (fs : List Declared) (q : ℕ) (some_left : k ≡ 0 → ⊥) (g : times k (declaration M) ts p ≡ got fs q) (r : Read) (i : r ≡ outcome (name M ts p)) where
-  pub field-read : (first : ℕ) → r ≡ Read.Next first → FirstField M ts k p first fs q
+module _ (M : ℕ) (ts : List TagValue) (k p : ℕ) (fs : List Declared) (q : ℕ) (some_left : k ≡ 0 → ⊥) (g : times k (declaration M) ts p ≡ got fs q) (r : Result ℕ Refusal) (i : r ≡ outcome (name M ts p)) where
+  pub field-read : (first : ℕ) → r ≡ Ok first → FirstField M ts k p first fs q
   field-read first e =
       let a = times-cons (declaration M) ts k p fs q some_left g in
       let b = declaration-got M ts p a.0 a.1 a.3 in
@@ -266,18 +326,42 @@ module _ (M : ℕ) (ts : List TagValue) (k p : ℕ) (fs : List Declared) (q : �
         whole = a.5 ∙ ap (λ (y : Declared). y ∷ a.2) b.5;
       }
 
-  pub field-not-refused : (t : Refusal) → r ≡ Read.Refused t → ⊥
+  pub field-not-refused : (t : Refusal) → r ≡ Err t → ⊥
   field-not-refused t e =
       let a = times-cons (declaration M) ts k p fs q some_left g in
       let b = declaration-got M ts p a.0 a.1 a.3 in
       no (name M ts p) b.0 b.1 r t b.3 i e
 
-module _ (M : ℕ) (ts : List TagValue) (k p first : ℕ) (fs : List Declared) (q : ℕ) (f : FirstField M ts k p first fs q) (r : Read) (i : r ≡ outcome (ty M 8 ts first)) where
-  pub field_next : (s : ℕ) → r ≡ Read.Next s → times (k - 1) (declaration M) ts s ≡ got f.rest q
+module _ (M : ℕ) (ts : List TagValue) (k p first : ℕ) (fs : List Declared) (q : ℕ) (f : FirstField M ts k p first fs q) (r : Result ℕ Refusal) (i : r ≡ outcome (ty M 8 ts first)) where
+  pub field_next : (s : ℕ) → r ≡ Ok s → times (k - 1) (declaration M) ts s ≡ got f.rest q
   field_next s e = let u : f.next ≡ s = same (ty M 8 ts first) f.type f.next r s f.typed i e in rw u at f.others
 
-  pub field-typed : (t : Refusal) → r ≡ Read.Refused t → ⊥
+  pub field-typed : (t : Refusal) → r ≡ Err t → ⊥
   field-typed t e = no (ty M 8 ts first) f.type f.next r t f.typed i e
+
+-- the same of a declaration that is read whole: its type stands behind its name
+module _ (M : ℕ) (tags vs : List ℕ) (same_length : length vs ≡ length tags) (k p : ℕ) (fs : List Declared) (q : ℕ) (some_left : k ≡ 0 → ⊥) (g : times k (declaration M) (tokens tags vs) p ≡ got fs q) (r : Result ℕ Refusal) (i : r ≡ outcome (declaration M (tokens tags vs) p)) where
+  pub declared-read : (next : ℕ) → r ≡ Ok next → (first : ℕ) → first ≡ past_in (length tags) p → (f : FirstField M (tokens tags vs) k p first fs q) × (times (k - 1) (declaration M) (tokens tags vs) next ≡ got f.rest q)
+  declared-read next e first j =
+      let a = times-cons (declaration M) (tokens tags vs) k p fs q some_left g in
+      let b = declaration-got M (tokens tags vs) p a.0 a.1 a.3 in
+      let u : b.1 ≡ first = name-next M tags vs same_length p b.0 b.1 b.3 ∙ sym j in
+      let w : a.1 ≡ next = same (declaration M (tokens tags vs) p) a.0 a.1 r next a.3 i e in (
+        record {
+          id = b.0;
+          type = b.2;
+          next = a.1;
+          rest = a.2;
+          label = b.3 ∙ ap (got b.0) u;
+          typed = rw u at b.4;
+          others = a.4;
+          whole = a.5 ∙ ap (λ (y : Declared). y ∷ a.2) b.5;
+        },
+        rw w at a.4,
+      )
+
+  pub declared-not-refused : (t : Refusal) → r ≡ Err t → ⊥
+  declared-not-refused t e = let a = times-cons (declaration M) (tokens tags vs) k p fs q some_left g in no (declaration M (tokens tags vs) p) a.0 a.1 r t a.3 i e
 
 -- the first definition that passes a test, and whether there is one
 module _ (p : TypeDef → Bool) where

@@ -1,12 +1,13 @@
 -- Where a list behind its count stands, in the code's terms.
-use Rattle.std.specs.Prelude.{ℕ, ◌+◌, ◌≡◌, List, ltb, length, get_or}
+use Rattle.definitions.specs.declared.Refusal.{Refusal}
+use Rattle.std.specs.Prelude.{Result, Ok, Err}
+use Rattle.std.specs.Prelude.{ℕ, suc, ◌+◌, ◌≡◌, List, ltb, length, get_or}
 use Rattle.std.proofs.Math.Option.{Option, none, some}
 use Rattle.definitions.specs.declared.NodeKind.{NodeKind}
 use Rattle.definitions.specs.Lists.{choose}
 use Rattle.definitions.specs.Tokens.{TagValue, kind_of}
 use Rattle.definitions.specs.Bytes.{tokens}
 use Rattle.definitions.specs.Reading.{Reader, got, times}
-use Rattle.grammar.specs.declared.Read.{Read}
 use Rattle.layout.specs.declared.Span.{Span}
 
 -- the place after this one, of so many
@@ -22,9 +23,9 @@ abbrev pub kind_in : ℕ → NodeKind
 kind_in v = kind_or (kind_of v)
 
 -- the place after what was read; p, where it was refused
-abbrev pub end_of : Read → ℕ → ℕ
-end_of (Read.Next q) p = q
-end_of (Read.Refused t) p = p
+abbrev pub end_of : Result ℕ Refusal → ℕ → ℕ
+end_of (Ok q) p = q
+end_of (Err t) p = p
 
 -- a list behind its count: as many items as the value at p says, from the next place on
 pub record Spanned {A : Type 0} (R : Reader A) (gs vs : List ℕ) (p : ℕ) (s : Span) : Type 0 where
@@ -36,3 +37,8 @@ pub record Spanned {A : Type 0} (R : Reader A) (gs vs : List ℕ) (p : ℕ) (s :
 pub record Spans {A : Type 0} (R : Reader A) (ts : List TagValue) (l : List A) (s : Span) : Type 0 where
   pub items : times s.count R ts s.at ≡ got l s.end
   pub many : s.count ≡ length l
+
+-- so many items from p on, one after another, by where each ends
+pub data Ended (E : ℕ → ℕ → Type 0) (p : ℕ) : ℕ → ℕ → Type 0 where
+  here : Ended E p 0 p
+  later : {n q r : ℕ} → Ended E p n q → E q r → Ended E p (suc n) r

@@ -1,5 +1,5 @@
 -- Where the definitions of a sheet's types stand among its tokens, and what stands there.
-use Rattle.std.specs.Prelude.{ℕ, ◌<◌, ◌≡◌, List, [], Bool, eqb, length, get_or}
+use Rattle.std.specs.Prelude.{ℕ, ◌<◌, ◌≡◌, List, [], Bool, eqb, length, get_or, Option, Some, None}
 use Rattle.definitions.specs.Lists.{place_by}
 use Rattle.definitions.specs.Tokens.{TagValue}
 use Rattle.definitions.specs.Tree.{Ty, Declared, Body, TypeDef}
@@ -27,6 +27,15 @@ is_named x d = eqb d.name x
 abbrev pub first_of : List TypeDef → ℕ → ℕ
 first_of types x = place_by (is_named x) types
 
+-- what was found among n: the k-th; nothing, where k is n
+abbrev pub Found : ℕ → ℕ → Option ℕ → Type 0
+Found k n (Some i) = (i ≡ k) × (i < n)
+Found k n None = k ≡ n
+
+-- the first definition of a name
+abbrev pub FoundFirst : List TypeDef → ℕ → Option ℕ → Type 0
+FoundFirst types x r = Found (first_of types x) (length types) r
+
 -- n definitions, each read at its place
 pub record Table (M : ℕ) (ts : List TagValue) (places : List ℕ) (n : ℕ) (types : List TypeDef) : Type 0 where
   pub count : length types ≡ n
@@ -42,4 +51,3 @@ unfoldable pub Described : ℕ → List TagValue → TypeDef → ℕ → Defined
 Described M ts d q (Defined.Enum x n p) = (vs : List ℕ) × (times n (name M) ts p ≡ got vs q) × (d ≡ record { name = x; body = Body.enum vs })
 Described M ts d q (Defined.Record x n p) = (fs : List Declared) × (times n (declaration M) ts p ≡ got fs q) × (d ≡ record { name = x; body = Body.fields fs })
 Described M ts d q (Defined.Alias x p) = (t : Ty) × (ty M 8 ts p ≡ got t q) × (d ≡ record { name = x; body = Body.alias t })
-Described M ts d q Defined.Nothing = ⊥

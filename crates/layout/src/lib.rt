@@ -1,25 +1,30 @@
 // Where the parts of an accepted sheet stand: its types' definitions, ends, nodes and what these have.
 #![tactic(auto)]
 
-ghost use Rattle.std.specs.Prelude.{◌≡◌, List, ℕ, ◌≤◌, ◌+◌, ◌-◌, length, get_or};
-ghost use Rattle.definitions.specs.Bytes.{tokens};
+ghost use Rattle.std.specs.Option.{IsSomeAnd};
+ghost use Rattle.std.specs.Prelude.{◌≡◌, List, ℕ, ◌≤◌, ◌<◌, IfSome, length, get_or};
+ghost use Rattle.grammar.specs.Read.{tokens_of};
 ghost use Rattle.definitions.specs.Tree.{TypeDef, Expr, Declared, Equation, Probe, Node, Sheet};
 ghost use Rattle.definitions.specs.Reading.{got, times};
 ghost use Rattle.definitions.specs.Grammar.{type_def, name, declaration, expr, equation, probe, node, sheet};
-ghost use Rattle.layout.specs.Table.{Named, Described, first_of, Table};
+ghost use Rattle.layout.specs.Table.{Named, Described, FoundFirst, Table};
 ghost use Rattle.std.proofs.Math.Option.{Option};
 ghost use Rattle.definitions.specs.Lists.{any};
 ghost use Rattle.definitions.specs.InferClocks.{samples};
-ghost use Rattle.layout.specs.Owed.{parts, follows, Owed};
+ghost use Rattle.layout.specs.Owed.{Owed};
 ghost use Rattle.layout.specs.Marks.{is_sample, nowhere, there, Mark, Marks};
-ghost use Rattle.layout.specs.Spans.{past_in, kind_in, Spanned};
+ghost use Rattle.layout.specs.Spans.{past_in, kind_in, Spanned, Ended};
 ghost use Rattle.layout.specs.Laid.{LaidNode, LaidEquation, LaidSheet, Places};
 
+mod follow;
+mod place_table;
+
 use definitions::{DefinitionToken, MOST_ITEMS, MOST_NODES, MOST_TYPES, NodeKind};
-use grammar::{Counted, DefinitionHead, FoundKind};
+pub use follow::{PartsTable, parts_table};
+use grammar::Source;
+pub use place_table::PlaceTable;
 
 // ---- Where the definitions of a sheet's types stand, and their parts: document 01, "The sheet".
-// `tags` and `values` are a sheet's tokens, `names` the number of its names; a table of places holds at most 32.
 
 // A definition: its name, how many variants or fields it has and the first's place; or its name and its type's place.
 #[derive(Clone, Copy)]
@@ -27,7 +32,6 @@ pub enum Defined {
     Enum(u32, u32, usize),
     Record(u32, u32, usize),
     Alias(u32, usize),
-    Nothing,
 }
 
 // The value at a place, 0 past the end.
@@ -37,245 +41,157 @@ pub fn value_at(values: &[u32], at: usize) -> u32
     if at < values.len() { values[at] } else { 0 }
 }
 
-// The place of the first definition of a name among n; n, where there is none.
-pub fn find_definition(values: &[u32], places: &[usize; MOST_TYPES], n: usize, x: u32) -> usize
-    requires { n ≤ 32 }
-    ensures { (types : List TypeDef) → Named values.now places.now n types → result ≡ first_of types x }
+// The number of the first definition of a name.
+pub fn find_definition(values: &[u32], types: &PlaceTable<MOST_TYPES>, x: u32) -> Option<usize>
+    ensures first { (ds : List TypeDef) → Named values.now types.now.at types.now.count ds → FoundFirst ds x result }
+    ensures within { IfSome result (λ i. i < types.now.count) }
 {
-    let mut i: usize = 0;
-    while i < n {
-        if value_at(values, places[i]) == x {
-            return i;
-        }
-        i += 1;
-    }
-    n
+    types.find(values, x)
 }
 
 // The definition that stands at a place.
-pub fn describe(tags: &[u8], values: &[u32], names: u32, at: usize) -> Defined
-    requires { length values.now ≡ length tags.now }
-    ensures { (d : TypeDef) (q : ℕ) → type_def names (tokens tags.now values.now) at ≡ got d q → Described names (tokens tags.now values.now) d q result }
+pub fn describe(source: &Source<'_>, at: usize) -> Option<Defined>
+    ensures { (d : TypeDef) (q : ℕ) → type_def source.now.names (tokens_of source.now) at ≡ got d q → IsSomeAnd result (Described source.now.names (tokens_of source.now) d q) }
 {
-    let head = grammar::definition_head(tags, values, names, at);
-    match head {
-        DefinitionHead::Refused(_) => Defined::Nothing,
-        DefinitionHead::Token(t, next) => match t {
-            DefinitionToken::Enum(x) => {
-                let count = grammar::read_count(tags, values, 3, 0, MOST_ITEMS, next);
-                match count {
-                    Counted::Count(n, first) => Defined::Enum(x, n, first),
-                    Counted::Refused(_) => Defined::Nothing,
-                }
-            }
-            DefinitionToken::Record(x) => {
-                let count = grammar::read_count(tags, values, 3, 0, MOST_ITEMS, next);
-                match count {
-                    Counted::Count(n, first) => Defined::Record(x, n, first),
-                    Counted::Refused(_) => Defined::Nothing,
-                }
-            }
-            DefinitionToken::Alias(x) => Defined::Alias(x, next),
-        },
+    let Ok((t, next)) = grammar::definition_head(source, at) else {
+        return None;
+    };
+    match t {
+        DefinitionToken::Enum(x) => {
+            let Ok((n, first)) = grammar::read_count(source, 3, 0, MOST_ITEMS, next) else {
+                return None;
+            };
+            Some(Defined::Enum(x, n, first))
+        }
+        DefinitionToken::Record(x) => {
+            let Ok((n, first)) = grammar::read_count(source, 3, 0, MOST_ITEMS, next) else {
+                return None;
+            };
+            Some(Defined::Record(x, n, first))
+        }
+        DefinitionToken::Alias(x) => Some(Defined::Alias(x, next)),
     }
 }
 
 // ---- Where what was read from an accepted sheet ends: its tokens are counted, and none is read again.
-// `tags` and `values` are as long as each other. Where nothing was read, an answer says nothing.
+// Where nothing was read, an answer says nothing.
 
-// How many parts follow a token, by its tag: operands, a type, a value behind its name, the high word. Of a count its value says so.
-const PARTS: [u8; 72] = [
-    0, 0, 0, 0, 1, 0, 0, 0, 0, 0, 0, 0, 0, 0, 0, 0, 0, 0, 0, 0, 0, 0, 0, 0, 0, 0, 0, 0, 0, 0, 0, 0,
-    1, 0, 0, 0, 0, 0, 0, 0, 0, 0, 0, 0, 0, 0, 0, 0, 0, 0, 0, 1, 1, 0, 0, 1, 2, 3, 1, 2, 1, 1, 2, 1,
-    1, 1, 2, 1, 1, 2, 2, 2,
-];
-
-fn wide(x: u8) -> u32
-    ensures { result ≡ x }
+// The place after so many parts that stand from a place on: each token is one, and owes those that follow it.
+pub fn past(source: &Source<'_>, many: usize, at: usize) -> usize
+    ensures { (q : ℕ) → Owed source.now.tags.now source.now.values.now at many q → result ≡ q }
 {
-    x as u32
-}
-
-// The table, for those who lend it.
-pub fn parts_table() -> [u8; 72]
-    ensures { result ≡ parts }
-{
-    PARTS
-}
-
-// How many parts follow a token, by the table, which is lent so that it is made once.
-pub fn follow(table: &[u8; 72], tag: u8, value: u32) -> u32
-    requires { table.now ≡ parts }
-    ensures { result ≡ follows tag value }
-{
-    if tag == 3 {
-        return value;
-    }
-    let i = tag as usize;
-    if i < 72 {
-        return wide(table[i]);
-    }
-    0
-}
-
-// The place after so many parts that stand from a place on.
-pub fn past(tags: &[u8], values: &[u32], many: usize, at: usize) -> usize
-    requires { length values.now ≡ length tags.now }
-    ensures { (q : ℕ) → Owed tags.now values.now at many q → result ≡ q }
-{
-    let table = PARTS;
+    let parts = parts_table();
     let mut owed = many;
-    let mut place = at;
-    while 0 < owed {
-        if tags.len() <= place {
+    for place in at..source.tags.len() {
+        if owed == 0 {
             return place;
         }
-        if tags.len() < owed {
-            return place;
-        }
-        let more = follow(&table, tags[place], values[place]);
-        owed = owed - 1 + (more as usize);
-        place += 1;
+        let more = parts.follow(source.tags[place], source.values[place]);
+        owed = (owed - 1).saturating_add(more as usize);
     }
-    place
+    at.max(source.tags.len())
 }
 
 // The place after an expression.
-pub fn expr_end(tags: &[u8], values: &[u32], at: usize) -> usize
-    requires { length values.now ≡ length tags.now }
-    ensures { (M d : ℕ) (e : Expr) (q : ℕ) → expr M d (tokens tags.now values.now) at ≡ got e q → result ≡ q }
+pub fn expr_end(source: &Source<'_>, at: usize) -> usize
+    ensures { (M d : ℕ) (e : Expr) (q : ℕ) → expr M d (tokens_of source.now) at ≡ got e q → result ≡ q }
 {
-    past(tags, values, 1, at)
+    past(source, 1, at)
 }
 
 // The place after so many names with their types.
-fn declarations_end(tags: &[u8], values: &[u32], n: u32, at: usize) -> usize
-    requires { length values.now ≡ length tags.now }
-    ensures { (M : ℕ) (l : List Declared) (q : ℕ) → times n (declaration M) (tokens tags.now values.now) at ≡ got l q → result ≡ q }
+fn declarations_end(source: &Source<'_>, n: u32, at: usize) -> usize
+    ensures { (M : ℕ) (l : List Declared) (q : ℕ) → times n (declaration M) (tokens_of source.now) at ≡ got l q → result ≡ q }
 {
-    past(tags, values, n as usize, at)
-}
-
-// The place so many tokens on, within the sheet.
-fn ahead(tags: &[u8], n: usize, at: usize) -> usize
-    ensures { n ≤ length tags.now - at → result ≡ at + n }
-{
-    if tags.len() < at {
-        return at;
-    }
-    if tags.len() - at < n {
-        return at;
-    }
-    at + n
+    past(source, n as usize, at)
 }
 
 // The place after so many names.
-fn names_end(tags: &[u8], values: &[u32], n: u32, at: usize) -> usize
-    requires { length values.now ≡ length tags.now }
-    ensures { (M : ℕ) (l : List ℕ) (q : ℕ) → times n (name M) (tokens tags.now values.now) at ≡ got l q → result ≡ q }
+fn names_end(source: &Source<'_>, n: u32, at: usize) -> usize
+    ensures { (M : ℕ) (l : List ℕ) (q : ℕ) → times n (name M) (tokens_of source.now) at ≡ got l q → result ≡ q }
 {
-    ahead(tags, n as usize, at)
+    at.saturating_add(n as usize)
 }
 
 // The place after so many probes, two names each.
-fn probes_end(tags: &[u8], values: &[u32], n: u32, at: usize) -> usize
-    requires { length values.now ≡ length tags.now }
-    ensures { (M : ℕ) (l : List Probe) (q : ℕ) → times n (probe M) (tokens tags.now values.now) at ≡ got l q → result ≡ q }
+fn probes_end(source: &Source<'_>, n: u32, at: usize) -> usize
+    ensures { (M : ℕ) (l : List Probe) (q : ℕ) → times n (probe M) (tokens_of source.now) at ≡ got l q → result ≡ q }
 {
-    ahead(tags, 2 * (n as usize), at)
+    at.saturating_add(2 * (n as usize))
 }
 
-// The place after an equation: a count of left names, the names, the right side.
-pub fn equation_end(tags: &[u8], values: &[u32], at: usize) -> usize
-    requires { length values.now ≡ length tags.now }
-    ensures { (M : ℕ) (e : Equation) (q : ℕ) → equation M (tokens tags.now values.now) at ≡ got e q → result ≡ q }
-{
-    let n = value_at(values, at);
-    let first = ahead(tags, 1, at);
-    let right = names_end(tags, values, n, first);
-    expr_end(tags, values, right)
-}
-
-// The place after so many equations.
-fn equations_end(tags: &[u8], values: &[u32], n: u32, at: usize) -> usize
-    requires { length values.now ≡ length tags.now }
-    ensures { (M : ℕ) (l : List Equation) (q : ℕ) → times n (equation M) (tokens tags.now values.now) at ≡ got l q → result ≡ q }
+// The place after so many items, by where one ends.
+fn items_end<F: Fn(usize) -> usize>(n: u32, at: usize, item_end: F) -> usize
+    requires { F.IsAlwaysCallable item_end }
+    ensures { Ended (F.post item_end) at n result }
 {
     let mut place = at;
-    let mut left = n;
-    while 0 < left {
-        place = equation_end(tags, values, place);
-        left -= 1;
+    for _ in 0..n {
+        place = item_end(place);
     }
     place
 }
 
-// The place after a type's definition.
-fn definition_end(tags: &[u8], values: &[u32], names: u32, at: usize) -> usize
-    requires { length values.now ≡ length tags.now }
-    ensures { (d : TypeDef) (q : ℕ) → type_def names (tokens tags.now values.now) at ≡ got d q → result ≡ q }
+// The place after an equation: a count of left names, the names, the right side.
+pub fn equation_end(source: &Source<'_>, at: usize) -> usize
+    ensures { (M : ℕ) (e : Equation) (q : ℕ) → equation M (tokens_of source.now) at ≡ got e q → result ≡ q }
 {
-    let found = describe(tags, values, names, at);
-    match found {
-        Defined::Enum(_, n, first) => names_end(tags, values, n, first),
-        Defined::Record(_, n, first) => declarations_end(tags, values, n, first),
-        Defined::Alias(_, first) => past(tags, values, 1, first),
-        Defined::Nothing => at,
+    let n = value_at(source.values, at);
+    let first = at.saturating_add(1);
+    let right = names_end(source, n, first);
+    expr_end(source, right)
+}
+
+// The place after so many equations.
+fn equations_end(source: &Source<'_>, n: u32, at: usize) -> usize
+    ensures { (M : ℕ) (l : List Equation) (q : ℕ) → times n (equation M) (tokens_of source.now) at ≡ got l q → result ≡ q }
+{
+    items_end(n, at, |place| equation_end(source, place))
+}
+
+// The place after a type's definition.
+fn definition_end(source: &Source<'_>, at: usize) -> usize
+    ensures { (d : TypeDef) (q : ℕ) → type_def source.now.names (tokens_of source.now) at ≡ got d q → result ≡ q }
+{
+    match describe(source, at) {
+        Some(Defined::Enum(_, n, first)) => names_end(source, n, first),
+        Some(Defined::Record(_, n, first)) => declarations_end(source, n, first),
+        Some(Defined::Alias(_, first)) => past(source, 1, first),
+        None => at,
     }
 }
 
 // The place after so many types' definitions.
-fn definitions_end(tags: &[u8], values: &[u32], names: u32, n: u32, at: usize) -> usize
-    requires { length values.now ≡ length tags.now }
-    ensures { (l : List TypeDef) (q : ℕ) → times n (type_def names) (tokens tags.now values.now) at ≡ got l q → result ≡ q }
+fn definitions_end(source: &Source<'_>, n: u32, at: usize) -> usize
+    ensures { (l : List TypeDef) (q : ℕ) → times n (type_def source.now.names) (tokens_of source.now) at ≡ got l q → result ≡ q }
 {
-    let mut place = at;
-    let mut left = n;
-    while 0 < left {
-        place = definition_end(tags, values, names, place);
-        left -= 1;
-    }
-    place
+    items_end(n, at, |place| definition_end(source, place))
 }
 
 // Is a tag that of a when or a merge?
 pub fn is_sample(tag: u8) -> bool
     ensures { result ≡ is_sample tag }
 {
-    match tag {
-        67..=69 => true,
-        _ => false,
-    }
+    matches!(tag, 67..=69)
 }
 
 // Is a when or a merge among the tokens of a stretch?
 fn some_sample(tags: &[u8], from: usize, to: usize) -> bool
     ensures { (vs : List ℕ) (b : Option Mark) → Marks nowhere tags.now vs from to b → result ≡ there b }
 {
-    let mut i = from;
-    while i < to {
-        if tags.len() <= i {
-            return false;
-        }
-        if is_sample(tags[i]) {
-            return true;
-        }
-        i += 1;
-    }
-    false
+    tags.iter().take(to).skip(from).any(|tag| is_sample(*tag))
 }
 
 // Does one of so many equations use clocks? A when or a merge stands in a right side where its tag does.
-pub fn equations_use_clocks(tags: &[u8], values: &[u32], n: u32, at: usize) -> bool
-    requires { length values.now ≡ length tags.now }
-    ensures { (M : ℕ) (l : List Equation) (q : ℕ) → times n (equation M) (tokens tags.now values.now) at ≡ got l q → result ≡ any (λ e. samples e.right) l }
+pub fn equations_use_clocks(source: &Source<'_>, n: u32, at: usize) -> bool
+    ensures { (M : ℕ) (l : List Equation) (q : ℕ) → times n (equation M) (tokens_of source.now) at ≡ got l q → result ≡ any (λ e. samples e.right) l }
 {
-    let end = equations_end(tags, values, n, at);
-    some_sample(tags, at, end)
+    let end = equations_end(source, n, at);
+    some_sample(source.tags, at, end)
 }
 
 // ---- Where the parts of an accepted sheet stand among its tokens: its types and nodes, a node's names, equations and probes.
-// `tags` and `values` are as long as each other; `names` is the number of names. Where nothing was read, an answer says nothing.
+// Where nothing was read, an answer says nothing.
 
 // A list behind its count: where its first item stands, how many there are, and the place after the last.
 #[derive(Clone, Copy)]
@@ -324,102 +240,59 @@ pub fn behind(tags: &[u8], at: usize) -> usize
 fn kind_of(value: u32) -> NodeKind
     ensures { result ≡ kind_in value }
 {
-    let found = grammar::node_kind(value);
-    match found {
-        FoundKind::Kind(k) => k,
-        FoundKind::Nothing => NodeKind::Function,
+    grammar::node_kind(value).unwrap_or(NodeKind::Function)
+}
+
+// A list behind its count, by where so many items end.
+fn list_at<F: Fn(u32, usize) -> usize>(source: &Source<'_>, at: usize, items_end: F) -> Span
+    requires { F.IsAlwaysCallable items_end }
+    ensures counted { (result.at ≡ past_in (length source.now.tags.now) at) × (result.count ≡ get_or source.now.values.now at 0) }
+    ensures ended { F.post items_end result.count result.at result.end }
+{
+    let count = value_at(source.values, at);
+    let first = behind(source.tags, at);
+    Span {
+        at: first,
+        count,
+        end: items_end(count, first),
     }
 }
 
 // Names with their types behind their count.
-pub fn declared_at(tags: &[u8], values: &[u32], names: u32, at: usize) -> Span
-    requires { length values.now ≡ length tags.now }
-    ensures { Spanned (declaration names) tags.now values.now at result }
+pub fn declared_at(source: &Source<'_>, at: usize) -> Span
+    ensures { Spanned (declaration source.now.names) source.now.tags.now source.now.values.now at result }
 {
-    let count = value_at(values, at);
-    let first = behind(tags, at);
-    let end = declarations_end(tags, values, count, first);
-    Span {
-        at: first,
-        count,
-        end,
-    }
+    list_at(source, at, |n, first| declarations_end(source, n, first))
 }
 
 // Names behind their count.
-pub fn names_at(tags: &[u8], values: &[u32], names: u32, at: usize) -> Span
-    requires { length values.now ≡ length tags.now }
-    ensures { Spanned (name names) tags.now values.now at result }
+pub fn names_at(source: &Source<'_>, at: usize) -> Span
+    ensures { Spanned (name source.now.names) source.now.tags.now source.now.values.now at result }
 {
-    let count = value_at(values, at);
-    let first = behind(tags, at);
-    let end = names_end(tags, values, count, first);
-    Span {
-        at: first,
-        count,
-        end,
-    }
-}
-
-// Equations behind their count.
-fn equations_at(tags: &[u8], values: &[u32], names: u32, at: usize) -> Span
-    requires { length values.now ≡ length tags.now }
-    ensures { Spanned (equation names) tags.now values.now at result }
-{
-    let count = value_at(values, at);
-    let first = behind(tags, at);
-    let end = equations_end(tags, values, count, first);
-    Span {
-        at: first,
-        count,
-        end,
-    }
-}
-
-// Probes behind their count.
-fn probes_at(tags: &[u8], values: &[u32], names: u32, at: usize) -> Span
-    requires { length values.now ≡ length tags.now }
-    ensures { Spanned (probe names) tags.now values.now at result }
-{
-    let count = value_at(values, at);
-    let first = behind(tags, at);
-    let end = probes_end(tags, values, count, first);
-    Span {
-        at: first,
-        count,
-        end,
-    }
-}
-
-// Types' definitions behind their count.
-fn types_at(tags: &[u8], values: &[u32], names: u32, at: usize) -> Span
-    requires { length values.now ≡ length tags.now }
-    ensures { Spanned (type_def names) tags.now values.now at result }
-{
-    let count = value_at(values, at);
-    let first = behind(tags, at);
-    let end = definitions_end(tags, values, names, count, first);
-    Span {
-        at: first,
-        count,
-        end,
-    }
+    list_at(source, at, |n, first| names_end(source, n, first))
 }
 
 // The parts of the node that stands at a place.
-pub fn node_at(tags: &[u8], values: &[u32], names: u32, at: usize) -> NodeLayout
-    requires { length values.now ≡ length tags.now }
-    ensures { (n : Node) (q : ℕ) → node names (tokens tags.now values.now) at ≡ got n q → LaidNode names (tokens tags.now values.now) n q result }
+pub fn node_at(source: &Source<'_>, at: usize) -> NodeLayout
+    ensures { (n : Node) (q : ℕ) → node source.now.names (tokens_of source.now) at ≡ got n q → LaidNode source.now.names (tokens_of source.now) n q result }
 {
-    let second = behind(tags, at);
-    let third = behind(tags, second);
-    let inputs = declared_at(tags, values, names, third);
-    let outputs = declared_at(tags, values, names, inputs.end);
-    let locals = declared_at(tags, values, names, outputs.end);
-    let equations = equations_at(tags, values, names, locals.end);
-    let probes = probes_at(tags, values, names, equations.end);
-    let name = value_at(values, at);
-    let kind = kind_of(value_at(values, second));
+    let second = behind(source.tags, at);
+    let third = behind(source.tags, second);
+    let inputs = declared_at(source, third);
+    let outputs = declared_at(source, inputs.end);
+    let locals = declared_at(source, outputs.end);
+    let equations = list_at(
+        source,
+        locals.end,
+        |n, first| equations_end(source, n, first),
+    );
+    let probes = list_at(
+        source,
+        equations.end,
+        |n, first| probes_end(source, n, first),
+    );
+    let name = value_at(source.values, at);
+    let kind = kind_of(value_at(source.values, second));
     let end = probes.end;
     NodeLayout {
         name,
@@ -434,72 +307,71 @@ pub fn node_at(tags: &[u8], values: &[u32], names: u32, at: usize) -> NodeLayout
 }
 
 // The parts of the equation that stands at a place.
-pub fn equation_at(tags: &[u8], values: &[u32], names: u32, at: usize) -> EquationLayout
-    requires { length values.now ≡ length tags.now }
-    ensures { (e : Equation) (q : ℕ) → equation names (tokens tags.now values.now) at ≡ got e q → LaidEquation names (tokens tags.now values.now) e q result }
+pub fn equation_at(source: &Source<'_>, at: usize) -> EquationLayout
+    ensures { (e : Equation) (q : ℕ) → equation source.now.names (tokens_of source.now) at ≡ got e q → LaidEquation source.now.names (tokens_of source.now) e q result }
 {
-    let left = names_at(tags, values, names, at);
+    let left = names_at(source, at);
     let right = left.end;
-    let end = expr_end(tags, values, right);
+    let end = expr_end(source, right);
     EquationLayout { left, right, end }
 }
 
 // The parts of a sheet: its nodes fill it.
-pub fn sheet_at(tags: &[u8], values: &[u32], names: u32) -> SheetLayout
-    requires { length values.now ≡ length tags.now }
-    ensures { (s : Sheet) (q : ℕ) → sheet names (tokens tags.now values.now) 0 ≡ got s q → LaidSheet names (tokens tags.now values.now) s result }
+pub fn sheet_at(source: &Source<'_>) -> SheetLayout
+    ensures { (s : Sheet) (q : ℕ) → sheet source.now.names (tokens_of source.now) 0 ≡ got s q → LaidSheet source.now.names (tokens_of source.now) s result }
 {
-    let types = types_at(tags, values, names, 0);
-    let at = behind(tags, types.end);
-    let count = value_at(values, types.end);
-    let end = tags.len();
+    let types = list_at(source, 0, |n, first| definitions_end(source, n, first));
+    let at = behind(source.tags, types.end);
+    let count = value_at(source.values, types.end);
+    let end = source.tags.len();
     let nodes = Span { at, count, end };
     SheetLayout { types, nodes }
 }
 
-// The places of n nodes, of which the first stands at `at`.
-pub fn node_places(
-    tags: &[u8],
-    values: &[u32],
-    names: u32,
+// The places of n items, of which the first stands at `at`, by where one ends.
+fn places_of<const N: usize, F: Fn(usize) -> usize>(
     n: usize,
     at: usize,
-) -> [usize; MOST_NODES]
-    requires values_len { length values.now ≡ length tags.now }
-    requires n_bound { n ≤ 16 }
-    ensures { (l : List Node) (q : ℕ) → times n (node names) (tokens tags.now values.now) at ≡ got l q → Places (node names) (tokens tags.now values.now) result l }
+    item_end: F,
+) -> PlaceTable<N>
+    requires n_bound { n ≤ N }
+    requires callable { F.IsAlwaysCallable item_end }
+    ensures count { result.count ≡ n }
+    ensures each { (i : ℕ) → i < n → Ended (F.post item_end) at i (get_or result.at i 0) }
 {
-    let mut places = [0usize; MOST_NODES];
+    let mut places = [0usize; N];
     let mut place = at;
-    let mut i: usize = 0;
-    while i < n {
+    for i in 0..n {
         places[i] = place;
-        let l = node_at(tags, values, names, place);
-        place = l.end;
-        i += 1;
+        place = item_end(place);
     }
-    places
+    PlaceTable {
+        at: places,
+        count: n,
+    }
+}
+
+// The place after a node.
+fn node_end(source: &Source<'_>, at: usize) -> usize
+    ensures { (n : Node) (q : ℕ) → node source.now.names (tokens_of source.now) at ≡ got n q → result ≡ q }
+{
+    node_at(source, at).end
+}
+
+// The places of n nodes, of which the first stands at `at`.
+pub fn node_places(source: &Source<'_>, n: usize, at: usize) -> PlaceTable<MOST_NODES>
+    requires n_bound { n ≤ 16 }
+    ensures count { result.count ≡ n }
+    ensures places { (l : List Node) (q : ℕ) → times n (node source.now.names) (tokens_of source.now) at ≡ got l q → Places (node source.now.names) (tokens_of source.now) result.at l }
+{
+    places_of(n, at, |place| node_end(source, place))
 }
 
 // The places of n definitions, of which the first stands at `at`.
-pub fn definition_places(
-    tags: &[u8],
-    values: &[u32],
-    names: u32,
-    n: usize,
-    at: usize,
-) -> [usize; MOST_TYPES]
-    requires values_len { length values.now ≡ length tags.now }
+pub fn definition_places(source: &Source<'_>, n: usize, at: usize) -> PlaceTable<MOST_TYPES>
     requires n_bound { n ≤ 32 }
-    ensures { (types : List TypeDef) (q : ℕ) → times n (type_def names) (tokens tags.now values.now) at ≡ got types q → Table names (tokens tags.now values.now) result n types }
+    ensures count { result.count ≡ n }
+    ensures table { (types : List TypeDef) (q : ℕ) → times n (type_def source.now.names) (tokens_of source.now) at ≡ got types q → Table source.now.names (tokens_of source.now) result.at n types }
 {
-    let mut places = [0usize; MOST_TYPES];
-    let mut place = at;
-    let mut i: usize = 0;
-    while i < n {
-        places[i] = place;
-        place = definition_end(tags, values, names, place);
-        i += 1;
-    }
-    places
+    places_of(n, at, |place| definition_end(source, place))
 }

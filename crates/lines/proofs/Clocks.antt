@@ -4,15 +4,15 @@ use mathlib.Core.Path.{◌≡◌, refl, sym, ap, ◌∙◌}
 use mathlib.Core.List.{List, [], ◌∷◌, ◌++◌, map, append_assoc}
 use native.Mathlib.Omega.{arith}
 use native.Mathlib.Numerals.{add-one}
-use lib.ListN.{length}
 use Rattle.definitions.specs.declared.Condition.{Condition}
 use Rattle.definitions.specs.Lists.{Letters, bytes}
-use Rattle.definitions.specs.Clock.{Clock, base, ◌↓◌, conditions}
+use Rattle.definitions.specs.Clock.{Clock, ◌↓◌, conditions}
 use Rattle.definitions.specs.Texts.{separated, condition_text, test_sign, clock_text, clock_key}
 use Rattle.clock_tables.specs.Value.{at, clock_at}
-use Rattle.spelling.specs.Writing.{Put, farthest}
+use Rattle.spelling.specs.Written.{Wrote}
+use Rattle.spelling.specs.declared.text_writer.TextWriter.{TextWriter}
+use Rattle.spelling.proofs.Writers.{wrote_then, wrote_as}
 use Rattle.lines.specs.Pieces.{words}
-use Rattle.lines.proofs.Joining.{also, put_as}
 
 map_last : {A B : Type 0} (f : A → B) (l : List A) (a : A) → map f (l ++ (a ∷ [])) ≡ map f l ++ (f a ∷ [])
 map_last f [] a = refl
@@ -65,25 +65,25 @@ module _ (letters : ℕ → Letters) where
 
 -- the same, as they are put
 module _ (letters : ℕ → Letters) (ks : List Condition) where
-  pub put_first : {p q : ℕ} {s s₁ : List ℕ} → Put (condition_text letters (at ks 0)) p s q s₁ → Put (words letters (clock_at ks 1)) p s q s₁
+  pub put_first : {w w₁ : TextWriter} → Wrote (condition_text letters (at ks 0)) w w₁ → Wrote (words letters (clock_at ks 1)) w w₁
   unfolding words conditions separated clock_at
   put_first u = u
 
-  pub put_next : (i : ℕ) {p q r t : ℕ} {s s₁ s₂ s₃ : List ℕ} → 0 < i → length s ≤ farthest → Put (words letters (clock_at ks i)) p s q s₁
-      → Put (32 ∷ []) q s₁ r s₂ → Put (condition_text letters (at ks i)) r s₂ t s₃ → Put (words letters (clock_at ks (i + 1))) p s t s₃
-  put_next i z h u v w = put_as (words_more letters ks i z) (also h u λ g. also g v λ _. w)
+  pub put_next : (i : ℕ) {w w₁ w₂ w₃ : TextWriter} → 0 < i → Wrote (words letters (clock_at ks i)) w w₁ → Wrote (32 ∷ []) w₁ w₂
+      → Wrote (condition_text letters (at ks i)) w₂ w₃ → Wrote (words letters (clock_at ks (i + 1))) w w₃
+  put_next i z u v x = wrote_as (words_more letters ks i z) (wrote_then u (wrote_then v x))
 
-  pub put-base : {p q : ℕ} {s s₁ : List ℕ} → Put (bytes "base") p s q s₁ → Put (clock_key letters (clock_at ks 0)) p s q s₁
+  pub put-base : {w w₁ : TextWriter} → Wrote (bytes "base") w w₁ → Wrote (clock_key letters (clock_at ks 0)) w w₁
   unfolding clock_key clock_at
   put-base u = u
 
-  pub put-key : (i : ℕ) {p q r : ℕ} {s s₁ s₂ : List ℕ} → length s ≤ farthest → Put (clock_key letters (clock_at ks i)) p s q s₁
-      → Put (bytes "/" ++ (letters (at ks i).name ++ test_sign (at ks i).test)) q s₁ r s₂ → Put (clock_key letters (clock_at ks (i + 1))) p s r s₂
-  put-key i h u v = put_as (key_more letters ks i) (also h u λ _. v)
+  pub put-key : (i : ℕ) {w w₁ w₂ : TextWriter} → Wrote (clock_key letters (clock_at ks i)) w w₁
+      → Wrote (bytes "/" ++ (letters (at ks i).name ++ test_sign (at ks i).test)) w₁ w₂ → Wrote (clock_key letters (clock_at ks (i + 1))) w w₂
+  put-key i u v = wrote_as (key_more letters ks i) (wrote_then u v)
 
   -- all are put
-  pub put-words : (i d : ℕ) {p q : ℕ} {s s₁ : List ℕ} → i ≤ d → d ≤ i → Put (words letters (clock_at ks i)) p s q s₁ → Put (words letters (clock_at ks d)) p s q s₁
-  put-words i d h k u = put_as (ap (λ n. words letters (clock_at ks n)) (omega arith)) u
+  pub put-words : (i d : ℕ) {w w₁ : TextWriter} → i ≤ d → d ≤ i → Wrote (words letters (clock_at ks i)) w w₁ → Wrote (words letters (clock_at ks d)) w w₁
+  put-words i d h k u = wrote_as (ap (λ n. words letters (clock_at ks n)) (omega arith)) u
 
-  pub put-keys : (i d n : ℕ) {p q : ℕ} {s s₁ : List ℕ} → i ≤ d → d ≤ i → d ≡ n → Put (clock_key letters (clock_at ks i)) p s q s₁ → Put (clock_key letters (clock_at ks n)) p s q s₁
-  put-keys i d n h k e u = put_as (ap (λ n. clock_key letters (clock_at ks n)) (omega arith)) u
+  pub put-keys : (i d n : ℕ) {w w₁ : TextWriter} → i ≤ d → d ≤ i → d ≡ n → Wrote (clock_key letters (clock_at ks i)) w w₁ → Wrote (clock_key letters (clock_at ks n)) w w₁
+  put-keys i d n h k e u = wrote_as (ap (λ n. clock_key letters (clock_at ks n)) (omega arith)) u

@@ -7,7 +7,8 @@ use borrow.Author.Tests.{le-leb, lt-leb}
 use Rattle.definitions.specs.Lists.{over, Letters}
 use Rattle.spelling.specs.Writing.{Put, farthest}
 use Rattle.spelling.proofs.Writing.{put-measure, put-over}
-use Rattle.lines.specs.declared.Lending.{Lending}
+use Rattle.std.specs.Prelude.{Ok, Err}
+use Rattle.definitions.specs.declared.Refusal.{Refusal}
 use Rattle.lines.specs.Lending.{Gives}
 
 -- a text over as many bytes as it has, before the others
@@ -18,7 +19,7 @@ over-part (a ∷ l) (b ∷ lent) = ap (λ r. a ∷ r) (over-part l lent)
 
 module _ (text : Letters) (lent : List ℕ) (n : ℕ) {none none₁ : List ℕ} (h : length text ≤ farthest) (u : Put text 0 none n none₁) where
   -- the first n bytes were lent on
-  pub gives-written : {q : ℕ} {part : List ℕ} → n ≤ length lent → Put text 0 (take n lent) q part → Gives text lent (Lending.Written n) (part ++ drop n lent)
+  pub gives-written : {q : ℕ} {part : List ℕ} → n ≤ length lent → Put text 0 (take n lent) q part → Gives text lent (Ok n) (part ++ drop n lent)
   gives-written {q} {part} k v =
       let e : n ≡ length text = put-measure h u in
       let f : length text ≤ length lent = rw e at k in
@@ -26,7 +27,7 @@ module _ (text : Letters) (lent : List ℕ) (n : ℕ) {none none₁ : List ℕ} 
       let b : part ++ drop n lent ≡ over text lent = ap (λ r. r ++ drop n lent) (put-over v) ∙ ap (λ i. over text (take i lent) ++ drop i lent) e ∙ over-part text lent in
       record { answer = rw g; size = e; bytes = rw g b }
 
-  pub gives-lent : length lent < n → Gives text lent (Lending.Lent n) lent
+  pub gives-lent : length lent < n → Gives text lent (Err (Refusal.Lent n)) lent
   gives-lent k =
       let e : n ≡ length text = put-measure h u in
       let f : length lent < length text = rw e at k in

@@ -3,7 +3,7 @@ use mathlib.Core.Path.{◌≡◌, refl, sym, subst, ◌∙◌, ap}
 use mathlib.Core.List.{List, [], ◌∷◌, ◌++◌, map, append_assoc, append-nil}
 use mathlib.Core.Bool.{Bool, true, false}
 use mathlib.Core.Option.{Option}
-use Prim.Native.Nat.{ℕ, zero, suc, ◌+◌, ◌-◌, ◌*◌, ◌≤◌, ◌<◌, min}
+use Prim.Native.Nat.{ℕ, zero, suc, ◌+◌, ◌-◌, ◌*◌, ◌<◌}
 use native.Mathlib.Omega.{arith}
 use native.Mathlib.Numerals.{add-one}
 use lib.ListN.{length, get_or, length-append, length-map}
@@ -12,42 +12,40 @@ use Rattle.definitions.specs.Bytes.{tokens}
 use Rattle.definitions.specs.Tree.{Equation, Node}
 use Rattle.definitions.specs.Reading.{got}
 use Rattle.definitions.specs.Grammar.{equation}
-use Rattle.definitions.specs.Clock.{Clock, depth}
-use Rattle.definitions.specs.InferClocks.{Formed, deep, formed, ◌>>=◌, Natural, Clocks, Clocked, Clocking, Inferred, Finding, NodeFault, is_too_deep, natural, or_base, clocked_by, check_equation, inferred, clocking, chains, clock_faults}
+use Rattle.definitions.specs.Clock.{Clock}
+use Rattle.definitions.specs.InferClocks.{Formed, deep, formed, ◌>>=◌, Natural, Clocks, Clocked, Clocking, Inferred, Finding, found, NodeFault, is_too_deep, natural, or_base, clocked_by, check_equation, inferred, clocking, chains, clock_faults}
 use Rattle.definitions.specs.Texts.{fault_line}
 use Rattle.definitions.specs.Answer.{node_clocks, node_listing}
 use Rattle.clock_tables.specs.Flat.{clock_in}
-use Rattle.layout.specs.Laid.{LaidNode}
-use Rattle.findings.specs.Findings.{fault_in, finding_in, findings_in}
+use Rattle.findings.specs.Findings.{finding_in, findings_in}
 use Rattle.findings.proofs.Laws.{none_yet, faults-one, faults-no}
-use Rattle.chain_order.specs.Order.{row_of, picked}
+use Rattle.spelling.specs.Places.{letters_in}
+use Rattle.chain_order.specs.Order.{row_of, picked, ordered_clocks}
+use Rattle.chain_order.specs.declared.OrderedClocks.{OrderedClocks}
+use Rattle.definitions.specs.Output.{ClockedNode}
 use Rattle.skeleton.specs.Sites.{EquationsOn}
-use Rattle.spelling.specs.Writing.{Put, farthest}
-use Rattle.spelling.proofs.Writing.{put-none}
+use Rattle.spelling.specs.Written.{Wrote}
+use Rattle.spelling.specs.declared.text_writer.TextWriter.{TextWriter}
+use Rattle.spelling.proofs.Writers.{wrote_then, wrote_as, wrote_none}
 use Rattle.lines.specs.Pieces.{head_line, equation_line, chain_line}
-use Rattle.lines.proofs.Joining.{also, put_as}
-use Rattle.lines.specs.declared.Told.{Told}
-use Rattle.lines.specs.Low.{Low}
-use Rattle.lines.specs.ToldClocks.{ToldClocks}
+use Rattle.lines.specs.declared.ListedNode.{ListedNode}
+use Rattle.lines.specs.Listed.{Lists, AreChains, listed}
 use Rattle.lines.proofs.Listing.{put-line, put-numbered, put-listing}
 
 -- ---- a line for each fault of the first rows
-module _ (line : NodeFault → Letters) (t : List ℕ) {p : ℕ} {s : List ℕ} where
-  pub faults-none : {q : ℕ} → q ≡ min (p + 0) farthest → Put (join (map line (clock_faults (findings_in t 0)))) p s q s
-  faults-none e = put_as (ap (λ (l : List NodeFault). join (map line l)) (sym (none_yet t).0)) (put-none s e)
+module _ (line : NodeFault → Letters) (t : List ℕ) (w : TextWriter) where
+  pub faults-none : Wrote (join (map line (clock_faults (findings_in t 0)))) w w
+  faults-none = wrote_as (ap (λ (l : List NodeFault). join (map line l)) (sym (none_yet t).0)) (wrote_none w)
 
-  module _ (i : ℕ) (x : Bool) (h : clock_faults (finding_in t (38 * i) ∷ []) ≡ choose x (fault_in t (38 * i) ∷ []) []) where
-    pub fault-line : (f : NodeFault) {q r : ℕ} {s₁ s₂ : List ℕ} → x ≡ true → f ≡ fault_in t (38 * i) → length s ≤ farthest
-        → Put (join (map line (clock_faults (findings_in t i)))) p s q s₁ → Put (line f) q s₁ r s₂ → Put (join (map line (clock_faults (findings_in t (i + 1))))) p s r s₂
-    fault-line f e g k u v =
-        let b : clock_faults (findings_in t i) ++ (f ∷ []) ≡ clock_faults (findings_in t (i + 1)) = ap (λ (y : NodeFault). clock_faults (findings_in t i) ++ (y ∷ [])) g ∙ sym (faults-one t i x h e) in
-        put_as (ap (λ (l : List NodeFault). join (map line l)) b) (put-line line (clock_faults (findings_in t i)) f k u v)
+  module _ (i : ℕ) (f : Finding) (e : f ≡ finding_in t (38 * i)) {w₁ : TextWriter} where
+    pub fault-line : (g h : NodeFault) {w₂ : TextWriter} → f ≡ found g → h ≡ g
+        → Wrote (join (map line (clock_faults (findings_in t i)))) w w₁ → Wrote (line h) w₁ w₂ → Wrote (join (map line (clock_faults (findings_in t (i + 1))))) w w₂
+    fault-line g h a b u v =
+        let c : clock_faults (findings_in t i) ++ (h ∷ []) ≡ clock_faults (findings_in t (i + 1)) = ap (λ (y : NodeFault). clock_faults (findings_in t i) ++ (y ∷ [])) b ∙ sym (faults-one t i f e a) in
+        wrote_as (ap (λ (l : List NodeFault). join (map line l)) c) (put-line line (clock_faults (findings_in t i)) h u v)
 
-    pub fault-pass : {q : ℕ} {s₁ : List ℕ} → x ≡ false → Put (join (map line (clock_faults (findings_in t i)))) p s q s₁ → Put (join (map line (clock_faults (findings_in t (i + 1))))) p s q s₁
-    fault-pass e u = put_as (ap (λ (l : List NodeFault). join (map line l)) (sym (faults-no t i x h e))) u
-
-  pub faults-all : (i n : ℕ) {q : ℕ} {s₁ : List ℕ} → i ≤ n → n ≤ i → Put (join (map line (clock_faults (findings_in t i)))) p s q s₁ → Put (join (map line (clock_faults (findings_in t n)))) p s q s₁
-  faults-all i n g h u = let e : i ≡ n = omega arith in put_as (ap (λ (j : ℕ). join (map line (clock_faults (findings_in t j)))) e) u
+    pub fault-pass : clock_faults (f ∷ []) ≡ [] → Wrote (join (map line (clock_faults (findings_in t i)))) w w₁ → Wrote (join (map line (clock_faults (findings_in t (i + 1))))) w w₁
+    fault-pass a u = wrote_as (ap (λ (l : List NodeFault). join (map line l)) (sym (faults-no t i f e a))) u
 
 -- ---- a line for each chain
 module _ (f : ℕ → Clock) (o : List ℕ) where
@@ -63,21 +61,18 @@ module _ (f : ℕ → Clock) (o : List ℕ) where
   picked-length i zero = refl
   picked-length i (suc n) = ap suc (picked-length (i + 1) n)
 
-  module _ (line : Clock → Letters) {p : ℕ} {s : List ℕ} where
-    pub picked_none : {q : ℕ} → q ≡ min (p + 0) farthest → Put (join (map line (picked f o 0 0))) p s q s
+  module _ (line : Clock → Letters) (w : TextWriter) where
+    pub picked_none : Wrote (join (map line (picked f o 0 0))) w w
     unfolding picked
-    picked_none e = put-none s e
+    picked_none = wrote_none w
 
-    pub picked-line : (i x y : ℕ) (c : Clock) {q r : ℕ} {s₁ s₂ : List ℕ} → x ≡ get_or o i 0 → y ≡ x → c ≡ f y → length s ≤ farthest
-        → Put (join (map line (picked f o 0 i))) p s q s₁ → Put (line c) q s₁ r s₂ → Put (join (map line (picked f o 0 (i + 1)))) p s r s₂
-    picked-line i x y c a b e k u v =
+    pub picked-line : (i : ℕ) (c : Clock) {w₁ w₂ : TextWriter} → c ≡ f (get_or o i 0)
+        → Wrote (join (map line (picked f o 0 i))) w w₁ → Wrote (line c) w₁ w₂ → Wrote (join (map line (picked f o 0 (i + 1)))) w w₂
+    picked-line i c e u v =
         let z : 0 + i ≡ i = omega arith in
-        let w : c ≡ f (get_or o (0 + i) 0) = e ∙ ap f (b ∙ (a ∙ ap (λ (j : ℕ). get_or o j 0) (sym z))) in
-        let g : picked f o 0 i ++ (c ∷ []) ≡ picked f o 0 (i + 1) = ap (λ (d : Clock). picked f o 0 i ++ (d ∷ [])) w ∙ (sym (picked_last 0 i) ∙ ap (picked f o 0) (sym (add-one i))) in
-        put_as (ap (λ (l : List Clock). join (map line l)) g) (put-line line (picked f o 0 i) c k u v)
-
-    pub picked_all : (i n : ℕ) {q : ℕ} {s₁ : List ℕ} → i ≤ n → n ≤ i → Put (join (map line (picked f o 0 i))) p s q s₁ → Put (join (map line (picked f o 0 n))) p s q s₁
-    picked_all i n g h u = let e : i ≡ n = omega arith in put_as (ap (λ (j : ℕ). join (map line (picked f o 0 j))) e) u
+        let x : c ≡ f (get_or o (0 + i) 0) = e ∙ ap (λ (j : ℕ). f (get_or o j 0)) (sym z) in
+        let g : picked f o 0 i ++ (c ∷ []) ≡ picked f o 0 (i + 1) = ap (λ (d : Clock). picked f o 0 i ++ (d ∷ [])) x ∙ (sym (picked_last 0 i) ∙ ap (picked f o 0) (sym (add-one i))) in
+        wrote_as (ap (λ (l : List Clock). join (map line l)) g) (put-line line (picked f o 0 i) c u v)
 
 -- ---- a line for each equation
 module _ (clocks : Clocks) where
@@ -108,32 +103,22 @@ module _ (clocks : Clocks) where
 one_more : (l : List Clock) (c : Clocked) (ds : List Clocked) (v : Clock) (all : List Clock) → v ≡ c.clock → l ++ map (λ (c : Clocked). c.clock) (c ∷ ds) ≡ all → (l ++ (v ∷ [])) ++ map (λ (c : Clocked). c.clock) ds ≡ all
 one_more l c ds v all a h = append_assoc l (v ∷ []) (map (λ (c : Clocked). c.clock) ds) ∙ (ap (λ (x : Clock). l ++ (x ∷ map (λ (c : Clocked). c.clock) ds)) a ∙ h)
 
-low-none : Low []
-unfolding Low
-low-none = tt
-
-low-more : (l : List Clock) (c : Clock) → depth c ≤ 8 → Low l → Low (l ++ (c ∷ []))
-unfolding Low
-low-more [] c h g = (h, tt)
-low-more (d ∷ l) c h g = (g.0, low-more l c h g.1)
-
 -- the lines so far, and the equations left; all clocks are `all`
-pub record Lines (M : ℕ) (gs vs sites : List ℕ) (line : ℕ → Clock → Letters) (left i place q p : ℕ) (s : List ℕ) (next : ℕ) (out : List ℕ) (all : List Clock) : Type 0 where
+pub record Lines (M : ℕ) (gs vs sites : List ℕ) (line : ℕ → Clock → Letters) (left i place q : ℕ) (w w₁ : TextWriter) (all : List Clock) : Type 0 where
   pub rest : List Clocked
   pub so_far : List Clock
   pub on : EquationsOn M gs vs sites rest place q
   pub count : length rest ≡ left
   pub many : i ≡ length so_far
   pub whole : so_far ++ map (λ (c : Clocked). c.clock) rest ≡ all
-  pub lines : Put (join (numbered line 0 so_far)) p s next out
-  pub low : Low so_far
+  pub lines : Wrote (join (numbered line 0 so_far)) w w₁
 
-module _ (M : ℕ) (gs vs sites : List ℕ) (line : ℕ → Clock → Letters) {p : ℕ} {s : List ℕ} where
-  pub lines_start : (count n at q : ℕ) (cs : List Clocked) {next : ℕ} → n ≡ count → EquationsOn M gs vs sites cs at q → length cs ≡ count → next ≡ min (p + 0) farthest
-      → Lines M gs vs sites line (n - 0) 0 at q p s next s (map (λ (c : Clocked). c.clock) cs)
-  lines_start count n at q cs c g h e = record { rest = cs; so_far = []; on = g; count = omega (arith, c, h); many = refl; whole = refl; lines = put-none s e; low = low-none }
+module _ (M : ℕ) (gs vs sites : List ℕ) (line : ℕ → Clock → Letters) (w : TextWriter) where
+  pub lines_start : (count n at q : ℕ) (cs : List Clocked) → n ≡ count → EquationsOn M gs vs sites cs at q → length cs ≡ count
+      → Lines M gs vs sites line (n - 0) 0 at q w w (map (λ (c : Clocked). c.clock) cs)
+  lines_start count n at q cs c g h = record { rest = cs; so_far = []; on = g; count = omega (arith, c, h); many = refl; whole = refl; lines = wrote_none w }
 
-  module _ (left i place q : ℕ) (all : List Clock) {next : ℕ} {out : List ℕ} (z : left ≡ 0) (h : Lines M gs vs sites line left i place q p s next out all) where
+  module _ (left i place q : ℕ) (all : List Clock) {w₁ : TextWriter} (z : left ≡ 0) (h : Lines M gs vs sites line left i place q w w₁ all) where
     lines-all : h.so_far ≡ all
     lines-all = go h.rest h.count h.whole
       where
@@ -141,22 +126,19 @@ module _ (M : ℕ) (gs vs sites : List ℕ) (line : ℕ → Clock → Letters) {
         go [] k e = sym (append-nil h.so_far) ∙ e
         go (c ∷ l) k e = absurd (omega (arith, z, k))
 
-    pub lines_end : Put (join (numbered line 0 all)) p s next out
-    lines_end = put_as (ap (λ (l : List Clock). join (numbered line 0 l)) lines-all) h.lines
+    pub lines_end : Wrote (join (numbered line 0 all)) w w₁
+    lines_end = wrote_as (ap (λ (l : List Clock). join (numbered line 0 l)) lines-all) h.lines
 
-    pub lines-low : Low all
-    lines-low = rw lines-all at h.low
-
-  pub lines_step : (n i place q end : ℕ) (all : List Clock) (v : Clock) {next r : ℕ} {out out' : List ℕ} → depth v ≤ 8 → i < n → length s ≤ farthest → v ≡ clock_in sites (17 * place)
+  pub lines_step : (n i place q end : ℕ) (all : List Clock) (v : Clock) {w₁ w₂ : TextWriter} → i < n → v ≡ clock_in sites (17 * place)
       → ((M : ℕ) (e : Equation) (q : ℕ) → equation M (tokens gs vs) place ≡ got e q → end ≡ q)
-      → Put (line i v) next out r out'
-      → Lines M gs vs sites line (n - i) i place q p s next out all → Lines M gs vs sites line (n - (i + 1)) (i + 1) end q p s r out' all
+      → Wrote (line i v) w₁ w₂
+      → Lines M gs vs sites line (n - i) i place q w w₁ all → Lines M gs vs sites line (n - (i + 1)) (i + 1) end q w w₂ all
   unfolding EquationsOn
-  lines_step n i place q end all v {next} {r} {out} {out'} small z k a E u h = go h.rest h.on h.count h.whole
+  lines_step n i place q end all v {w₁} {w₂} z a E u h = go h.rest h.on h.count h.whole
     where
-      go : (l : List Clocked) → EquationsOn M gs vs sites l place q → length l ≡ n - i → h.so_far ++ map (λ (c : Clocked). c.clock) l ≡ all → Lines M gs vs sites line (n - (i + 1)) (i + 1) end q p s r out' all
-      go [] o c w = absurd (omega (arith, z, c))
-      go (x ∷ l) o c w =
+      go : (l : List Clocked) → EquationsOn M gs vs sites l place q → length l ≡ n - i → h.so_far ++ map (λ (c : Clocked). c.clock) l ≡ all → Lines M gs vs sites line (n - (i + 1)) (i + 1) end q w w₂ all
+      go [] o c y = absurd (omega (arith, z, c))
+      go (x ∷ l) o c y =
           let m : i + 1 ≡ length (h.so_far ++ (v ∷ [])) = simp length-append (omega (arith, h.many)) in
           record {
             rest = l;
@@ -164,9 +146,8 @@ module _ (M : ℕ) (gs vs sites : List ℕ) (line : ℕ → Clock → Letters) {
             on = subst (λ (y : ℕ). EquationsOn M gs vs sites l y q) (sym (E M x.equation o.0 o.1)) o.3;
             count = omega (arith, z, c);
             many = m;
-            whole = one_more h.so_far x l v all (a ∙ o.2) w;
-            lines = put-numbered line h.so_far i v h.many k h.lines u;
-            low = low-more h.so_far v small h.low;
+            whole = one_more h.so_far x l v all (a ∙ o.2) y;
+            lines = put-numbered line h.so_far i v h.many h.lines u;
           }
 
 -- ---- a node
@@ -201,23 +182,24 @@ head-same : (letters : ℕ → Letters) (a a' b b' c c' d d' : ℕ) → a ≡ a'
 head-same letters a a' b b' c c' d d' e f g h = rw (e, f, g, h)
 
 -- the head, the lines of equations, chains and faults are the node's listing
-pub node-put : (letters : ℕ → Letters) (gs vs : List ℕ) (n : Node) (end : ℕ) (k : Clocking) (t sites rows chain : List ℕ) (told : Told) (m equations : ℕ) {p p₁ p₂ p₃ p₄ : ℕ} {s s₁ s₂ s₃ s₄ : List ℕ}
-    → LaidNode told.names (tokens gs vs) n end told.layout → clocking n ≡ formed k → ToldClocks gs vs t sites told k → picked (row_of rows) chain 0 m ≡ chains letters (findings_in t told.findings)
-    → equations ≡ told.layout.equations.count → length s ≤ farthest
-    → Put (head_line letters told.layout.name equations told.passes m) p s p₁ s₁
-    → ((M : ℕ) (cs : List Clocked) (q : ℕ) → EquationsOn M gs vs sites cs told.layout.equations.at q → length cs ≡ told.layout.equations.count → Put (join (numbered (equation_line letters) 0 (map (λ (c : Clocked). c.clock) cs))) p₁ s₁ p₂ s₂)
-    → Put (join (map (chain_line letters) (picked (row_of rows) chain 0 m))) p₂ s₂ p₃ s₃
-    → Put (join (map (fault_line letters told.number) (clock_faults (findings_in t told.findings)))) p₃ s₃ p₄ s₄
-    → Put (node_listing letters told.number (record { node = n; clocking = k })) p s p₄ s₄
+pub node-put : (l : ListedNode) (o : OrderedClocks) (n : ClockedNode) {w w₁ w₂ w₃ w₄ : TextWriter} → Lists l n → AreChains l o
+    → Wrote (head_line (letters_in l.spelling) l.told.layout.name l.told.layout.equations.count l.told.passes o.count) w w₁
+    → ((M : ℕ) (cs : List Clocked) (q : ℕ) → EquationsOn M l.source.tags.now l.source.values.now l.sites.now cs l.told.layout.equations.at q → length cs ≡ l.told.layout.equations.count → Wrote (join (numbered (equation_line (letters_in l.spelling)) 0 (map (λ (c : Clocked). c.clock) cs))) w₁ w₂)
+    → Wrote (join (map (chain_line (letters_in l.spelling)) (ordered_clocks o))) w₂ w₃
+    → Wrote (join (map (fault_line (letters_in l.spelling) l.told.number) (clock_faults (findings_in l.table.now l.told.findings)))) w₃ w₄
+    → Wrote (listed l n) w w₄
 unfolding node_listing node_clocks
-node-put letters gs vs n end k t sites rows chain told m equations laid h tells e c room u v w x =
-    let ch : picked (row_of rows) chain 0 m ≡ chains letters k.findings = e ∙ ap (chains letters) tells.all in
-    let all : length k.equations ≡ told.layout.equations.count = node-many n k h ∙ sym laid.equations.many in
-    let many : equations ≡ length (map (λ (c : Clocked). c.clock) k.equations) = c ∙ (sym all ∙ sym (length-map k.equations (λ (c : Clocked). c.clock))) in
-    let few : m ≡ length (chains letters k.findings) = sym (picked-length (row_of rows) chain 0 m) ∙ ap length ch in
-    also room
-    (put-listing letters n.name k.passes (map (λ (c : Clocked). c.clock) k.equations) (chains letters k.findings) room
-    (put_as (head-same letters _ _ _ _ _ _ _ _ laid.named many (sym tells.made) few) u)
-    (v told.names k.equations told.layout.equations.end tells.on all)
-    (put_as (ap (λ (y : List Clock). join (map (chain_line letters) y)) ch) w))
-    λ _. put_as (ap (λ (y : List Finding). join (map (fault_line letters told.number) (clock_faults y))) tells.all) x
+node-put l o n h e u v x y =
+    let letters = letters_in l.spelling in
+    let told = l.told in
+    let k = n.clocking in
+    let ch : ordered_clocks o ≡ chains letters k.findings = e ∙ ap (chains letters) h.tells.all in
+    let all : length k.equations ≡ told.layout.equations.count = node-many n.node k h.formed ∙ sym h.laid.equations.many in
+    let many : told.layout.equations.count ≡ length (map (λ (c : Clocked). c.clock) k.equations) = sym all ∙ sym (length-map k.equations (λ (c : Clocked). c.clock)) in
+    let few : o.count ≡ length (chains letters k.findings) = sym (picked-length (row_of o.rows.now) o.order.now 0 o.count) ∙ ap length ch in
+    wrote_then
+    (put-listing letters n.node.name k.passes (map (λ (c : Clocked). c.clock) k.equations) (chains letters k.findings)
+    (wrote_as (head-same letters _ _ _ _ _ _ _ _ h.laid.named many (sym h.tells.made) few) u)
+    (v told.names k.equations told.layout.equations.end h.tells.on all)
+    (wrote_as (ap (λ (l : List Clock). join (map (chain_line letters) l)) ch) x))
+    (wrote_as (ap (λ (l : List Finding). join (map (fault_line letters told.number) (clock_faults l))) h.tells.all) y)

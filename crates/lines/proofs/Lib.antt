@@ -1,6 +1,5 @@
 -- Laws on the pieces of texts and listings, on their lengths, and on lending.
 -- What the proofs of several functions use, and those of other crates.
-pub mod Joining
 pub mod Clocks
 pub mod Pieces
 pub mod Listing

@@ -1,5 +1,5 @@
 -- A node's listing can be measured. Assumes nothing.
-use mathlib.Core.Path.{◌≡◌, refl, sym, ◌∙◌, ap}
+use mathlib.Core.Path.{◌≡◌, refl, sym, ap}
 use mathlib.Core.List.{List, [], ◌∷◌, ◌++◌, map}
 use mathlib.Core.Bool.{Bool, true, false}
 use Prim.Native.Nat.{ℕ, zero, suc, ◌+◌, ◌-◌, ◌*◌, ◌≤◌, ◌<◌, Ordering}
@@ -9,11 +9,11 @@ use lib.Dec.{eqb, ltb}
 use Rattle.definitions.specs.Lists.{choose, join, numbered, Letters}
 use Rattle.definitions.specs.Tokens.{TagValue}
 use Rattle.definitions.specs.Bytes.{tokens}
-use Rattle.definitions.specs.Tree.{Equation, Node}
+use Rattle.definitions.specs.Tree.{Equation}
 use Rattle.definitions.specs.Reading.{got, times}
 use Rattle.definitions.specs.Grammar.{equation}
 use Rattle.definitions.specs.Clock.{Clock, depth, is_base, chain_order, insert, in_chain_order}
-use Rattle.definitions.specs.InferClocks.{Clocked, Clocking, Finding, left_elsewhere, used_elsewhere, when_elsewhere, clock_name_elsewhere, found, site, too_deep, formed, clocking, chains, sites, clock_faults}
+use Rattle.definitions.specs.InferClocks.{Clocked, Finding, left_elsewhere, used_elsewhere, when_elsewhere, clock_name_elsewhere, found, site, too_deep, chains, sites, clock_faults}
 use Rattle.definitions.specs.Texts.{listing, fault_line}
 use Rattle.definitions.specs.Answer.{node_clocks, node_listing}
 use Rattle.grammar.proofs.Laws.{tokens-length}
@@ -21,23 +21,25 @@ use Rattle.grammar.proofs.Got.{times-cons}
 use Rattle.grammar.proofs.Longer.{times-keeps, keeps, equation-grows}
 use Rattle.clock_tables.specs.Flat.{test_of, clock_in}
 use Rattle.clock_tables.proofs.FlatLaws.{depth-in}
-use Rattle.layout.specs.Laid.{LaidNode}
 use Rattle.findings.specs.Findings.{fault_as, fault_in, findings_from, findings_in}
 use Rattle.findings.proofs.Laws.{length_from}
-use Rattle.spelling.specs.Places.{letters_at}
+use Rattle.spelling.specs.Places.{letters_in}
 use Rattle.chain_order.specs.Order.{row_of, picked}
 use Rattle.skeleton.specs.Sites.{EquationsOn}
 use Rattle.spelling.specs.Writing.{Put, farthest}
 use Rattle.spelling.proofs.Writing.{over-past}
-use Rattle.lines.specs.declared.Lending.{Lending}
+use Rattle.std.specs.Prelude.{Ok, Err}
+use Rattle.definitions.specs.declared.Refusal.{Refusal}
 use Rattle.lines.specs.Lending.{Gives}
 use Rattle.lines.proofs.Giving.{gives-written, gives-lent}
 use Rattle.lines.specs.Pieces.{head_line, equation_line, chain_line}
 use Rattle.lines.proofs.Pieces.{listing-pieces}
 use Rattle.lines.proofs.TextsLengths.{IsShallow, name-length, head-length, equation-length, chain_length, line-length, Within, join-length}
-use Rattle.lines.specs.declared.Told.{Told}
+use Rattle.lines.specs.declared.ListedNode.{ListedNode}
 use Rattle.lines.specs.Low.{Low}
-use Rattle.lines.specs.ToldClocks.{ToldClocks}
+use Rattle.lines.specs.Listed.{Lists, AreChains, IsSmall, listed}
+use Rattle.definitions.specs.Output.{ClockedNode}
+use Rattle.chain_order.specs.declared.OrderedClocks.{OrderedClocks}
 use Rattle.lines.proofs.Laws.{node-many}
 
 -- ---- how many
@@ -174,22 +176,30 @@ module _ (letters : ℕ → Letters) (short : (x : ℕ) → length (letters x) �
         length_from t 0 f,
       )
 
+-- clocks that were read out of rows are low
+low-read : (M : ℕ) (gs vs sites : List ℕ) (cs : List Clocked) (p q : ℕ) → EquationsOn M gs vs sites cs p q → Low (map (λ (c : Clocked). c.clock) cs)
+unfolding Low EquationsOn
+low-read M gs vs sites [] p q h = tt
+low-read M gs vs sites (c ∷ cs) p q h = (omega (arith, ap depth h.2, depth-in sites (17 * p)), low-read M gs vs sites cs h.0 q h.3)
+
 -- the listing of a node within a sheet's limits
-pub node-fits : (starts letters tags values : List ℕ) (n : Node) (end : ℕ) (k : Clocking) (t sites rows chain : List ℕ) (told : Told) (m : ℕ)
-    → length values ≡ length tags → LaidNode told.names (tokens tags values) n end told.layout → clocking n ≡ formed k → ToldClocks tags values t sites told k → picked (row_of rows) chain 0 m ≡ chains (letters_at starts letters) (findings_in t told.findings)
-    → ((M : ℕ) (cs : List Clocked) (q : ℕ) → EquationsOn M tags values sites cs told.layout.equations.at q → length cs ≡ told.layout.equations.count → Low (map (λ (c : Clocked). c.clock) cs))
-    → length letters ≤ 16384 → length tags ≤ 4096 → told.findings ≤ 4096 → length (node_listing (letters_at starts letters) told.number (record { node = n; clocking = k })) ≤ farthest
+pub node-fits : (l : ListedNode) (o : OrderedClocks) (n : ClockedNode) → Lists l n → AreChains l o → IsSmall l → length (listed l n) ≤ farthest
 unfolding node_listing node_clocks
-node-fits starts letters tags values n end k t sites rows chain told m same laid h tells e low x y z =
-    let short : (j : ℕ) → length (letters_at starts letters j) ≤ 16384 = λ j. omega (arith, name-length starts letters j, x) in
-    let all : length k.equations ≡ told.layout.equations.count = node-many n k h ∙ sym laid.equations.many in
-    let b : Low (map (λ (c : Clocked). c.clock) k.equations) = low told.names k.equations told.layout.equations.end tells.on all in
-    let c : Low (chains (letters_at starts letters) (findings_in t told.findings)) = rw e at (low-picked rows chain 0 m) in
+node-fits l o n h e small =
+    let letters = letters_in l.spelling in
+    let t = l.table.now in
+    let k = n.clocking in
+    let told = l.told in
+    let tags = l.source.tags.now in
+    let values = l.source.values.now in
+    let short : (j : ℕ) → length (letters j) ≤ 16384 = λ j. omega (arith, name-length l.spelling.starts.now l.spelling.letters.now j, small.letters) in
+    let b : Low (map (λ (c : Clocked). c.clock) k.equations) = low-read told.names tags values l.sites.now k.equations told.layout.equations.at told.layout.equations.end h.tells.on in
+    let c : Low (chains letters (findings_in t told.findings)) = rw e at (low-picked o.rows.now o.order.now 0 o.count) in
     let d : length (map (λ (c : Clocked). c.clock) k.equations) ≤ 4096 =
-    omega (arith, map-length (λ (c : Clocked). c.clock) k.equations, all, few-equations told.names (tokens tags values) told.layout.equations.count told.layout.equations.at n.equations told.layout.equations.end laid.equations.items, tokens-length tags values same, y) in
-    let g : length (chains (letters_at starts letters) (findings_in t told.findings)) ≤ 4096 = omega (arith, few-chains (letters_at starts letters) (findings_in t told.findings), length_from t 0 told.findings, z) in
-    let r = parts-fit (letters_at starts letters) short told.number n.name k.passes told.findings (map (λ (c : Clocked). c.clock) k.equations) (chains (letters_at starts letters) (findings_in t told.findings)) t b c d g z in
-    rw tells.all at r
+    omega (arith, map-length (λ (c : Clocked). c.clock) k.equations, node-many n.node k h.formed, h.laid.equations.many, few-equations told.names (tokens tags values) told.layout.equations.count told.layout.equations.at n.node.equations told.layout.equations.end h.laid.equations.items, tokens-length tags values l.source.same_length, small.tokens) in
+    let g : length (chains letters (findings_in t told.findings)) ≤ 4096 = omega (arith, few-chains letters (findings_in t told.findings), length_from t 0 told.findings, small.findings) in
+    let r = parts-fit letters short told.number n.node.name k.passes told.findings (map (λ (c : Clocked). c.clock) k.equations) (chains letters (findings_in t told.findings)) t b c d g small.findings in
+    rw h.tells.all at r
 
 pub few : (n : ℕ) → n ≤ 4096 → n < 4294967296
 few n h = omega arith
@@ -202,8 +212,8 @@ module _ (text : Letters) (lent : List ℕ) (n : ℕ) (h : n ≤ farthest) (e : 
   put-empty : Put text 0 [] n []
   put-empty = record { place = omega (arith, h, e); bytes = sym (over-past 0 text [] (omega arith)) }
 
-  pub measured-written : {q : ℕ} {part : List ℕ} → n ≤ length lent → Put text 0 (take n lent) q part → Gives text lent (Lending.Written n) (part ++ drop n lent)
+  pub measured-written : {q : ℕ} {part : List ℕ} → n ≤ length lent → Put text 0 (take n lent) q part → Gives text lent (Ok n) (part ++ drop n lent)
   measured-written k v = gives-written text lent n fits put-empty k v
 
-  pub measured-lent : length lent < n → Gives text lent (Lending.Lent n) lent
+  pub measured-lent : length lent < n → Gives text lent (Err (Refusal.Lent n)) lent
   measured-lent k = gives-lent text lent n fits put-empty k

@@ -14,9 +14,9 @@ use Rattle.definitions.specs.Clock.{Clock, base, ◌↓◌, conditions, depth}
 use Rattle.definitions.specs.InferClocks.{Fault, left_elsewhere, used_elsewhere, when_elsewhere, clock_name_elsewhere, undeclared, no_default, no_output_default, not_single_call, pre_untyped, fault_number, NodeFault}
 use Rattle.definitions.specs.Texts.{when_text, test_sign, separated, condition_text, clock_text, fault_text, clock_key, fault_line}
 use Rattle.clock_tables.proofs.ClockLaws.{value-depth}
-use Rattle.findings.specs.declared.FaultKind.{FaultKind}
-use Rattle.findings.specs.declared.Fault as struct
-use Rattle.findings.specs.Value.{fault_as, fault_of}
+use Rattle.findings.specs.declared.ClockFault.{ClockFault}
+use Rattle.findings.specs.declared.Fault as value
+use Rattle.findings.specs.Value.{clock_fault_of, fault_of}
 use Rattle.spelling.specs.Places.{between, letters_at}
 use Rattle.spelling.specs.Writing.{farthest}
 use Rattle.spelling.proofs.Decimal.{decimal-length}
@@ -130,19 +130,23 @@ unfolding Within
 join-length b [] h = omega arith
 join-length b (l ∷ ls) h = omega (arith, h.0, join-length b ls h.1, length-append l (join ls), suc-mul (length ls) b)
 
--- a struct's clocks have at most eight conditions
-pub shallow-as : (f : struct.Fault) (k : FaultKind) → IsShallow (fault_as k f)
+-- clocks by value have at most eight conditions
+shallow-clock : (f : ClockFault) → IsShallow (clock_fault_of f)
 unfolding IsShallow
-shallow-as f FaultKind.LeftElsewhere = (value-depth f.on, value-depth f.expected)
-shallow-as f FaultKind.UsedElsewhere = (value-depth f.on, value-depth f.expected)
-shallow-as f FaultKind.WhenElsewhere = value-depth f.expected
-shallow-as f FaultKind.ClockNameElsewhere = (value-depth f.on, value-depth f.expected)
-shallow-as f FaultKind.Undeclared = tt
-shallow-as f FaultKind.NoDefault = tt
-shallow-as f FaultKind.NoOutputDefault = tt
-shallow-as f FaultKind.NotSingleCall = tt
-shallow-as f FaultKind.PreUntyped = tt
+shallow-clock (ClockFault.LeftElsewhere x c d p) = (value-depth c, value-depth d)
+shallow-clock (ClockFault.UsedElsewhere x c d) = (value-depth c, value-depth d)
+shallow-clock (ClockFault.WhenElsewhere k d) = value-depth d
+shallow-clock (ClockFault.ClockNameElsewhere x c d) = (value-depth c, value-depth d)
+
+pub shallow-of : (f : value.Fault) → IsShallow (fault_of f)
+unfolding IsShallow
+shallow-of (value.Fault.Clock f) = shallow-clock f
+shallow-of (value.Fault.Undeclared x) = tt
+shallow-of (value.Fault.NoDefault x) = tt
+shallow-of (value.Fault.NoOutputDefault x f) = tt
+shallow-of value.Fault.NotSingleCall = tt
+shallow-of value.Fault.PreUntyped = tt
 
 -- a fault's text can be measured
-pub fault-fits : (starts letters : List ℕ) (f : struct.Fault) → length letters ≤ 65536 → length (fault_text (letters_at starts letters) (fault_of f)) ≤ farthest
-fault-fits starts letters f h = omega (arith, fault-length (letters_at starts letters) (length letters) (name-length starts letters) (fault_of f) (shallow-as f f.kind))
+pub fault-fits : (starts letters : List ℕ) (f : value.Fault) → length letters ≤ 65536 → length (fault_text (letters_at starts letters) (fault_of f)) ≤ farthest
+fault-fits starts letters f h = omega (arith, fault-length (letters_at starts letters) (length letters) (name-length starts letters) (fault_of f) (shallow-of f))

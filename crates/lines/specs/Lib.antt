@@ -1,6 +1,7 @@
 -- The pieces of texts and listings, and what lending bytes for a text gives.
--- Clocks that are low enough to be printed, and what clock inference left of a node.
+-- Clocks that are low enough to be printed, what clock inference left of a node, and a node that is listed.
 pub mod Pieces
 pub mod Lending
 pub mod Low
 pub mod ToldClocks
+pub mod Listed

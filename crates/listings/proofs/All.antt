@@ -7,6 +7,7 @@ use native.Mathlib.Omega.{arith}
 use lib.Dec.{leb}
 use lib.ListN.{length, take}
 use borrow.Author.Tests.{le-leb, lt-leb}
+use Rattle.std.proofs.Common.{Result, Ok, Err}
 use Rattle.definitions.specs.declared.Refusal.{Refusal}
 use Rattle.definitions.specs.Lists.{choose, join, numbered, over, Letters}
 use Rattle.definitions.specs.Tokens.{TagValue}
@@ -18,40 +19,26 @@ use Rattle.definitions.specs.InferClocks.{Formed, deep, formed, Clocking, clocki
 use Rattle.definitions.specs.Output.{letters_of, ClockedNode}
 use Rattle.definitions.specs.Answer.{Input, clockings, node_at, node_listing}
 use Rattle.grammar.proofs.Got.{times-nil, times-cons}
-use Rattle.parts.specs.declared.Written.{Written}
 use Rattle.parts.specs.Bytes.{written_answer, written_bytes}
 use Rattle.lines.specs.Lending.{lent_text}
 use Rattle.spelling.proofs.Writing.{over-front}
-use Rattle.query.specs.declared.ListingsPut.{ListingsPut}
 use Rattle.query.specs.Listed.{ListingsStand}
 use Rattle.query.specs.Words.{PutText}
 use Rattle.query.proofs.Nodes.{node-formed, node-deep}
-use Rattle.listings.specs.declared.ListingAnswer.{ListingAnswer}
 use Rattle.listings.specs.Answers.{nodes_listed, listing_of, listings_of, ListingGiven}
 use Rattle.listings.proofs.Given.{listing-same}
 
--- ---- a text is lent
-module _ (b lent lent' : List ℕ) (w : Written) (answer : w ≡ written_answer b lent) (filled : lent' ≡ written_bytes b lent) (m : ℕ) where
-  pub lent-whole : w ≡ Written.Done m → ListingGiven (lent_text b (length lent)) lent lent' (ListingAnswer.Written m)
-  unfolding written_answer written_bytes
-  lent-whole e = go (leb (length b) (length lent)) refl (sym e ∙ answer) filled
-    where
-      go : (t : Bool) → leb (length b) (length lent) ≡ t → Written.Done m ≡ choose t (Written.Done (length b)) (Written.Lent (length b)) → lent' ≡ choose t (over b lent) lent → ListingGiven (lent_text b (length lent)) lent lent' (ListingAnswer.Written m)
-      go true t f g = let k : m ≡ length b = cc in rw t (record { answer = ap ListingAnswer.Written k; bytes = g })
-      go false t f g = let z : ◌≡◌ {A = ℕ} 0 1 = cc in absurd (omega arith)
-
-  -- 12
-  pub lent-few : w ≡ Written.Lent m → ListingGiven (lent_text b (length lent)) lent lent' (ListingAnswer.Refused (Refusal.Lent m))
-  unfolding written_answer written_bytes
-  lent-few e = go (leb (length b) (length lent)) refl (sym e ∙ answer) filled
-    where
-      go : (t : Bool) → leb (length b) (length lent) ≡ t → Written.Lent m ≡ choose t (Written.Done (length b)) (Written.Lent (length b)) → lent' ≡ choose t (over b lent) lent
-          → ListingGiven (lent_text b (length lent)) lent lent' (ListingAnswer.Refused (Refusal.Lent m))
-      go true t f g = let z : ◌≡◌ {A = ℕ} 0 1 = cc in absurd (omega arith)
-      go false t f g = let k : m ≡ length b = cc in rw t (record { answer = ap (λ (i : ℕ). ListingAnswer.Refused (Refusal.Lent i)) k; bytes = g })
+-- ---- a text is lent, or 12
+pub lent-given : (b lent lent' : List ℕ) (w : Result ℕ Refusal) → w ≡ written_answer b lent → lent' ≡ written_bytes b lent → ListingGiven (lent_text b (length lent)) lent lent' w
+unfolding written_answer written_bytes
+lent-given b lent lent' w answer filled = go (leb (length b) (length lent)) refl answer filled
+  where
+    go : (t : Bool) → leb (length b) (length lent) ≡ t → w ≡ choose t (Ok (length b)) (Err (Refusal.Lent (length b))) → lent' ≡ choose t (over b lent) lent → ListingGiven (lent_text b (length lent)) lent lent' w
+    go true t f g = rw t (record { answer = f; bytes = g })
+    go false t f g = rw t (record { answer = f; bytes = g })
 
 -- ---- no node, and one alone
-pub listings-none : (i : Input) (lent : List ℕ) → i.sheet.nodes ≡ [] → ListingGiven (listings_of i (length lent)) lent lent (ListingAnswer.Written 0)
+pub listings-none : (i : Input) (lent : List ℕ) → i.sheet.nodes ≡ [] → ListingGiven (listings_of i (length lent)) lent lent (Ok 0)
 unfolding clockings
 listings-none i lent e = let g = le-leb 0 (length lent) (omega arith) in rw (e, g) (record { answer = refl; bytes = refl })
 
@@ -72,13 +59,13 @@ only-listing i lent n e = go (clocking n) refl
         rw (e, d, append-nil (node_listing (letters_of i.names) 0 (record { node = n; clocking = k })))
 
 pub only-listed : (i : Input) (M : ℕ) (ts : List TagValue) (count from q : ℕ) → times count (node M) ts from ≡ got i.sheet.nodes q → count ≡ 1
-    → (lent after : List ℕ) (r : ListingAnswer) → ListingGiven (listing_of i 0 (length lent)) lent after r → ListingGiven (listings_of i (length lent)) lent after r
+    → (lent after : List ℕ) (r : Result ℕ Refusal) → ListingGiven (listing_of i 0 (length lent)) lent after r → ListingGiven (listings_of i (length lent)) lent after r
 only-listed i M ts count from q g e lent after r h =
     let o = one-node M ts count from i.sheet.nodes q e g in
     listing-same (listings_of i (length lent)) (listing_of i 0 (length lent)) lent after r (only-listing i (length lent) o.0 o.1) h
 
 -- ---- several
-pub all_listed : (letters : ℕ → Letters) (i : Input) (lent after : List ℕ) (r : ListingAnswer) → letters ≡ letters_of i.names → ListingGiven (nodes_listed letters i.sheet.nodes (length lent)) lent after r → ListingGiven (listings_of i (length lent)) lent after r
+pub all_listed : (letters : ℕ → Letters) (i : Input) (lent after : List ℕ) (r : Result ℕ Refusal) → letters ≡ letters_of i.names → ListingGiven (nodes_listed letters i.sheet.nodes (length lent)) lent after r → ListingGiven (listings_of i (length lent)) lent after r
 all_listed letters i lent after r e h = listing-same (listings_of i (length lent)) (nodes_listed letters i.sheet.nodes (length lent)) lent after r (ap (λ (f : ℕ → Letters). nodes_listed f i.sheet.nodes (length lent)) (sym e)) h
 
 -- the front of bytes that a text was written over
@@ -87,24 +74,22 @@ take-over [] s h = refl
 take-over (a ∷ t) [] h = absurd (omega arith)
 take-over (a ∷ t) (b ∷ s) h = ap (λ (r : List ℕ). a ∷ r) (take-over t s (omega arith))
 
-module _ (letters : ℕ → Letters) (ns : List Node) (aside aside' lent : List ℕ) (v : ListingsPut) (h : ListingsStand letters ns aside aside' v) where
+module _ (letters : ℕ → Letters) (ns : List Node) (aside aside' lent : List ℕ) where
   -- 9
-  pub aside-deep : (k : ℕ) → v ≡ ListingsPut.Deep k → ListingGiven (nodes_listed letters ns (length lent)) lent lent (ListingAnswer.Refused (Refusal.Deep k))
+  pub aside-deep : (r : Refusal) → ListingsStand letters ns aside aside' (Err r) → ListingGiven (nodes_listed letters ns (length lent)) lent lent (Err r)
   unfolding ListingsStand
-  aside-deep k e =
-      let x : clockings 0 ns ≡ refused (Refusal.Deep k) = (let y : ListingsStand letters ns aside aside' (ListingsPut.Deep k) = rw e at h in y) in
-      rw x (record { answer = refl; bytes = refl })
+  aside-deep r h = rw h (record { answer = refl; bytes = refl })
 
-  module _ (m : ℕ) (e : v ≡ ListingsPut.Size m) where
+  module _ (m : ℕ) (h : ListingsStand letters ns aside aside' (Ok m)) where
     put_all : (l : List ClockedNode) × (clockings 0 ns ≡ accepted l) × PutText (join (numbered (node_listing letters) 0 l)) 0 aside m aside'
     unfolding ListingsStand
-    put_all = let y : ListingsStand letters ns aside aside' (ListingsPut.Size m) = rw e at h in y
+    put_all = h
 
-    as-listed : (after : List ℕ) (a : ListingAnswer) → ListingGiven (lent_text (join (numbered (node_listing letters) 0 put_all.0)) (length lent)) lent after a → ListingGiven (nodes_listed letters ns (length lent)) lent after a
+    as-listed : (after : List ℕ) (a : Result ℕ Refusal) → ListingGiven (lent_text (join (numbered (node_listing letters) 0 put_all.0)) (length lent)) lent after a → ListingGiven (nodes_listed letters ns (length lent)) lent after a
     as-listed after a g = rw put_all.1 g
 
     -- put aside, where they have room
-    pub aside-lent : m ≤ length aside → (after : List ℕ) (a : ListingAnswer) → ListingGiven (lent_text (take m aside') (length lent)) lent after a → ListingGiven (nodes_listed letters ns (length lent)) lent after a
+    pub aside-lent : m ≤ length aside → (after : List ℕ) (a : Result ℕ Refusal) → ListingGiven (lent_text (take m aside') (length lent)) lent after a → ListingGiven (nodes_listed letters ns (length lent)) lent after a
     aside-lent room after a g =
         let p = put_all.2 in
         let text = join (numbered (node_listing letters) 0 put_all.0) in
@@ -112,23 +97,26 @@ module _ (letters : ℕ → Letters) (ns : List Node) (aside aside' lent : List 
         as-listed after a (subst (λ (t : List ℕ). ListingGiven (lent_text t (length lent)) lent after a) w g)
 
     -- 12
-    pub aside-few : length lent < m → ListingGiven (nodes_listed letters ns (length lent)) lent lent (ListingAnswer.Refused (Refusal.Lent m))
+    pub aside-few : length lent < m → ListingGiven (nodes_listed letters ns (length lent)) lent lent (Err (Refusal.Lent m))
     aside-few few =
         let p = put_all.2 in
         let text = join (numbered (node_listing letters) 0 put_all.0) in
         let g = lt-leb (length text) (length lent) (omega (arith, few, p.long)) in
-        as-listed lent (ListingAnswer.Refused (Refusal.Lent m)) (rw g (record { answer = ap (λ (x : ℕ). ListingAnswer.Refused (Refusal.Lent x)) p.long; bytes = refl }))
+        as-listed lent (Err (Refusal.Lent m)) (rw g (record { answer = ap (λ (x : ℕ). Err (Refusal.Lent x)) p.long; bytes = refl }))
 
     -- put again, over the lent bytes
-    pub put-again : (again : ListingsPut) (after : List ℕ) → m ≤ length lent → ListingsStand letters ns lent after again → ListingGiven (nodes_listed letters ns (length lent)) lent after (ListingAnswer.Written m)
+    pub never-again : (r : Refusal) (after : List ℕ) → ListingsStand letters ns lent after (Err r) → ⊥
     unfolding ListingsStand
-    put-again (ListingsPut.Deep k) after enough s =
-        let x : accepted put_all.0 ≡ refused (Refusal.Deep k) = sym put_all.1 ∙ s in
-        let z : ◌≡◌ {A = ℕ} 0 1 = cc in absurd (omega arith)
-    put-again (ListingsPut.Size q) after enough s =
+    never-again r after s =
+        let x : accepted put_all.0 ≡ refused r = sym put_all.1 ∙ s in
+        let z : ◌≡◌ {A = ℕ} 0 1 = cc in omega arith
+
+    pub put-again : (q : ℕ) (after : List ℕ) → m ≤ length lent → ListingsStand letters ns lent after (Ok q) → ListingGiven (nodes_listed letters ns (length lent)) lent after (Ok m)
+    unfolding ListingsStand
+    put-again q after enough s =
         let x : accepted s.0 ≡ accepted put_all.0 = sym s.1 ∙ put_all.1 in
         let y : s.0 ≡ put_all.0 = cc in
         let text = join (numbered (node_listing letters) 0 put_all.0) in
         let p : PutText text 0 lent q after = rw y at s.2 in
         let g = le-leb (length text) (length lent) (omega (arith, enough, put_all.2.long)) in
-        as-listed after (ListingAnswer.Written m) (rw g (record { answer = ap ListingAnswer.Written put_all.2.long; bytes = p.bytes ∙ over-front text lent }))
+        as-listed after (Ok m) (rw g (record { answer = ap Ok put_all.2.long; bytes = p.bytes ∙ over-front text lent }))

@@ -4,20 +4,17 @@ use mathlib.Core.List.{List}
 use Prim.Native.Nat.{ℕ, ◌<◌}
 use native.Mathlib.Omega.{arith}
 use lib.ListN.{length}
+use Rattle.std.proofs.Common.{Result, Ok, Err}
 use Rattle.definitions.specs.declared.Refusal.{Refusal}
 use Rattle.definitions.specs.Lists.{Letters}
-use Rattle.definitions.specs.Refusals.{Answer, accepted, refused, faulty, Told, down, told, ◌>>=◌}
+use Rattle.definitions.specs.Refusals.{Answer, accepted, refused, faulty, down, told, ◌>>=◌}
 use Rattle.definitions.specs.Output.{letters_of, ClockedNode}
 use Rattle.definitions.specs.Answer.{Input, input, NodeClocks, node_at, node_clocks, node_listing, clocks_answer, listing_answer, listings_answer}
 use Rattle.lines.specs.declared.Told as listing
-use Rattle.lines.specs.declared.Lending.{Lending}
 use Rattle.lines.specs.Lending.{lent_text, Gives}
-use Rattle.query.specs.declared.NodeAnswer.{NodeAnswer}
 use Rattle.query.specs.declared.NodeCounts.{NodeCounts}
 use Rattle.query.specs.Standing.{NodeWithClocks, NodeTold}
 use Rattle.query.specs.Words.{Written}
-use Rattle.listings.specs.declared.ClocksAnswer.{ClocksAnswer}
-use Rattle.listings.specs.declared.ListingAnswer.{ListingAnswer}
 use Rattle.listings.specs.Answers.{clocks_of, listing_of, listings_of, listing_answered, ClocksInWords, ListingGiven}
 
 -- ---- refusals 1 to 7
@@ -28,26 +25,26 @@ module _ {A : Type 0} (f : Input → Answer A) where
   turned (refused r) t h = h
   turned (faulty l) t h = h
 
-clocks-down : (k : ℕ) (v : Answer NodeClocks) (es cs fs : List ℕ) (t : Refusal) → told v ≡ down t → ClocksInWords k v es cs fs es cs fs (ClocksAnswer.Refused t)
+clocks-down : (k : ℕ) (v : Answer NodeClocks) (es cs fs : List ℕ) (t : Refusal) → told v ≡ down t → ClocksInWords k v es cs fs es cs fs (Err t)
 clocks-down k (accepted q) es cs fs t h = let z : ◌≡◌ {A = ℕ} 0 1 = cc in absurd (omega arith)
-clocks-down k (refused r) es cs fs t h = let e : t ≡ r = cc in record { answer = ap ClocksAnswer.Refused e; equations = refl; chains = refl; faults = refl }
-clocks-down k (faulty l) es cs fs t h = let e : t ≡ Refusal.Faulty (length l) = cc in record { answer = ap ClocksAnswer.Refused e; equations = refl; chains = refl; faults = refl }
+clocks-down k (refused r) es cs fs t h = let e : t ≡ r = cc in record { answer = ap Err e; equations = refl; chains = refl; faults = refl }
+clocks-down k (faulty l) es cs fs t h = let e : t ≡ Refusal.Faulty (length l) = cc in record { answer = ap Err e; equations = refl; chains = refl; faults = refl }
 
-listing-down : (v : Answer Letters) (lent : List ℕ) (t : Refusal) → told v ≡ down t → ListingGiven v lent lent (ListingAnswer.Refused t)
+listing-down : (v : Answer Letters) (lent : List ℕ) (t : Refusal) → told v ≡ down t → ListingGiven v lent lent (Err t)
 listing-down (accepted q) lent t h = let z : ◌≡◌ {A = ℕ} 0 1 = cc in absurd (omega arith)
-listing-down (refused r) lent t h = let e : t ≡ r = cc in record { answer = ap ListingAnswer.Refused e; bytes = refl }
-listing-down (faulty l) lent t h = let e : t ≡ Refusal.Faulty (length l) = cc in record { answer = ap ListingAnswer.Refused e; bytes = refl }
+listing-down (refused r) lent t h = let e : t ≡ r = cc in record { answer = ap Err e; bytes = refl }
+listing-down (faulty l) lent t h = let e : t ≡ Refusal.Faulty (length l) = cc in record { answer = ap Err e; bytes = refl }
 
 module _ (b : List ℕ) (t : Refusal) (h : told (input b) ≡ down t) where
-  pub clocks-refused : (k : ℕ) (es cs fs : List ℕ) → ClocksInWords k (clocks_answer b k) es cs fs es cs fs (ClocksAnswer.Refused t)
+  pub clocks-refused : (k : ℕ) (es cs fs : List ℕ) → ClocksInWords k (clocks_answer b k) es cs fs es cs fs (Err t)
   unfolding clocks_answer
   clocks-refused k es cs fs = clocks-down k (input b >>= λ r. clocks_of r k) es cs fs t (turned (λ r. clocks_of r k) (input b) t h)
 
-  pub listing-refused : (k : ℕ) (lent : List ℕ) → ListingGiven (listing_answer b k (length lent)) lent lent (ListingAnswer.Refused t)
+  pub listing-refused : (k : ℕ) (lent : List ℕ) → ListingGiven (listing_answer b k (length lent)) lent lent (Err t)
   unfolding listing_answer
   listing-refused k lent = listing-down (input b >>= λ r. listing_of r k (length lent)) lent t (turned (λ r. listing_of r k (length lent)) (input b) t h)
 
-  pub listings-refused : (lent : List ℕ) → ListingGiven (listings_answer b (length lent)) lent lent (ListingAnswer.Refused t)
+  pub listings-refused : (lent : List ℕ) → ListingGiven (listings_answer b (length lent)) lent lent (Err t)
   unfolding listings_answer
   listings-refused lent = listing-down (input b >>= λ r. listings_of r (length lent)) lent t (turned (λ r. listings_of r (length lent)) (input b) t h)
 
@@ -65,47 +62,38 @@ module _ (b : List ℕ) (i : Input) (h : input b ≡ accepted i) where
   unfolding listings_answer
   listings-read lent = rw h
 
-pub listing-same : (v w : Answer Letters) (lent after : List ℕ) (r : ListingAnswer) → v ≡ w → ListingGiven w lent after r → ListingGiven v lent after r
+pub listing-same : (v w : Answer Letters) (lent after : List ℕ) (r : Result ℕ Refusal) → v ≡ w → ListingGiven w lent after r → ListingGiven v lent after r
 listing-same v w lent after r e g = rw e g
 
 -- ---- refusals 8 and 9
-module _ (M : ℕ) (gs vs t sites : List ℕ) (i : Input) (k : ℕ) (a : NodeAnswer) (h : NodeTold M gs vs t sites k a (node_at i k)) where
-  node-down : (r : Refusal) → a ≡ NodeAnswer.Refused r → node_at i k ≡ refused r
+module _ (M : ℕ) (gs vs t sites : List ℕ) (i : Input) (k : ℕ) where
+  pub clocks-turned : (r : Refusal) (es cs fs : List ℕ) → NodeTold M gs vs t sites k (Err r) (node_at i k) → ClocksInWords k (clocks_of i k) es cs fs es cs fs (Err r)
   unfolding NodeTold
-  node-down r e = let x : NodeTold M gs vs t sites k (NodeAnswer.Refused r) (node_at i k) = rw e at h in x
+  clocks-turned r es cs fs h = rw h (record { answer = refl; equations = refl; chains = refl; faults = refl })
 
-  pub clocks-turned : (r : Refusal) (es cs fs : List ℕ) → a ≡ NodeAnswer.Refused r → ClocksInWords k (clocks_of i k) es cs fs es cs fs (ClocksAnswer.Refused r)
-  clocks-turned r es cs fs e = rw (node-down r e) (record { answer = refl; equations = refl; chains = refl; faults = refl })
-
-  pub listing-turned : (r : Refusal) (lent : List ℕ) → a ≡ NodeAnswer.Refused r → ListingGiven (listing_of i k (length lent)) lent lent (ListingAnswer.Refused r)
-  listing-turned r lent e = rw (node-down r e) (record { answer = refl; bytes = refl })
+  pub listing-turned : (r : Refusal) (lent : List ℕ) → NodeTold M gs vs t sites k (Err r) (node_at i k) → ListingGiven (listing_of i k (length lent)) lent lent (Err r)
+  unfolding NodeTold
+  listing-turned r lent h = rw h (record { answer = refl; bytes = refl })
 
   -- node k
-  module _ (told : listing.Told) (e : a ≡ NodeAnswer.Node told) where
-    pub node-there : (n : ClockedNode) × (node_at i k ≡ accepted n) × NodeWithClocks M gs vs t sites k told n × (k < 16)
-    unfolding NodeTold
-    node-there = let x : NodeTold M gs vs t sites k (NodeAnswer.Node told) (node_at i k) = rw e at h in x
+  pub node-there : (told : listing.Told) → NodeTold M gs vs t sites k (Ok told) (node_at i k) → (n : ClockedNode) × (node_at i k ≡ accepted n) × NodeWithClocks M gs vs t sites k told n × (k < 16)
+  unfolding NodeTold
+  node-there told h = h
 
 -- the clocks of node k
 pub clocks-given : (letters : ℕ → Letters) (i : Input) (k number : ℕ) (n : ClockedNode) (es cs fs es' cs' fs' : List ℕ) (r : NodeCounts) → letters ≡ letters_of i.names → number ≡ k → node_at i k ≡ accepted n
-    → Written number (node_clocks letters n) es cs fs es' cs' fs' r → ClocksInWords k (clocks_of i k) es cs fs es' cs' fs' (ClocksAnswer.Clocks r)
+    → Written number (node_clocks letters n) es cs fs es' cs' fs' r → ClocksInWords k (clocks_of i k) es cs fs es' cs' fs' (Ok r)
 clocks-given letters i k number n es cs fs es' cs' fs' r e f h w =
     let x : Written k (node_clocks (letters_of i.names) n) es cs fs es' cs' fs' r = rw (e, f) at w in
-    rw h (record { answer = ap ClocksAnswer.Clocks x.counts; equations = x.equations; chains = x.chains; faults = x.faults })
+    rw h (record { answer = ap Ok x.counts; equations = x.equations; chains = x.chains; faults = x.faults })
 
 -- ---- refusal 12
-pub given-written : (text : Letters) (lent after : List ℕ) (n : ℕ) (r : Lending) → r ≡ Lending.Written n → Gives text lent r after → ListingGiven (lent_text text (length lent)) lent after (ListingAnswer.Written n)
-given-written text lent after n r e g =
-    let x : Gives text lent (Lending.Written n) after = rw e at g in
-    record { answer = ap ListingAnswer.Written x.size ∙ ap (λ (v : Answer (Unit {0})). listing_answered (v >>= λ _. accepted text)) x.answer; bytes = x.bytes }
-
-pub given-lent : (text : Letters) (lent after : List ℕ) (n : ℕ) (r : Lending) → r ≡ Lending.Lent n → Gives text lent r after → ListingGiven (lent_text text (length lent)) lent after (ListingAnswer.Refused (Refusal.Lent n))
-given-lent text lent after n r e g =
-    let x : Gives text lent (Lending.Lent n) after = rw e at g in
-    record { answer = ap (λ (v : Answer (Unit {0})). listing_answered (v >>= λ _. accepted text)) x.answer; bytes = x.bytes }
+pub given : (text : Letters) (lent after : List ℕ) (r : Result ℕ Refusal) → Gives text lent r after → ListingGiven (lent_text text (length lent)) lent after r
+given text lent after (Ok n) g = record { answer = ap Ok g.size ∙ ap (λ (v : Answer (Unit {0})). listing_answered (v >>= λ _. accepted text)) g.answer; bytes = g.bytes }
+given text lent after (Err e) g = record { answer = ap (λ (v : Answer (Unit {0})). listing_answered (v >>= λ _. accepted text)) g.answer; bytes = g.bytes }
 
 -- the listing of node k
-pub listing-given : (letters : ℕ → Letters) (i : Input) (k number : ℕ) (n : ClockedNode) (lent after : List ℕ) (r : ListingAnswer) → letters ≡ letters_of i.names → number ≡ k → node_at i k ≡ accepted n
+pub listing-given : (letters : ℕ → Letters) (i : Input) (k number : ℕ) (n : ClockedNode) (lent after : List ℕ) (r : Result ℕ Refusal) → letters ≡ letters_of i.names → number ≡ k → node_at i k ≡ accepted n
     → ListingGiven (lent_text (node_listing letters number n) (length lent)) lent after r → ListingGiven (listing_of i k (length lent)) lent after r
 listing-given letters i k number n lent after r e f h w =
     let x : ListingGiven (lent_text (node_listing (letters_of i.names) k n) (length lent)) lent after r = rw (e, f) at w in

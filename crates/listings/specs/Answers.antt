@@ -1,5 +1,6 @@
 -- What the entry points answer, and what the lent lists and bytes are afterwards, by the definitions' answers.
-use Rattle.std.specs.Prelude.{ℕ, ◌≡◌, List, length}
+use Rattle.std.specs.Prelude.{ℕ, ◌≡◌, List, length, Result, Ok, Err}
+use Rattle.query.specs.declared.NodeCounts.{NodeCounts}
 use Rattle.definitions.specs.declared.Refusal.{Refusal}
 use Rattle.definitions.specs.Lists.{join, numbered, Letters}
 use Rattle.definitions.specs.Tree.{Node}
@@ -8,8 +9,6 @@ use Rattle.definitions.specs.Output.{letters_of}
 use Rattle.definitions.specs.Answer.{Input, NodeClocks, clockings, node_at, node_clocks, node_listing}
 use Rattle.lines.specs.Lending.{lent_text}
 use Rattle.query.specs.Words.{clocks_over, faults_over, counts_of}
-use Rattle.listings.specs.declared.ClocksAnswer.{ClocksAnswer}
-use Rattle.listings.specs.declared.ListingAnswer.{ListingAnswer}
 
 -- the questions of a sheet that was read: `clocks_answer`, `listing_answer` and `listings_answer` behind refusals 1 to 7
 abbrev pub clocks_of : Input → ℕ → Answer NodeClocks
@@ -26,10 +25,10 @@ abbrev pub listings_of : Input → ℕ → Answer Letters
 listings_of r lent = nodes_listed (letters_of r.names) r.sheet.nodes lent
 
 -- the clock query's answer: a node's name, passes and counts, or the refusal
-abbrev pub clocks_answered : Answer NodeClocks → ClocksAnswer
-clocks_answered (accepted q) = ClocksAnswer.Clocks (counts_of q)
-clocks_answered (refused r) = ClocksAnswer.Refused r
-clocks_answered (faulty l) = ClocksAnswer.Refused (Refusal.Faulty (length l))
+abbrev pub clocks_answered : Answer NodeClocks → Result NodeCounts Refusal
+clocks_answered (accepted q) = Ok (counts_of q)
+clocks_answered (refused r) = Err r
+clocks_answered (faulty l) = Err (Refusal.Faulty (length l))
 
 -- the list of equations' clocks afterwards: each equation's clock, as far as the list reaches; unchanged where refused
 abbrev pub equations_after : Answer NodeClocks → List ℕ → List ℕ
@@ -50,19 +49,19 @@ clock_fault_words_after k (refused r) lent = lent
 clock_fault_words_after k (faulty l) lent = lent
 
 -- the clock query of node k: the answer, and the three lent lists afterwards
-pub record ClocksInWords (k : ℕ) (v : Answer NodeClocks) (es cs fs es' cs' fs' : List ℕ) (r : ClocksAnswer) : Type 0 where
+pub record ClocksInWords (k : ℕ) (v : Answer NodeClocks) (es cs fs es' cs' fs' : List ℕ) (r : Result NodeCounts Refusal) : Type 0 where
   pub answer : r ≡ clocks_answered v
   pub equations : es' ≡ equations_after v es
   pub chains : cs' ≡ chains_after v cs
   pub faults : fs' ≡ clock_fault_words_after k v fs
 
 -- a listing's answer: how many bytes were written, or the refusal
-abbrev pub listing_answered : Answer Letters → ListingAnswer
-listing_answered (accepted text) = ListingAnswer.Written (length text)
-listing_answered (refused r) = ListingAnswer.Refused r
-listing_answered (faulty l) = ListingAnswer.Refused (Refusal.Faulty (length l))
+abbrev pub listing_answered : Answer Letters → Result ℕ Refusal
+listing_answered (accepted text) = Ok (length text)
+listing_answered (refused r) = Err r
+listing_answered (faulty l) = Err (Refusal.Faulty (length l))
 
 -- a listing was asked for: the answer, and the lent bytes afterwards
-pub record ListingGiven (v : Answer Letters) (lent after : List ℕ) (r : ListingAnswer) : Type 0 where
+pub record ListingGiven (v : Answer Letters) (lent after : List ℕ) (r : Result ℕ Refusal) : Type 0 where
   pub answer : r ≡ listing_answered v
   pub bytes : after ≡ bytes_after v lent

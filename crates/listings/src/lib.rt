@@ -1,219 +1,181 @@
-// The clocks and the listings of a sheet's nodes, which stands in the working tables: `starts` says where the letters of each name start in
-// `letters`, `names` how many there are; `tags` and `values` are the sheet's tokens, as long as each other. The tables are lent from
-// above: `env` for the clocks of names, `table` for what is found in equations, `rows` and `chain` for chains and their order, `sites` for
-// the clocks of equations.
+// The clocks and the listings of a sheet's nodes, over the working tables: `spelling` has the letters of the sheet's names, `source` its
+// tokens.
 #![tactic(auto)]
 
-ghost use Rattle.std.specs.Prelude.{◌≡◌, List, ℕ, ◌≤◌, length};
-ghost use Rattle.definitions.specs.Bytes.{tokens};
+ghost use Rattle.std.specs.Prelude.{◌≡◌, List, ℕ, ◌≤◌, ◌<◌, ◌*◌, length};
+ghost use Rattle.grammar.specs.Read.{tokens_of};
 ghost use Rattle.definitions.specs.Tree.{Node};
 ghost use Rattle.definitions.specs.Reading.{got, times};
 ghost use Rattle.definitions.specs.Grammar.{node};
 ghost use Rattle.definitions.specs.Output.{ClockedNode};
-ghost use Rattle.definitions.specs.Answer.{Input, node_listing};
-ghost use Rattle.spelling.specs.Places.{letters_at};
-ghost use Rattle.lines.specs.Lending.{lent_text};
-ghost use Rattle.query.specs.Standing.{Standing, Roomy, Ample, NodeWithClocks};
+ghost use Rattle.definitions.specs.Answer.{Input, node_clocks, node_listing};
+ghost use Rattle.spelling.specs.Places.{letters_in};
+ghost use Rattle.lines.specs.Lending.{lent_text, Gives};
+ghost use Rattle.workspace.specs.Room.{SameRoom, Ample, RoomToList};
+ghost use Rattle.query.specs.Standing.{Standing, NodeWithClocks};
+ghost use Rattle.query.specs.Words.{Written};
 ghost use Rattle.listings.specs.Answers.{clocks_of, listing_of, nodes_listed, listings_of, ClocksInWords, ListingGiven};
 
 use definitions::Refusal;
-use lines::{Lending, Told};
-use parts::Written;
-use query::{ListingsPut, NodeAnswer, NodeCounts};
+use grammar::Source;
+use lines::{ListedNode, Told};
+use query::NodeCounts;
+use spelling::Spelling;
+use workspace::Working;
 
 // Enough bytes for the listings of usual sheets.
 const ASIDE: usize = 65536;
 
-// A node's name, passes and counts, or turned down.
-#[derive(Clone, Copy)]
-pub enum ClocksAnswer {
-    Clocks(NodeCounts),
-    Refused(Refusal),
-}
-
-// The number of bytes written, or turned down.
-#[derive(Clone, Copy)]
-pub enum ListingAnswer {
-    Written(usize),
-    Refused(Refusal),
-}
-
-// The clocks of node k.
-pub fn clocks_in(
-    starts: &[u32],
-    letters: &[u8],
-    tags: &[u8],
-    values: &[u32],
-    names: u32,
-    k: usize,
-    env: &mut [u32],
+// The clocks and faults of a node that was clocked in these tables, over three lent lists.
+// Stays (proof): of a table that is lent from behind `Working` into a struct, no length is known when it comes back; here and below.
+fn write_clocked(
+    spelling: Spelling<'_>,
+    source: &Source<'_>,
+    told: Told,
     table: &mut [u32],
     rows: &mut [u32],
     chain: &mut [u32],
+    sites: &mut [u32],
     equations: &mut [u32],
     chains: &mut [u32],
     faults: &mut [u32],
-    sites: &mut [u32],
-) -> ClocksAnswer
-    requires { length values.now ≡ length tags.now }
-    ensures { (i : Input) → Standing starts.now letters.now tags.now values.now names i → Roomy names (length tags.now) env.old table.old sites.old → Ample table.old rows.old chain.old → ClocksInWords k (clocks_of i k) equations.old chains.old faults.old equations.new chains.new faults.new result }
+) -> NodeCounts
+    ensures { (n : ClockedNode) → NodeWithClocks told.names source.now.tags.now source.now.values.now table.old sites.old told.number told n → Ample table.old rows.old chain.old → told.number < 16 → Written told.number (node_clocks (letters_in spelling.entry) n) equations.old chains.old faults.old equations.new chains.new faults.new result }
 {
-    let found = query::clock_at(tags, values, names, k, env, table, sites);
-    match found {
-        NodeAnswer::Refused(r) => ClocksAnswer::Refused(r),
-        NodeAnswer::Node(told) => ClocksAnswer::Clocks(query::write_clocks(
-            starts, letters, tags, values, sites, table, told, rows, chain, equations, chains,
-            faults,
-        )),
-    }
+    let node = ListedNode {
+        spelling,
+        source: *source,
+        told,
+        table,
+        sites,
+    };
+    query::write_clocks(&node, rows, chain, equations, chains, faults)
 }
 
-// The listing of a node that is clocked over the front of the lent bytes, if these are enough.
-fn listing_told(
+// The listing of a node that was clocked in these tables, over the front of the lent bytes.
+fn put_clocked(
     out: &mut [u8],
-    starts: &[u32],
-    letters: &[u8],
-    tags: &[u8],
-    values: &[u32],
-    sites: &[u32],
-    table: &[u32],
+    spelling: Spelling<'_>,
+    source: &Source<'_>,
     told: Told,
+    table: &mut [u32],
     rows: &mut [u32],
     chain: &mut [u32],
-) -> ListingAnswer
-    requires { length values.now ≡ length tags.now }
-    ensures { (n : ClockedNode) → NodeWithClocks told.names tags.now values.now table.now sites.now told.number told n → Ample table.now rows.old chain.old → length letters.now ≤ 16384 → length tags.now ≤ 4096 → ListingGiven (lent_text (node_listing (letters_at starts.now letters.now) told.number n) (length out.old)) out.old out.new result }
+    sites: &mut [u32],
+) -> Result<usize, Refusal>
+    ensures { (n : ClockedNode) → NodeWithClocks told.names source.now.tags.now source.now.values.now table.old sites.old told.number told n → 17 * told.findings ≤ length rows.old → told.findings ≤ length chain.old → length spelling.entry.letters.now ≤ 16384 → length source.now.tags.now ≤ 4096 → told.findings ≤ 4096 → Gives (node_listing (letters_in spelling.entry) told.number n) out.old result out.new }
 {
-    let lent = lines::node_into(
-        out, starts, letters, tags, values, sites, table, told, rows, chain,
-    );
-    match lent {
-        Lending::Written(n) => ListingAnswer::Written(n),
-        Lending::Lent(n) => ListingAnswer::Refused(Refusal::Lent(n)),
-    }
+    let node = ListedNode {
+        spelling,
+        source: *source,
+        told,
+        table,
+        sites,
+    };
+    node.put_into(out, rows, chain)
+}
+
+// The clocks of node k: its name, passes and counts.
+pub fn clocks_in(
+    spelling: Spelling<'_>,
+    source: &Source<'_>,
+    k: usize,
+    working: &mut Working<'_>,
+    equations: &mut [u32],
+    chains: &mut [u32],
+    faults: &mut [u32],
+) -> Result<NodeCounts, Refusal>
+    ensures same_room { SameRoom working.old working.new }
+    ensures given { (i : Input) → Standing spelling.entry.starts.now spelling.entry.letters.now source.now.tags.now source.now.values.now source.now.names i → RoomToList source.now.names (length source.now.tags.now) working.old → ClocksInWords k (clocks_of i k) equations.old chains.old faults.old equations.new chains.new faults.new result }
+{
+    let told = query::clock_at(source, k, working)?;
+    Ok(write_clocked(
+        spelling,
+        source,
+        told,
+        working.table,
+        working.rows,
+        working.chain,
+        working.sites,
+        equations,
+        chains,
+        faults,
+    ))
 }
 
 // The listing of node k, over the front of the lent bytes.
 pub fn listing_in(
     out: &mut [u8],
-    starts: &[u32],
-    letters: &[u8],
-    tags: &[u8],
-    values: &[u32],
-    names: u32,
+    spelling: Spelling<'_>,
+    source: &Source<'_>,
     k: usize,
-    env: &mut [u32],
-    table: &mut [u32],
-    rows: &mut [u32],
-    chain: &mut [u32],
-    sites: &mut [u32],
-) -> ListingAnswer
-    requires { length values.now ≡ length tags.now }
-    ensures { (i : Input) → Standing starts.now letters.now tags.now values.now names i → Roomy names (length tags.now) env.old table.old sites.old → Ample table.old rows.old chain.old → ListingGiven (listing_of i k (length out.old)) out.old out.new result }
+    working: &mut Working<'_>,
+) -> Result<usize, Refusal>
+    ensures same_room { SameRoom working.old working.new }
+    ensures given { (i : Input) → Standing spelling.entry.starts.now spelling.entry.letters.now source.now.tags.now source.now.values.now source.now.names i → RoomToList source.now.names (length source.now.tags.now) working.old → ListingGiven (listing_of i k (length out.old)) out.old out.new result }
 {
-    let found = query::clock_at(tags, values, names, k, env, table, sites);
-    match found {
-        NodeAnswer::Refused(r) => ListingAnswer::Refused(r),
-        NodeAnswer::Node(told) => {
-            listing_told(
-                out, starts, letters, tags, values, sites, table, told, rows, chain,
-            )
-        }
-    }
+    let told = query::clock_at(source, k, working)?;
+    put_clocked(
+        out,
+        spelling,
+        source,
+        told,
+        working.table,
+        working.rows,
+        working.chain,
+        working.sites,
+    )
 }
 
 // A text over the front of the lent bytes, if these are enough.
-pub fn lend(text: &[u8], out: &mut [u8]) -> ListingAnswer
+pub fn lend(text: &[u8], out: &mut [u8]) -> Result<usize, Refusal>
     ensures { ListingGiven (lent_text text.now (length out.old)) out.old out.new result }
 {
-    let w = parts::write_bytes(text, out);
-    match w {
-        Written::Done(n) => ListingAnswer::Written(n),
-        Written::Lent(n) => ListingAnswer::Refused(Refusal::Lent(n)),
-    }
+    parts::write_bytes(text, out)
 }
 
-// The listings of n nodes, of which the first stands at `from`, over the front of the lent bytes, if these are enough. They are put aside first,
-// which measures them, so that each node is clocked once; longer ones are put again.
+// The listings of n nodes, of which the first stands at `from`, over the front of the lent bytes, if these are enough. They are put aside
+// first, which measures them, so that each node is clocked once; longer ones are put again.
 fn listings_lent(
     out: &mut [u8],
-    starts: &[u32],
-    letters: &[u8],
-    tags: &[u8],
-    values: &[u32],
-    names: u32,
+    spelling: Spelling<'_>,
+    source: &Source<'_>,
     n: u32,
     from: usize,
-    env: &mut [u32],
-    table: &mut [u32],
-    rows: &mut [u32],
-    chain: &mut [u32],
-    sites: &mut [u32],
-) -> ListingAnswer
-    requires { length values.now ≡ length tags.now }
-    ensures { (ns : List Node) (q : ℕ) → times n (node names) (tokens tags.now values.now) from ≡ got ns q → Roomy names (length tags.now) env.old table.old sites.old → Ample table.old rows.old chain.old → length letters.now ≤ 16384 → length tags.now ≤ 4096 → ListingGiven (nodes_listed (letters_at starts.now letters.now) ns (length out.old)) out.old out.new result }
+    working: &mut Working<'_>,
+) -> Result<usize, Refusal>
+    ensures same_room { SameRoom working.old working.new }
+    ensures given { (ns : List Node) (q : ℕ) → times n (node source.now.names) (tokens_of source.now) from ≡ got ns q → RoomToList source.now.names (length source.now.tags.now) working.old → length spelling.entry.letters.now ≤ 16384 → length source.now.tags.now ≤ 4096 → ListingGiven (nodes_listed (letters_in spelling.entry) ns (length out.old)) out.old out.new result }
 {
     let mut aside = [0u8; ASIDE];
-    let put = query::put_listings(
-        &mut aside, starts, letters, tags, values, names, n, from, env, table, rows, chain, sites,
-    );
-    match put {
-        ListingsPut::Deep(i) => ListingAnswer::Refused(Refusal::Deep(i)),
-        ListingsPut::Size(m) => {
-            if m <= ASIDE {
-                return lend(&aside[..m], out);
-            }
-            if out.len() < m {
-                return ListingAnswer::Refused(Refusal::Lent(m));
-            }
-            query::put_listings(
-                out, starts, letters, tags, values, names, n, from, env, table, rows, chain, sites,
-            );
-            ListingAnswer::Written(m)
-        }
+    let m = query::put_listings(&mut aside, spelling, source, n, from, working)?;
+    if m <= ASIDE {
+        return lend(&aside[..m], out);
     }
+    if out.len() < m {
+        return Err(Refusal::Lent(m));
+    }
+    query::put_listings(out, spelling, source, n, from, working)?;
+    Ok(m)
 }
 
 // The listings of all nodes, in order, over the front of the lent bytes.
 pub fn listings_in(
     out: &mut [u8],
-    starts: &[u32],
-    letters: &[u8],
-    tags: &[u8],
-    values: &[u32],
-    names: u32,
-    env: &mut [u32],
-    table: &mut [u32],
-    rows: &mut [u32],
-    chain: &mut [u32],
-    sites: &mut [u32],
-) -> ListingAnswer
-    requires { length values.now ≡ length tags.now }
-    ensures { (i : Input) → Standing starts.now letters.now tags.now values.now names i → Roomy names (length tags.now) env.old table.old sites.old → Ample table.old rows.old chain.old → ListingGiven (listings_of i (length out.old)) out.old out.new result }
+    spelling: Spelling<'_>,
+    source: &Source<'_>,
+    working: &mut Working<'_>,
+) -> Result<usize, Refusal>
+    ensures same_room { SameRoom working.old working.new }
+    ensures given { (i : Input) → Standing spelling.entry.starts.now spelling.entry.letters.now source.now.tags.now source.now.values.now source.now.names i → RoomToList source.now.names (length source.now.tags.now) working.old → ListingGiven (listings_of i (length out.old)) out.old out.new result }
 {
-    let whole = layout::sheet_at(tags, values, names);
+    let whole = layout::sheet_at(source);
     let nodes = whole.nodes;
     if nodes.count == 0 {
-        return ListingAnswer::Written(0);
+        return Ok(0);
     }
     if nodes.count == 1 {
-        return listing_in(
-            out, starts, letters, tags, values, names, 0, env, table, rows, chain, sites,
-        );
+        return listing_in(out, spelling, source, 0, working);
     }
-    listings_lent(
-        out,
-        starts,
-        letters,
-        tags,
-        values,
-        names,
-        nodes.count,
-        nodes.at,
-        env,
-        table,
-        rows,
-        chain,
-        sites,
-    )
+    listings_lent(out, spelling, source, nodes.count, nodes.at, working)
 }

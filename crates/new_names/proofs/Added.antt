@@ -1,14 +1,15 @@
 -- New names added one after another, and their numbers and ids in tables.
-use Prim.Native.Nat.{ℕ, zero, suc, ◌+◌, ◌-◌, ◌*◌, ◌≤◌, ◌<◌}
+use Prim.Native.Nat.{ℕ, zero, suc, ◌+◌, ◌-◌, ◌*◌, ◌≤◌, ◌<◌, min}
+use lib.Dec.{leb}
 use mathlib.Core.Path.{◌≡◌, refl, sym, ap, ◌∙◌, subst⁻¹}
 use mathlib.Core.Bool.{Bool, true, false, ◌||◌}
-use mathlib.Core.List.{List, [], ◌∷◌, ◌++◌, map}
+use mathlib.Core.List.{List, [], ◌∷◌, ◌++◌, map, map-append, map-map}
 use native.Mathlib.Nat.{zero-add}
 use native.Mathlib.Numerals.{add-one}
 use native.Mathlib.Omega.{arith}
-use lib.ListN.{length, get_or, take, drop, set}
+use lib.ListN.{length, get_or, take, drop, set, length-map}
 use lib.Seq.{get_or-take, length-take-le}
-use borrow.Author.Tests.{lt-leb}
+use borrow.Author.Tests.{leb-true, leb-false}
 use Rattle.definitions.specs.Lists.{choose, any, place_by, up_from, over, Letters, decimal, bytes}
 use Rattle.definitions.specs.Tree.{Declared, Node}
 use Rattle.definitions.specs.Clock.{Clock, same_clock, in_chain_order}
@@ -16,11 +17,11 @@ use Rattle.definitions.specs.Declock.{Stem, ck, first, hold, clock_place, declar
 use Rattle.definitions.specs.Output.{stem_letters, id_of, add_name, add_names, letters_of, new_letters, new_id}
 use Rattle.spelling.specs.Writing.{over_at}
 use Rattle.spelling.proofs.Writing.{over_nothing, over-front, over-past, over-set, over-then, over-take, length_over}
-use Rattle.spelling.specs.declared.Counts.{Counts}
-use Rattle.spelling.specs.Table.{names_of, within, Sound, NamesHeld}
+use Rattle.spelling.specs.declared.name_table.NameTable.{NameTable}
+use Rattle.spelling.specs.Table.{names_of, NamesHeld}
 use Rattle.spelling.specs.Free.{new_number, new_numbers, taken_of}
 use Rattle.spelling.proofs.Free.{new-letters}
-use Rattle.spelling.proofs.Table.{id-most, add-last-name}
+use Rattle.spelling.proofs.Table.{id-most, names-count, add-last-name}
 use Rattle.spelling.proofs.Places.{cut-length}
 use Rattle.clock_tables.specs.Rows.{clocks_in, RowsHold}
 use Rattle.clock_tables.proofs.RowsLaws.{has_all, has-count}
@@ -29,8 +30,10 @@ use Rattle.chain_order.specs.Order.{row_of, picked, FirstBelow}
 use Rattle.stateless.specs.Need.{Needs}
 use Rattle.stateless.specs.Locals.{ids_in, Agree}
 use Rattle.stateless.specs.Rewritten.{new_names, names_by}
+use Rattle.new_names.specs.declared.NodeNeeds.{NodeNeeds}
+use Rattle.new_names.specs.declared.NodeNames.{NodeNames}
+use Rattle.new_names.specs.Filled.{Filled}
 use Rattle.new_names.specs.Names.{name_of, numbered_name, ordered_names, counted_names, ids_of, Numbered, ChainOrdered}
-use Rattle.new_names.proofs.Ids.{map-append, map-length}
 
 -- ---- numbers in order
 up-add : (k m n : ℕ) → up_from k (m + n) ≡ up_from k m ++ up_from (k + m) n
@@ -62,7 +65,7 @@ up_same f g k (suc n) h = rw (h k (omega arith) (omega arith)) (ap (λ (l : List
 -- ---- words of a table, one by one
 module _ (f : ℕ → ℕ) (out₀ : List ℕ) where
   filled-length : (j : ℕ) → 0 + length (map f (up_from 0 j)) ≡ j
-  filled-length j = omega (arith, map-length f (up_from 0 j), up-length 0 j)
+  filled-length j = omega (arith, length-map (up_from 0 j) f, up-length 0 j)
 
   pub filled_none : out₀ ≡ over_at 0 (map f (up_from 0 0)) out₀
   filled_none = sym (over_nothing 0 out₀)
@@ -74,14 +77,11 @@ module _ (f : ℕ → ℕ) (out₀ : List ℕ) where
       ∙ (over-then 0 (map f (up_from 0 j)) (x ∷ []) out₀
       ∙ ap (λ (l : List ℕ). over_at 0 l out₀) (ap (λ (y : ℕ). map f (up_from 0 j) ++ (y ∷ [])) e ∙ sym (up-last f j)))))
 
-  pub filled-end : (j n : ℕ) (out : List ℕ) → j ≤ n → n ≤ j → out ≡ over_at 0 (map f (up_from 0 j)) out₀ → out ≡ over_at 0 (map f (up_from 0 n)) out₀
-  filled-end j n out a b h = let e : j ≡ n = omega arith in h ∙ ap (λ (i : ℕ). over_at 0 (map f (up_from 0 i)) out₀) e
-
   pub filled-same : (j : ℕ) {out : List ℕ} → out ≡ over_at 0 (map f (up_from 0 j)) out₀ → length out ≡ length out₀
   filled-same j h = ap length h ∙ length_over 0 (map f (up_from 0 j)) out₀
 
   -- a table that is too short has no more words
-  pub filled-short : (j n : ℕ) (out : List ℕ) → j ≤ n → length out ≤ j → out ≡ over_at 0 (map f (up_from 0 j)) out₀ → out ≡ over_at 0 (map f (up_from 0 n)) out₀
+  filled-short : (j n : ℕ) (out : List ℕ) → j ≤ n → length out ≤ j → out ≡ over_at 0 (map f (up_from 0 j)) out₀ → out ≡ over_at 0 (map f (up_from 0 n)) out₀
   filled-short j n out a b h =
       let e : j + (n - j) ≡ n = omega arith in
       let z : 0 + j ≡ j = omega arith in
@@ -90,6 +90,14 @@ module _ (f : ℕ → ℕ) (out₀ : List ℕ) where
       sym (over-past j (map f (up_from j (n - j))) out b) ∙ (ap (λ (l : List ℕ). over_at j (map f (up_from j (n - j))) l) h
       ∙ (ap (λ (i : ℕ). over_at i (map f (up_from j (n - j))) (over_at 0 (map f (up_from 0 j)) out₀)) (sym (filled-length j))
       ∙ (over-then 0 (map f (up_from 0 j)) (map f (up_from j (n - j))) out₀ ∙ ap (λ (l : List ℕ). over_at 0 l out₀) (sym g))))
+
+  -- so many words as there is room for
+  pub filled-min : (j n : ℕ) (out : List ℕ) → j ≡ min n (length out₀) → out ≡ over_at 0 (map f (up_from 0 j)) out₀ → out ≡ over_at 0 (map f (up_from 0 n)) out₀
+  filled-min j n out e h = go (leb n (length out₀)) refl
+    where
+      go : (t : Bool) → leb n (length out₀) ≡ t → out ≡ over_at 0 (map f (up_from 0 n)) out₀
+      go true t = let m : j ≡ n = omega (arith, e, leb-true n (length out₀) t) in rw m at h
+      go false t = filled-short j n out (omega (arith, e)) (omega (arith, e, filled-same j h, leb-false n (length out₀) t)) h
 
   -- a word of a table that is long enough
   pub filled_at : (n : ℕ) (out : List ℕ) → n ≤ length out₀ → out ≡ over_at 0 (map f (up_from 0 n)) out₀ → (j : ℕ) → j < n → get_or out j 0 ≡ f j
@@ -118,48 +126,22 @@ module _ (names : List Letters) (node : Node) (stem : Stem) where
 pub front-filled : (names : List Letters) (node : Node) (stem : Stem) (letters : ℕ → Letters) (ids : List ℕ) (n count : ℕ) (out part : List ℕ) → letters ≡ letters_of names → take n ids ≡ map name_of (declared node) → count ≤ length out
     → part ≡ new_numbers (map letters (take n ids)) stem (length (take count out)) → part ++ drop count out ≡ over_at 0 (new_numbers (taken_of names node) stem count) out
 front-filled names node stem letters ids n count out part e f room g =
-    let a : map letters (take n ids) ≡ taken_of names node = ap (map letters) f ∙ (map-map (declared node) ∙ ap (λ (l : ℕ → Letters). map (λ (d : Declared). l d.name) (declared node)) e) in
+    let a : map letters (take n ids) ≡ taken_of names node = ap (map letters) f ∙ (map-map letters name_of (declared node) ∙ ap (λ (l : ℕ → Letters). map (λ (d : Declared). l d.name) (declared node)) e) in
     let b : part ≡ new_numbers (taken_of names node) stem count = g ∙ (ap (λ (l : List Letters). new_numbers l stem (length (take count out))) a ∙ ap (new_numbers (taken_of names node) stem) (length-take-le count out room)) in
-    let c : length (new_numbers (taken_of names node) stem count) ≡ count = map-length (new_number (taken_of names node) stem) (up_from 0 count) ∙ up-length 0 count in
+    let c : length (new_numbers (taken_of names node) stem count) ≡ count = length-map (up_from 0 count) (new_number (taken_of names node) stem) ∙ up-length 0 count in
     ap (λ (l : List ℕ). l ++ drop count out) b ∙ (ap (λ (k : ℕ). new_numbers (taken_of names node) stem count ++ drop k out) (sym c) ∙ sym (over-front (new_numbers (taken_of names node) stem count) out ∙ over-split (new_numbers (taken_of names node) stem count) out (omega arith)))
-  where
-    map-map : (ds : List Declared) → map letters (map name_of ds) ≡ map (λ (d : Declared). letters d.name) ds
-    map-map [] = refl
-    map-map (d ∷ ds) = ap (λ (l : List Letters). letters d.name ∷ l) (map-map ds)
-
--- ---- a table that is sound holds some names
-crowd-long : (lens letters : List ℕ) → within lens letters (map (λ (i : ℕ). []) (up_from 0 (suc (length lens)))) ≡ false
-crowd-long lens letters =
-    let f : ℕ → Letters = λ i. [] in
-    let l : length (map f (up_from 0 (suc (length lens)))) ≡ suc (length lens) = map-length f (up_from 0 (suc (length lens))) ∙ up-length 0 (suc (length lens)) in
-    rw (l, lt-leb (suc (length lens)) (length lens) (omega arith))
-
-pub sound-holds : {lens letters : List ℕ} {c : Counts} → Sound lens letters c → (all : List Letters) × NamesHeld lens letters c all
-sound-holds {lens} {letters} {c} s = go c.full refl
-  where
-    go : (t : Bool) → c.full ≡ t → (all : List Letters) × NamesHeld lens letters c all
-    go false e = (names_of lens letters c, record { sound = s; kept = λ z. refl; past = λ z. absurd (let y : ◌≡◌ {A = ℕ} 0 1 = cc in omega arith) })
-    go true e = (map (λ (i : ℕ). []) (up_from 0 (suc (length lens))), record { sound = s; kept = λ z. absurd (let y : ◌≡◌ {A = ℕ} 0 1 = cc in omega arith); past = λ z. crowd-long lens letters })
-
--- what adds a name keeps the table sound
-pub still-sound : {lens letters lens₁ letters₁ : List ℕ} {c c₁ : Counts} (f : List Letters → List Letters) → Sound lens letters c
-    → ((all : List Letters) → NamesHeld lens letters c all → NamesHeld lens₁ letters₁ c₁ (f all)) → Sound lens₁ letters₁ c₁
-still-sound f s h = let a = sound-holds s in (h a.0 a.1).sound
 
 -- ---- names added one by one
 pub add-append : (all a b : List Letters) → add_names all (a ++ b) ≡ add_names (add_names all a) b
 add-append all [] b = refl
 add-append all (n ∷ a) b = add-append (add_name all n) a b
 
-module _ (f : ℕ → Letters) {lens letters : List ℕ} {c : Counts} (all : List Letters) where
-  pub adding-more : (i : ℕ) (x : Letters) → x ≡ f i → NamesHeld lens letters c (add_name (add_names all (map f (up_from 0 i))) x) → NamesHeld lens letters c (add_names all (map f (up_from 0 (i + 1))))
+module _ (f : ℕ → Letters) {t : NameTable 1024 16384} (all : List Letters) where
+  pub adding-more : (i : ℕ) (x : Letters) → x ≡ f i → NamesHeld t (add_name (add_names all (map f (up_from 0 i))) x) → NamesHeld t (add_names all (map f (up_from 0 (i + 1))))
   adding-more i x e h =
       let g : add_names all (map f (up_from 0 (i + 1))) ≡ add_name (add_names all (map f (up_from 0 i))) x =
       ap (add_names all) (up-last f i) ∙ (add-last-name all (map f (up_from 0 i)) (f i) ∙ ap (add_name (add_names all (map f (up_from 0 i)))) (sym e)) in
       rw g h
-
-  pub adding-end : (i n : ℕ) → i ≤ n → n ≤ i → NamesHeld lens letters c (add_names all (map f (up_from 0 i))) → NamesHeld lens letters c (add_names all (map f (up_from 0 n)))
-  adding-end i n a b h = let e : i ≡ n = omega arith in rw e at h
 
 -- ---- the names of new locals
 picked-map : {A : Type 0} (g : Clock → A) (f : ℕ → Clock) (o : List ℕ) (i n : ℕ) → map g (picked f o i n) ≡ map (λ (j : ℕ). g (f (get_or o j 0))) (up_from i n)
@@ -186,31 +168,36 @@ module _ (names : List Letters) (node : Node) (stem : Stem) where
   counted-names {numbers} {n} h = up_same (numbered_name stem numbers) (new_letters names node stem) 0 n (λ i u v. sym (numbers-letters names node stem h i (omega arith)))
 
 -- the lists one after another
-module _ (names : List Letters) (node : Node) (w : Needs) {flag_rows first_rows flag_order first_order flag_numbers first_numbers hold_numbers : List ℕ} {k m n : ℕ}
-    (a : ChainOrdered (letters_of names) flag_rows flag_order k w.flags) (b : ChainOrdered (letters_of names) first_rows first_order m w.firsts)
-    (x : Numbered names node ck flag_numbers (length w.flags)) (y : Numbered names node first first_numbers (length w.firsts)) (z : Numbered names node hold hold_numbers w.holds) (g : n ≡ w.holds) where
-  all-names : (all : List Letters) → add_names (add_names (add_names all (ordered_names ck flag_numbers flag_order k)) (ordered_names first first_numbers first_order m)) (counted_names hold hold_numbers n)
-      ≡ add_names all (new_names names node w)
+module _ (names : List Letters) (node : Node) (w : Needs) {needs : NodeNeeds} {t : NodeNames} (f : Filled names node w needs t) where
+  -- those of flags, of first-tick flags and of holds
+  abbrev pub with_flags : List Letters → List Letters
+  with_flags all = add_names all (ordered_names ck t.flags.numbers t.flags.order t.flags.ordered)
+
+  abbrev pub with_firsts : List Letters → List Letters
+  with_firsts all = add_names (with_flags all) (ordered_names first t.firsts.numbers t.firsts.order t.firsts.ordered)
+
+  abbrev pub with_all : List Letters → List Letters
+  with_all all = add_names (with_firsts all) (counted_names hold t.hold_numbers t.holds)
+
+  all-names : (all : List Letters) → with_all all ≡ add_names all (new_names names node w)
   unfolding new_names
   all-names all =
-      let A = ordered_names ck flag_numbers flag_order k in
-      let B = ordered_names first first_numbers first_order m in
-      let C = counted_names hold hold_numbers n in
-      sym (add-append (add_names all A) B C) ∙ (sym (add-append all A (B ++ C)) ∙ rw (ordered-names names node ck a x, ordered-names names node first b y, g, counted-names names node hold z))
+      let A = ordered_names ck t.flags.numbers t.flags.order t.flags.ordered in
+      let B = ordered_names first t.firsts.numbers t.firsts.order t.firsts.ordered in
+      let C = counted_names hold t.hold_numbers t.holds in
+      sym (add-append (add_names all A) B C) ∙ (sym (add-append all A (B ++ C)) ∙ rw (ordered-names names node ck f.flags.order f.flags.numbers, ordered-names names node first f.firsts.order f.firsts.numbers, f.held, counted-names names node hold f.hold-numbers))
 
   -- the table of the output's names, `condact` being needed, or not
-  module _ {lens text : List ℕ} {c : Counts} (all : List Letters) (condact : Bool) (q : condact ≡ w.condact) where
-    pub locals-added : condact ≡ false → NamesHeld lens text c (add_names (add_names (add_names all (ordered_names ck flag_numbers flag_order k)) (ordered_names first first_numbers first_order m)) (counted_names hold hold_numbers n))
-        → NamesHeld lens text c (names_by names all node w)
+  module _ {o : NameTable 1024 16384} (all : List Letters) where
+    pub locals-added : t.condact ≡ false → NamesHeld o (with_all all) → NamesHeld o (names_by names all node w)
     locals-added e h =
         let more = add_names all (new_names names node w) in
-        subst⁻¹ (λ (t : Bool). NamesHeld lens text c (choose t (add_name more (bytes "condact")) more)) (sym q ∙ e) (rw (all-names all) at h)
+        subst⁻¹ (λ (t : Bool). NamesHeld o (choose t (add_name more (bytes "condact")) more)) (sym f.gated ∙ e) (rw (all-names all) at h)
 
-    pub condact-added : condact ≡ true → NamesHeld lens text c (add_name (add_names (add_names (add_names all (ordered_names ck flag_numbers flag_order k)) (ordered_names first first_numbers first_order m)) (counted_names hold hold_numbers n)) (bytes "condact"))
-        → NamesHeld lens text c (names_by names all node w)
+    pub condact-added : t.condact ≡ true → NamesHeld o (add_name (with_all all) (bytes "condact")) → NamesHeld o (names_by names all node w)
     condact-added e h =
         let more = add_names all (new_names names node w) in
-        subst⁻¹ (λ (t : Bool). NamesHeld lens text c (choose t (add_name more (bytes "condact")) more)) (sym q ∙ e) (rw (all-names all) at h)
+        subst⁻¹ (λ (t : Bool). NamesHeld o (choose t (add_name more (bytes "condact")) more)) (sym f.gated ∙ e) (rw (all-names all) at h)
 
 -- ---- rows in chain order
 -- rows that `sort_rows` put in order, of a table that holds all clocks, each once
@@ -225,18 +212,16 @@ rows-ordered letters rows order n k clocks room h d l s b =
 
 -- ---- ids
 -- the ids of a node's new names in a table that is filled from one that holds the names
-module _ (names all : List Letters) (node : Node) {lens text : List ℕ} {c : Counts} (h : NamesHeld lens text c all) (e : c.full ≡ false) where
-  pub ids-filled : (stem : Stem) (numbers : List ℕ) (n : ℕ) (out ids : List ℕ) → Numbered names node stem numbers n → n ≤ length out → ids ≡ over_at 0 (ids_of (names_of lens text c) stem numbers n) out
+module _ (names all : List Letters) (node : Node) {t : NameTable 1024 16384} (h : NamesHeld t all) (e : t.full ≡ false) where
+  pub ids-filled : (stem : Stem) (numbers : List ℕ) (n : ℕ) (out ids : List ℕ) → Numbered names node stem numbers n → n ≤ length out → ids ≡ over_at 0 (ids_of (names_of t) stem numbers n) out
       → (j : ℕ) → j < n → get_or ids j 0 ≡ new_id names all node stem j
   ids-filled stem numbers n out ids k room f j u =
-      filled_at (λ i. id_of (names_of lens text c) (numbered_name stem numbers i)) out n ids room f j u
+      filled_at (λ i. id_of (names_of t) (numbered_name stem numbers i)) out n ids room f j u
       ∙ (ap (λ (l : List Letters). id_of l (numbered_name stem numbers j)) (sym (h.kept e)) ∙ ap (id_of all) (sym (numbers-letters names node stem k j u)))
 
 -- an id fits a word where there are few names
-pub id-fits : {lens text : List ℕ} {c : Counts} → Sound lens text c → (name : Letters) {r : ℕ} → length lens < 4294967296 → r ≡ id_of (names_of lens text c) name → r < 4294967296
-unfolding names_of
-id-fits {lens} {text} {c} s name h e =
-    omega (arith, id-most (names_of lens text c) name, cut-length (take c.names lens) (take c.letters text), length-take-le c.names lens s.few, s.few)
+pub id-fits : {many long : ℕ} (t : NameTable many long) → many < 4294967296 → (name : Letters) {r : ℕ} → r ≡ id_of (names_of t) name → r < 4294967296
+id-fits t few name e = omega (arith, id-most (names_of t) name, names-count t, t.few, few, e)
 
 -- a clock among others has a place there
 place-there : (c : Clock) (cs : List Clock) → any (same_clock c) cs ≡ true → clock_place c cs < length cs

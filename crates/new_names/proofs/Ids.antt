@@ -1,16 +1,17 @@
 -- The ids that a node declares, put one by one.
-use Prim.Native.Nat.{ℕ, suc, ◌+◌, ◌-◌, ◌≤◌, ◌<◌}
-use mathlib.Core.Path.{◌≡◌, refl, sym, ap, ◌∙◌}
-use mathlib.Core.List.{List, [], ◌∷◌, ◌++◌, map, append_assoc, append-nil}
+use Rattle.definitions.specs.declared.Refusal.{Refusal}
+use Rattle.std.specs.Prelude.{Result, Ok, Err}
+use Prim.Native.Nat.{ℕ, ◌+◌, ◌-◌, ◌≤◌, ◌<◌}
+use mathlib.Core.Path.{◌≡◌, refl, sym, ap, ◌∙◌, subst}
+use mathlib.Core.List.{List, [], ◌∷◌, ◌++◌, map, map-append, append_assoc, append-nil}
 use native.Mathlib.Omega.{arith}
-use lib.ListN.{length, get_or, take, set, length-append}
+use lib.ListN.{length, get_or, take, set, length-append, length-map}
 use Rattle.definitions.specs.Bytes.{tokens}
 use Rattle.definitions.specs.Tokens.{TagValue}
 use Rattle.definitions.specs.Tree.{Declared, Node}
 use Rattle.definitions.specs.Reading.{got, times}
 use Rattle.definitions.specs.Grammar.{name, count, declaration, declarations, node}
 use Rattle.definitions.specs.Declock.{declared}
-use Rattle.grammar.specs.declared.Read.{Read}
 use Rattle.grammar.specs.Outcome.{outcome}
 use Rattle.grammar.proofs.Laws.{tokens-length, times-length}
 use Rattle.grammar.proofs.Parts.{counted-within}
@@ -19,14 +20,6 @@ use Rattle.grammar.proofs.Got.{same, tagged-value, times-nil, times-cons, declar
 use Rattle.spelling.specs.Writing.{over_at}
 use Rattle.spelling.proofs.Writing.{over_nothing, over-set, over-then, over-take}
 use Rattle.new_names.specs.Names.{name_of}
-
-pub map-append : {A B : Type 0} (f : A → B) (a b : List A) → map f (a ++ b) ≡ map f a ++ map f b
-map-append f [] b = refl
-map-append f (x ∷ a) b = ap (λ l. f x ∷ l) (map-append f a b)
-
-pub map-length : {A B : Type 0} (f : A → B) (l : List A) → length (map f l) ≡ length l
-map-length f [] = refl
-map-length f (a ∷ l) = ap suc (map-length f l)
 
 -- so many declarations are left; the names of those before stand from place k on
 pub record Putting (M : ℕ) (ts : List TagValue) (out₀ out : List ℕ) (k i left place : ℕ) (l : List Declared) (q : ℕ) : Type 0 where
@@ -37,8 +30,8 @@ pub record Putting (M : ℕ) (ts : List TagValue) (out₀ out : List ℕ) (k i l
   pub reached : i ≡ k + length so_far
   pub put : out ≡ over_at k (map name_of so_far) out₀
 
-pub putting-start : (M : ℕ) (ts : List TagValue) (out : List ℕ) (k n at : ℕ) (l : List Declared) (q : ℕ) → times n (declaration M) ts at ≡ got l q → Putting M ts out out k k n at l q
-putting-start M ts out k n at l q g = record { so_far = []; rest = l; items = g; whole = refl; reached = omega arith; put = sym (over_nothing k out) }
+pub putting-start : (M : ℕ) (ts : List TagValue) (out : List ℕ) (k n left at : ℕ) → left ≡ n → (l : List Declared) (q : ℕ) → times n (declaration M) ts at ≡ got l q → Putting M ts out out k k left at l q
+putting-start M ts out k n left at e l q g = record { so_far = []; rest = l; items = rw e g; whole = refl; reached = omega arith; put = sym (over_nothing k out) }
 
 module _ (M : ℕ) (ts : List TagValue) (out₀ out : List ℕ) (k i left place : ℕ) (l : List Declared) (q : ℕ) (h : Putting M ts out₀ out k i left place l q) where
   pub putting-end : left ≡ 0 → (i ≡ k + length l) × (out ≡ over_at k (map name_of l) out₀)
@@ -53,10 +46,10 @@ module _ (M : ℕ) (ts : List TagValue) (out₀ out : List ℕ) (k i left place 
       let c = times-cons (declaration M) ts left place h.rest q (λ y. omega (arith, y)) h.items in
       omega (arith, h.reached, length-append h.so_far h.rest, ap length h.whole, ap length c.5)
 
-  pub putting-none : (r : Read) (x : _) → 0 < left → r ≡ outcome (declaration M ts place) → r ≡ Read.Refused x → ⊥
+  pub putting-none : (r : Result ℕ Refusal) (x : _) → 0 < left → r ≡ outcome (declaration M ts place) → r ≡ Err x → ⊥
   putting-none r x z e b =
       let c = times-cons (declaration M) ts left place h.rest q (λ y. omega (arith, y)) h.items in
-      let f : Read.Next c.1 ≡ Read.Refused x = sym (e ∙ ap outcome c.3) ∙ b in
+      let f : Ok c.1 ≡ Err x = sym (e ∙ ap outcome c.3) ∙ b in
       let y : ◌≡◌ {A = ℕ} 0 1 = cc in omega arith
 
 -- the name of the declaration that stands there
@@ -69,14 +62,14 @@ declared-name M gs vs same_length p d q g =
     let v = tagged-value gs vs same_length p 4 M k.0 k.1 b k.3 in
     sym v.0 ∙ sym (ap name_of k.5)
 
-pub putting-step : (M : ℕ) (gs vs : List ℕ) → length vs ≡ length gs → (out₀ out : List ℕ) (k i left place next : ℕ) (l : List Declared) (q : ℕ) (r : Read) (x : ℕ) → 0 < left
-    → x ≡ get_or vs place 0 → r ≡ outcome (declaration M (tokens gs vs) place) → r ≡ Read.Next next
+putting-step : (M : ℕ) (gs vs : List ℕ) → length vs ≡ length gs → (out₀ out : List ℕ) (k i left place next : ℕ) (l : List Declared) (q : ℕ) (r : Result ℕ Refusal) (x : ℕ) → 0 < left
+    → x ≡ get_or vs place 0 → r ≡ outcome (declaration M (tokens gs vs) place) → r ≡ Ok next
     → Putting M (tokens gs vs) out₀ out k i left place l q → Putting M (tokens gs vs) out₀ (set out i x) k (i + 1) (left - 1) next l q
 putting-step M gs vs same_length out₀ out k i left place next l q r x z j e b h =
     let c = times-cons (declaration M) (tokens gs vs) left place h.rest q (λ y. omega (arith, y)) h.items in
     let n : c.1 ≡ next = same _ c.0 c.1 r next c.3 e b in
     let v : x ≡ c.0.name = j ∙ declared-name M gs vs same_length place c.0 c.1 c.3 in
-    let w : k + length (map name_of h.so_far) ≡ i = ap (λ (y : ℕ). k + y) (map-length name_of h.so_far) ∙ sym h.reached in
+    let w : k + length (map name_of h.so_far) ≡ i = ap (λ (y : ℕ). k + y) (length-map h.so_far name_of) ∙ sym h.reached in
     record {
       so_far = h.so_far ++ (c.0 ∷ []);
       rest = c.2;
@@ -90,24 +83,40 @@ putting-step M gs vs same_length out₀ out k i left place next l q r x z j e b 
           ∙ ap (λ (y : List ℕ). over_at k y out₀) (ap (λ (y : ℕ). map name_of h.so_far ++ (y ∷ [])) v ∙ sym (map-append name_of h.so_far (c.0 ∷ []))))));
     }
 
+-- the same, where a loop counts how many are put
+pub putting-next : (M : ℕ) (gs vs : List ℕ) → length vs ≡ length gs → (out₀ out : List ℕ) (k i n j place next : ℕ) (l : List Declared) (q : ℕ) (r : Result ℕ Refusal) (x : ℕ) → j < n
+    → x ≡ get_or vs place 0 → r ≡ outcome (declaration M (tokens gs vs) place) → r ≡ Ok next
+    → Putting M (tokens gs vs) out₀ out k i (n - j) place l q → Putting M (tokens gs vs) out₀ (set out i x) k (i + 1) (n - (j + 1)) next l q
+putting-next M gs vs same_length out₀ out k i n j place next l q r x z e f g h =
+    let less : n - j - 1 ≡ n - (j + 1) = omega arith in
+    subst (λ (m : ℕ). Putting M (tokens gs vs) out₀ (set out i x) k (i + 1) m next l q) less (putting-step M gs vs same_length out₀ out k i (n - j) place next l q r x (omega arith) e f g h)
+
+-- the front of the table has the ids
+pub ids-front : (ids out : List ℕ) (n : ℕ) {after : List ℕ} → n ≡ length ids → n ≤ length out → after ≡ over_at 0 ids out → take n after ≡ ids
+ids-front ids out n e h f =
+    let z : 0 + length ids ≡ n = omega arith in
+    ap (λ (l : List ℕ). take n l) f ∙ (ap (λ (m : ℕ). take m (over_at 0 ids out)) (sym z) ∙ over-take 0 ids out (omega arith))
+
 -- three lists, one behind another
 pub three-put : (ins outs locals : List Declared) (o o₁ o₂ o₃ : List ℕ) (a b r : ℕ) → length (ins ++ (outs ++ locals)) ≤ 128
     → (0 + length ins ≤ 128 → (a ≡ 0 + length ins) × (o₁ ≡ over_at 0 (map name_of ins) o))
     → (a + length outs ≤ 128 → (b ≡ a + length outs) × (o₂ ≡ over_at a (map name_of outs) o₁))
     → (b + length locals ≤ 128 → (r ≡ b + length locals) × (o₃ ≡ over_at b (map name_of locals) o₂))
-    → (r ≡ length (ins ++ (outs ++ locals))) × (o₃ ≡ over_at 0 (map name_of (ins ++ (outs ++ locals))) o)
-three-put ins outs locals o o₁ o₂ o₃ a b r few f g h =
+    → length o ≡ 128 → take r o₃ ≡ map name_of (ins ++ (outs ++ locals))
+three-put ins outs locals o o₁ o₂ o₃ a b r few f g h size =
     let m : length (ins ++ (outs ++ locals)) ≡ length ins + (length outs + length locals) = length-append ins (outs ++ locals) ∙ ap (λ (y : ℕ). length ins + y) (length-append outs locals) in
     let x = f (omega arith) in
     let y = g (omega (arith, x.0)) in
     let z = h (omega (arith, x.0, y.0)) in
-    let u : a ≡ 0 + length (map name_of ins) = x.0 ∙ ap (λ (n : ℕ). 0 + n) (sym (map-length name_of ins)) in
-    let v : b ≡ a + length (map name_of outs) = y.0 ∙ ap (λ (n : ℕ). a + n) (sym (map-length name_of outs)) in
+    let u : a ≡ 0 + length (map name_of ins) = x.0 ∙ ap (λ (n : ℕ). 0 + n) (sym (length-map ins name_of)) in
+    let v : b ≡ a + length (map name_of outs) = y.0 ∙ ap (λ (n : ℕ). a + n) (sym (length-map outs name_of)) in
     let s : o₃ ≡ over_at a (map name_of outs ++ map name_of locals) o₁ =
     z.1 ∙ (ap (λ (l : List ℕ). over_at b (map name_of locals) l) y.1 ∙ (ap (λ (n : ℕ). over_at n (map name_of locals) (over_at a (map name_of outs) o₁)) v ∙ over-then a (map name_of outs) (map name_of locals) o₁)) in
     let t : o₃ ≡ over_at 0 (map name_of ins ++ (map name_of outs ++ map name_of locals)) o =
     s ∙ (ap (λ (l : List ℕ). over_at a (map name_of outs ++ map name_of locals) l) x.1 ∙ (ap (λ (n : ℕ). over_at n (map name_of outs ++ map name_of locals) (over_at 0 (map name_of ins) o)) u ∙ over-then 0 (map name_of ins) (map name_of outs ++ map name_of locals) o)) in
-    (omega (arith, x.0, y.0, z.0), t ∙ ap (λ (l : List ℕ). over_at 0 l o) (ap (λ (l : List ℕ). map name_of ins ++ l) (sym (map-append name_of outs locals)) ∙ sym (map-append name_of ins (outs ++ locals))))
+    let n : r ≡ length (map name_of (ins ++ (outs ++ locals))) = omega (arith, x.0, y.0, z.0, length-map (ins ++ (outs ++ locals)) name_of) in
+    ids-front (map name_of (ins ++ (outs ++ locals))) o r n (omega (arith, x.0, y.0, z.0))
+    (t ∙ ap (λ (l : List ℕ). over_at 0 l o) (ap (λ (l : List ℕ). map name_of ins ++ l) (sym (map-append name_of outs locals)) ∙ sym (map-append name_of ins (outs ++ locals))))
 
 -- a node of an accepted sheet declares at most 128 names
 pub declared-few : (M : ℕ) (ts : List TagValue) (p : ℕ) (n : Node) (q : ℕ) → node M ts p ≡ got n q → length (declared n) ≤ 128
@@ -127,9 +136,3 @@ declared-few M ts p n q g =
     few most s l e h =
         let d = declarations-got M ts s most l e h in
         omega (arith, times-length (declaration M) ts d.0 d.1 l e d.3, (counted-within 3 0 most ts s d.0 d.1 d.2).1)
-
--- the front of the table has the ids
-pub ids-front : (ids out : List ℕ) (n : ℕ) {after : List ℕ} → n ≡ length ids → n ≤ length out → after ≡ over_at 0 ids out → take n after ≡ ids
-ids-front ids out n e h f =
-    let z : 0 + length ids ≡ n = omega arith in
-    ap (λ (l : List ℕ). take n l) f ∙ (ap (λ (m : ℕ). take m (over_at 0 ids out)) (sym z) ∙ over-take 0 ids out (omega arith))

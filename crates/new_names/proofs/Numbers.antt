@@ -3,14 +3,14 @@ use Prim.Native.Nat.{ℕ, zero, suc, ◌+◌, ◌^◌, ◌≤◌, ◌<◌}
 use mathlib.Core.Path.{◌≡◌, sym, ap, ◌∙◌}
 use mathlib.Core.List.{List}
 use native.Mathlib.Omega.{arith}
-use lib.ListN.{length}
+use lib.ListN.{length, length-map}
 use Rattle.definitions.specs.Lists.{Letters}
 use Rattle.definitions.specs.Tree.{Declared, Node}
 use Rattle.definitions.specs.Declock.{Stem, declared}
 use Rattle.definitions.specs.Output.{letters_of, new_letters}
 use Rattle.spelling.proofs.Stems.{new-same}
 use Rattle.spelling.specs.Free.{next_free, free_below, new_number, taken_of}
-use Rattle.spelling.proofs.Free.{next-most, below_none, below_next, below-many, number-next, number-after, new-letters, map-length}
+use Rattle.spelling.proofs.Free.{next-most, below_none, below_next, below-many, number-next, number-after, new-letters}
 
 module _ (taken : List Letters) (stem : Stem) (few : length taken ≤ 128) where
   -- below some number j are free
@@ -35,7 +35,7 @@ module _ (taken : List Letters) (stem : Stem) (few : length taken ≤ 128) where
 pub new-once : (names : List Letters) (node : Node) → length (declared node) ≤ 128 → (stem : Stem) (i j : ℕ) → i ≤ 4096 → j ≤ 4096 → new_letters names node stem i ≡ new_letters names node stem j → i ≡ j
 new-once names node few stem i j a b e =
     let t = taken_of names node in
-    let s : length t ≤ 128 = omega (arith, map-length (λ (d : Declared). letters_of names d.name) (declared node)) in
+    let s : length t ≤ 128 = omega (arith, length-map (declared node) (λ (d : Declared). letters_of names d.name)) in
     let x = number-place t stem s i a in
     let y = number-place t stem s j b in
     let q : new_number t stem i ≡ new_number t stem j = new-same stem (new_number t stem i) (new_number t stem j) x.1 y.1 (sym (new-letters names node stem i) ∙ (e ∙ new-letters names node stem j)) in

@@ -1,26 +1,14 @@
 -- A table of names that is marked as full.
 -- Assumes nothing.
-use Prim.Native.Nat.{ℕ, ◌<◌}
-use mathlib.Core.Path.{◌≡◌, sym, ap, ◌∙◌}
+use Prim.Native.Nat.{◌<◌}
+use mathlib.Core.Path.{◌≡◌, sym, ◌∙◌}
 use mathlib.Core.List.{List}
 use mathlib.Core.Bool.{true, true≢false}
-use native.Mathlib.Omega.{arith}
-use lib.ListN.{length, take}
+use lib.ListN.{length}
 use borrow.Author.Tests.{lt-leb}
-use Rattle.definitions.specs.Lists.{sum, Letters}
-use Rattle.spelling.specs.declared.Counts.{Counts}
-use Rattle.spelling.specs.Table.{Sound, NamesHeld}
+use Rattle.definitions.specs.Lists.{Letters}
+use Rattle.spelling.specs.declared.name_table.NameTable.{NameTable}
+use Rattle.spelling.specs.Table.{NamesHeld}
 
-module _ {lens letters : List ℕ} {c d : Counts} (s : Sound lens letters c) (e : d.names ≡ c.names) (f : d.letters ≡ c.letters) where
-  pub marked-sound : Sound lens letters d
-  marked-sound =
-      record {
-        few = omega (arith, s.few);
-        short = omega (arith, s.short);
-        summed = ap (λ (i : ℕ). sum (take i lens)) e ∙ (s.summed ∙ sym f);
-        reached = s.reached;
-      }
-
-  pub marked-full : d.full ≡ true → (names : List Letters) → length lens < length names → NamesHeld lens letters d names
-  marked-full g names h =
-      record { sound = marked-sound; kept = λ z. absurd (true≢false (sym g ∙ z)); past = λ z. rw (lt-leb (length names) (length lens) h) }
+pub marked-full : (t : NameTable 1024 16384) → t.full ≡ true → (names : List Letters) → 1024 < length names → NamesHeld t names
+marked-full t g names h = record { kept = λ z. absurd (true≢false (sym g ∙ z)); past = λ z. rw (lt-leb (length names) 1024 h) }

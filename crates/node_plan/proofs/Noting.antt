@@ -1,6 +1,6 @@
 -- Equations one after another, and one by its right side and its flag.
 -- Assumes nothing.
-use mathlib.Core.Path.{◌≡◌, refl, sym, ◌∙◌, subst}
+use mathlib.Core.Path.{◌≡◌, refl, sym, ◌∙◌, ap, subst}
 use mathlib.Core.Bool.{Bool, true, false}
 use mathlib.Core.List.{List, [], ◌∷◌}
 use mathlib.Core.Option.{Option}
@@ -12,7 +12,6 @@ use lib.ListN.{length}
 use Rattle.definitions.specs.Lists.{choose, or_else}
 use Rattle.definitions.specs.Bytes.{tokens}
 use Rattle.definitions.specs.Tree.{TypeDef, Expr, Equation, Node}
-use Rattle.definitions.specs.Grammar.{equation}
 use Rattle.definitions.specs.Clock.{Clock, is_base}
 use Rattle.definitions.specs.InferClocks.{Fault, NodeFault, Clocked}
 use Rattle.definitions.specs.Declock.{Shape, bare, other, calls}
@@ -27,13 +26,18 @@ use Rattle.stateless.specs.Locals.{ids_in}
 use Rattle.skeleton.specs.Sites.{EquationSited, EquationsSited}
 use Rattle.skeleton.proofs.Laws.{lies-owed}
 use Rattle.planned.specs.Held.{HeldFrom}
-use Rattle.plan.specs.Planned.{Ahead, writer, Begun, Ended}
-use Rattle.plan.specs.Walks.{Arrays, Tables, Setting, ground_of, Known, Roomy}
+use Rattle.findings.specs.declared.Found as value
+use Rattle.findings.specs.declared.Fault as given
+use Rattle.findings.specs.Value.{fault_of, node_fault_of}
+use Rattle.std.specs.Prelude.{Result, Ok, Err}
+use Rattle.plan.specs.Tables.{Arrays, Tables, Begun}
+use Rattle.plan.specs.Planned.{Ahead, writer, Ended}
+use Rattle.plan.specs.Walks.{Setting, ground_of, Known, Roomy}
 use Rattle.plan.proofs.Growth.{ahead-self, ahead-trans, ahead-flag, ahead-needed, yield-holds, yield-count}
 use Rattle.plan.proofs.Laws.{held-append}
-use Rattle.plan.proofs.Walk.{Sized, roomy_after}
+use Rattle.plan.proofs.Walk.{ok-same, ok-err, err-same, Sized, roomy_after}
 use Rattle.planned.specs.Planned.{EquationsPlanned}
-use Rattle.node_plan.specs.Equations.{EquationsNoted, Counts, WalksEquation, WalksEquations}
+use Rattle.node_plan.specs.Equations.{EquationsNoted, EndedAll, WalksEquation, WalksEquations}
 
 -- ---- what an equation needs besides its right side
 flag-ahead : (b : Bool) (c : Clock) (z : Needs) → Ahead z (choose b (with_flag c z) (with_gate c z))
@@ -98,17 +102,20 @@ module _ (types : List TypeDef) (l : List Node) (node : Node) (k : ℕ) where
   right-count ids c xs e y = yield-count types l node ids e c y.holds ∙ right-after ids c xs e y
 
 -- ---- by the first fault
-counts-stop : (types : List TypeDef) (l : List Node) (node : Node) {tally : List ℕ} {m x : ℕ} {P Q : Type 0} {o : Option Fault} (u : Option NodeFault) (n i p : ℕ) → x ≤ p → p < m → Ended tally m x P o → Counts tally n i Q (or_else (at_equation types l node i o) u)
-counts-stop types l node u n i p a b (Ended.goes h e) = absurd (omega arith)
-counts-stop types l node u n i p a b (Ended.stops h e) = Counts.stops h refl
+stopped-at : (i : ℕ) (g t : given.Fault) (o : Fault) (r : Result ℕ given.Fault) → r ≡ Err t → r ≡ Err g → fault_of g ≡ o → node_fault_of (record { fault = t; equation = i }) ≡ record { equation = i; fault = o }
+stopped-at i g t o r a b e = ap (λ (x : Fault). record { equation = i; fault = x }) (ap fault_of (err-same t g r a b) ∙ e)
 
-counts-map : {tally : List ℕ} {n m r : ℕ} {P Q : Type 0} {u : Option NodeFault} → n ≡ m → (P → Q) → Counts tally n r P u → Counts tally m r Q u
-counts-map i f (Counts.goes h e) = Counts.goes (f h) (e ∙ i)
-counts-map i f (Counts.stops h e) = Counts.stops h e
+ends-stop : (types : List TypeDef) (l : List Node) (node : Node) {m q : ℕ} {r : Result ℕ given.Fault} {P Q : Type 0} {o : Option Fault} (u : Option NodeFault) (t : given.Fault) (i : ℕ) → r ≡ Err t → Ended m r P o → EndedAll q (Err (record { fault = t; equation = i })) Q (or_else (at_equation types l node i o) u)
+ends-stop types l node {m} {r = r} u t i a (Ended.goes h e) = absurd (ok-err m t r e a)
+ends-stop types l node {r = r} u t i a (Ended.stops {f = f} g j e) = EndedAll.stops (record { fault = t; equation = i }) (stopped-at i g t f r a e j) refl
 
-counts-then : (types : List TypeDef) (l : List Node) (node : Node) {tally tally' : List ℕ} {m x n k r : ℕ} {P Q R : Type 0} {o : Option Fault} {u : Option NodeFault} (i : ℕ) → 0 < x → n ≡ k → Ended tally m x P o → (P → x ≡ m → Counts tally' n r Q u) → (P → Q → R) → Counts tally' k r R (or_else (at_equation types l node i o) u)
-counts-then types l node i a j (Ended.goes h e) k f = counts-map j (f h) (k h e)
-counts-then types l node i a j (Ended.stops h e) k f = absurd (omega arith)
+ends-map : {q : ℕ} {r : Result ℕ value.Found} {P Q : Type 0} {u : Option NodeFault} → (P → Q) → EndedAll q r P u → EndedAll q r Q u
+ends-map f (EndedAll.goes h e) = EndedAll.goes (f h) e
+ends-map f (EndedAll.stops g i e) = EndedAll.stops g i e
+
+ends-then : (types : List TypeDef) (l : List Node) (node : Node) {m x q : ℕ} {r : Result ℕ given.Fault} {r' : Result ℕ value.Found} {P Q R : Type 0} {o : Option Fault} {u : Option NodeFault} (i : ℕ) → r ≡ Ok x → Ended m r P o → (P → x ≡ m → EndedAll q r' Q u) → (P → Q → R) → EndedAll q r' R (or_else (at_equation types l node i o) u)
+ends-then types l node {m} {x} {r = r} i a (Ended.goes h e) k f = ends-map (f h) (k h (ok-same x m r a e))
+ends-then types l node {x = x} {r = r} i a (Ended.stops g j e) k f = absurd (ok-err x g r a e)
 
 later : (p r q n : ℕ) → p ≤ r → (n < p) ⊎ (q ≤ n) → (n < r) ⊎ (q ≤ n)
 later p r q n i (inl h) = inl (omega arith)
@@ -128,31 +135,31 @@ module _ (A : Arrays) (condact : ℕ) where
   all-on [] p q S = omega arith
   all-on (e ∷ es) p q S = omega (arith, sited-on e.clock e.equation p S.0 S.1, all-on es S.0 q S.2)
 
-  pub equations-none : (s : Tables) (n p i : ℕ) → n ≡ 0 → WalksEquations A condact s s n p i i
+  pub equations-none : (s : Tables) (n p i : ℕ) → n ≡ 0 → WalksEquations A condact s s n p i (Ok p)
   unfolding EquationsSited old_fault old_needs old_yield EquationsPlanned HeldFrom
   equations-none s n p i z = record { walk = λ T end lay L cs q y m K R S B. go T cs q y (m ∙ z) S B }
     where
-      go : (T : Setting) (cs : List Clocked) (q : ℕ) (y : Needs) → length cs ≡ 0 → EquationsSited A.names A.tags A.values A.sites cs p q → Begun s.flags s.firsts s.tally y → Counts s.tally (i + n) i (EquationsNoted A T condact s s y cs p q) (old_fault T.types T.nodes T.node condact i cs)
-      go T [] q y m S B = Counts.goes (record { begun = B; kept = λ j h. refl; held = λ j h. refl; say = λ w x F f H W a plan'' agree. S; hold = λ w x F f H W a plan'' holds'' agree same. tt }) (omega arith)
+      go : (T : Setting) (cs : List Clocked) (q : ℕ) (y : Needs) → length cs ≡ 0 → EquationsSited A.names A.tags A.values A.sites cs p q → Begun s y → EndedAll q (Ok p) (EquationsNoted A T condact s s y cs p q) (old_fault T.types T.nodes T.node condact i cs)
+      go T [] q y m S B = EndedAll.goes (record { begun = B; kept = λ j h. refl; held = λ j h. refl; say = λ w x F f H W a plan'' agree. S; hold = λ w x F f H W a plan'' holds'' agree same. tt }) (ap Ok S)
       go T (e ∷ es) q y m S B = absurd (omega arith)
 
-  module _ (s s' : Tables) (p x : ℕ) (E : WalksEquation A condact s s' p x) where
-    pub equations-stop : (n i : ℕ) → 0 < n → x ≤ p → WalksEquations A condact s s' n p i i
+  module _ (s s' : Tables) (p : ℕ) (r₀ : Result ℕ given.Fault) (E : WalksEquation A condact s s' p r₀) where
+    pub equations-stop : (n i : ℕ) → 0 < n → (t : given.Fault) → r₀ ≡ Err t → WalksEquations A condact s s' n p i (Err (record { fault = t; equation = i }))
     unfolding EquationsSited old_fault
-    equations-stop n i z b = record { walk = λ T end lay L cs q y m K R S B. go T end lay L cs q y m K R S B }
+    equations-stop n i z t b = record { walk = λ T end lay L cs q y m K R S B. go T end lay L cs q y m K R S B }
       where
-        go : (T : Setting) (end : ℕ) (lay : NodeLayout) → LaidNode A.names (tokens A.tags A.values) T.node end lay → (cs : List Clocked) (q : ℕ) (y : Needs) → length cs ≡ n → Known A T → Roomy A T s → EquationsSited A.names A.tags A.values A.sites cs p q → Begun s.flags s.firsts s.tally y →
-            Counts s'.tally (i + n) i (EquationsNoted A T condact s s' y cs p q) (old_fault T.types T.nodes T.node condact i cs)
+        go : (T : Setting) (end : ℕ) (lay : NodeLayout) → LaidNode A.names (tokens A.tags A.values) T.node end lay → (cs : List Clocked) (q : ℕ) (y : Needs) → length cs ≡ n → Known A T → Roomy A T s → EquationsSited A.names A.tags A.values A.sites cs p q → Begun s y →
+            EndedAll q (Err (record { fault = t; equation = i })) (EquationsNoted A T condact s s' y cs p q) (old_fault T.types T.nodes T.node condact i cs)
         go T end lay L [] q y m K R S B = absurd (omega arith)
-        go T end lay L (e ∷ es) q y m K R S B = counts-stop T.types T.nodes T.node (old_fault T.types T.nodes T.node condact (suc i) es) (i + n) i p b (sited-on e.clock e.equation p S.0 S.1) (E.walk T end lay L e.clock e.equation S.0 y K R S.1 B)
+        go T end lay L (e ∷ es) q y m K R S B = ends-stop T.types T.nodes T.node (old_fault T.types T.nodes T.node condact (suc i) es) t i b (E.walk T end lay L e.clock e.equation S.0 y K R S.1 B)
 
-    module _ (s'' : Tables) (r : ℕ) (L' : Sized s s') (b : p < x) where
+    module _ (x : ℕ) (went : r₀ ≡ Ok x) (s'' : Tables) (r : Result ℕ value.Found) (L' : Sized s s') where
       equations-more : (n i : ℕ) → 0 < n → WalksEquations A condact s' s'' (n - 1) x (suc i) r → WalksEquations A condact s s'' n p i r
       unfolding EquationsSited old_fault old_needs old_yield EquationsPlanned
       equations-more n i z F = record { walk = λ T end lay L cs q y m K R S B. go T end lay L cs q y m K R S B }
         where
-          go : (T : Setting) (end : ℕ) (lay : NodeLayout) → LaidNode A.names (tokens A.tags A.values) T.node end lay → (cs : List Clocked) (q : ℕ) (y : Needs) → length cs ≡ n → Known A T → Roomy A T s → EquationsSited A.names A.tags A.values A.sites cs p q → Begun s.flags s.firsts s.tally y →
-              Counts s''.tally (i + n) r (EquationsNoted A T condact s s'' y cs p q) (old_fault T.types T.nodes T.node condact i cs)
+          go : (T : Setting) (end : ℕ) (lay : NodeLayout) → LaidNode A.names (tokens A.tags A.values) T.node end lay → (cs : List Clocked) (q : ℕ) (y : Needs) → length cs ≡ n → Known A T → Roomy A T s → EquationsSited A.names A.tags A.values A.sites cs p q → Begun s y →
+              EndedAll q r (EquationsNoted A T condact s s'' y cs p q) (old_fault T.types T.nodes T.node condact i cs)
           go T end lay L [] q y m K R S B = absurd (omega arith)
           go T end lay L (e ∷ es) q y m K R S B =
               let c = e.clock in
@@ -166,8 +173,8 @@ module _ (A : Arrays) (condact : ℕ) where
               let up = (right-all T.types T.nodes T.node condact c xs a y).holds in
               let on = old-ahead T.types T.nodes T.node condact es w in
               let more = on.holds in
-              counts-then T.types T.nodes T.node i (omega arith) (omega arith) (E.walk T end lay L c e.equation o y K R S.1 B)
-              (λ P j. subst (λ (u : ℕ). Counts s''.tally (suc i + (n - 1)) r (EquationsNoted A T condact s' s'' w es u q) (old_fault T.types T.nodes T.node condact (suc i) es)) j
+              ends-then T.types T.nodes T.node i went (E.walk T end lay L c e.equation o y K R S.1 B)
+              (λ P j. subst (λ (u : ℕ). EndedAll q r (EquationsNoted A T condact s' s'' w es u q) (old_fault T.types T.nodes T.node condact (suc i) es)) j
               (F.walk T end lay L es q w (omega arith) K (roomy_after A T s s' L' R) (subst (λ (u : ℕ). EquationsSited A.names A.tags A.values A.sites es u q) (sym j) S.2) P.begun))
               (λ P Q. record {
                 begun = Q.begun;
@@ -190,7 +197,3 @@ module _ (A : Arrays) (condact : ℕ) where
       equations-step n i z m j a d F =
           let e : j ≡ suc i = omega arith in
           equations-more n i z (subst (λ (u : ℕ). WalksEquations A condact s' s'' (n - 1) x u r) e (subst (λ (u : ℕ). WalksEquations A condact s' s'' u x j r) a F))
-
--- as many equations
-pub equations-start : (A : Arrays) (condact : ℕ) (s s'' : Tables) (n m p r : ℕ) → m ≡ n → WalksEquations A condact s s'' m p 0 r → WalksEquations A condact s s'' n p 0 r
-equations-start A condact s s'' n m p r i h = subst (λ (u : ℕ). WalksEquations A condact s s'' u p 0 r) i h

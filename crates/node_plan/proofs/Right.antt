@@ -4,7 +4,7 @@ use mathlib.Core.Path.{◌≡◌, refl, sym, ◌∙◌, ap, subst}
 use mathlib.Core.Bool.{Bool}
 use mathlib.Core.List.{List, [], append-nil}
 use mathlib.Core.Logic.{◌⊎◌, inl, inr}
-use Prim.Native.Nat.{ℕ, zero, suc, ◌+◌, ◌-◌, ◌*◌, ◌≤◌, ◌<◌}
+use Prim.Native.Nat.{ℕ, zero, suc, ◌+◌, ◌*◌, ◌≤◌, ◌<◌}
 use native.Mathlib.Omega.{arith}
 use lib.ListN.{length, get_or}
 use borrow.Author.Tests.{lt-ltb}
@@ -26,9 +26,10 @@ use Rattle.stateless.specs.Whole.{right_needs}
 use Rattle.stateless.specs.Locals.{ids_in}
 use Rattle.skeleton.specs.Sites.{EquationSited}
 use Rattle.planned.specs.Writes.{Writes}
-use Rattle.plan.specs.Planned.{Whole, Ahead, Agrees, writer, Begun, Planned, tree_codes, tree_holds}
+use Rattle.plan.specs.Planned.{Whole, Ahead, Agrees, writer, Planned, tree_codes, tree_holds}
+use Rattle.plan.specs.Tables.{Arrays, Tables, Begun}
 use Rattle.plan.specs.Closed.{Beside}
-use Rattle.plan.specs.Walks.{Arrays, Tables, Setting, ground_of}
+use Rattle.plan.specs.Walks.{Setting, ground_of}
 use Rattle.plan.proofs.Growth.{ahead-trans}
 use Rattle.planned.specs.Planned.{frame_by}
 use Rattle.planned.specs.Framed.{frame_of}
@@ -60,8 +61,8 @@ right-stands M gs vs same p l el e q b g =
 
 -- ---- what is noted of an equation whose right side is planned, and whose word is there
 module _ (A : Arrays) (T : Setting) (condact : ℕ) (s s' s'' : Tables) (y : Needs) (c : Clock) (e : Equation) (p q : ℕ) (S : EquationSited A.names A.tags A.values A.sites c e p q)
-    (P : Planned (ground_of A T) s.plan s'.plan s'.flags s'.firsts s.holds s'.holds s'.tally (needed T.nodes c e.right y) (p + 1 + length e.left) 1 q (tree_codes (ground_of A T) c y.holds e.right) y.holds (tree_holds (ground_of A T) c y.holds e.right))
-    (beside : Beside s'.plan s''.plan p) (h : s''.holds ≡ s'.holds) (o : p < q) (B : Begun s''.flags s''.firsts s''.tally (right_needs T.types T.nodes T.node condact c e.left e.right y))
+    (P : Planned (ground_of A T) s s' (needed T.nodes c e.right y) (p + 1 + length e.left) 1 q (tree_codes (ground_of A T) c y.holds e.right) y.holds (tree_holds (ground_of A T) c y.holds e.right))
+    (beside : Beside s'.plan s''.plan p) (h : s''.holds ≡ s'.holds) (o : p < q) (B : Begun s'' (right_needs T.types T.nodes T.node condact c e.left e.right y))
     (framed : (w : Needs) (x : ℕ) (F f H : List ℕ) → Whole T.flag_room T.first_room T.hold_room w → Ahead (right_needs T.types T.nodes T.node condact c e.left e.right y) w → (plan'' : List ℕ) → get_or plan'' p 0 ≡ get_or s''.plan p 0 →
     frame_by A.names A.tags A.values (writer (ground_of A T) x F f H) plan'' condact (length e.left) (get_or plan'' p 0) ≡ frame_of (is_base c) condact ((ids_in w.flags w.firsts F f H x).flag c) e.left (shape_after T.types T.nodes T.node condact c e.right)) where
   pub noted : EquationNoted A T condact s s'' y c e p q

@@ -1,12 +1,20 @@
 -- What planning a node leaves: the fault that was met, or what is needed and the plan of its equations and holds.
-use Rattle.std.specs.Prelude.{ℕ, ◌≡◌, List, length}
+use Rattle.std.specs.Prelude.{ℕ, ◌≡◌, List, length, Result, Ok, Err}
 use Rattle.std.proofs.Math.Option.{Option, none, some}
-use Rattle.definitions.specs.Lists.{choose}
 use Rattle.definitions.specs.Bytes.{tokens}
 use Rattle.definitions.specs.Tree.{TypeDef, Node}
-use Rattle.definitions.specs.InferClocks.{Fault, NodeFault, Clocked}
+use Rattle.definitions.specs.InferClocks.{NodeFault, Clocked}
 use Rattle.definitions.specs.Declock.{declared}
-use Rattle.findings.specs.Value.{fault_of}
+use Rattle.grammar.specs.Read.{tokens_of}
+use Rattle.layout.specs.declared.NodeLayout.{NodeLayout}
+use Rattle.layout.specs.Laid.{LaidNode}
+use Rattle.layout.specs.Table.{Table}
+use Rattle.index.specs.declared.Index.{Index}
+use Rattle.index.specs.Callees.{NodesStand}
+use Rattle.defaults.specs.Has.{DefaultsKnown}
+use Rattle.skeleton.specs.Sites.{EquationsSited}
+use Rattle.findings.specs.declared.Found.{Found}
+use Rattle.findings.specs.Value.{node_fault_of}
 use Rattle.typing.specs.Found.{Declares}
 use Rattle.stateless.specs.declared.Counts.{Counts}
 use Rattle.stateless.specs.Need.{Needs, Counted}
@@ -17,20 +25,21 @@ use Rattle.stateless.specs.Locals.{ids_in}
 use Rattle.planned.specs.Held.{HeldFrom}
 use Rattle.plan.specs.Planned.{Whole}
 use Rattle.planned.specs.Planned.{EquationsPlanned}
-use Rattle.node_plan.specs.declared.Told.{Told}
-use Rattle.node_plan.specs.declared.Outcome.{Outcome}
+
+-- a node with this layout among these types and nodes, its equations having these clocks: its sites have theirs in the rows of their tokens
+pub record NodeSited (index : Index) (sites : List ℕ) (l : NodeLayout) (types : List TypeDef) (nodes : List Node) (node : Node) (cs : List Clocked) : Type 0 where
+  pub end : ℕ
+  pub laid : LaidNode index.source.names (tokens_of index.source) node end l
+  pub standing : NodesStand index.source.names index.source.tags.now index.source.values.now index.nodes.at index.nodes.count nodes
+  pub table : Table index.source.names (tokens_of index.source) index.types.at index.types.count types
+  pub defaulted : DefaultsKnown types index.types.count index.types.count index.has
+  pub sited : EquationsSited index.source.names index.source.tags.now index.source.values.now sites cs l.equations.at l.equations.end
+  pub many : length cs ≡ l.equations.count
 
 -- the fault that was met
-abbrev pub told_of : Told → Option Fault
-told_of a = choose a.found (some (fault_of a.fault)) none
-
--- with its equation
-abbrev pub in_equation : ℕ → Option Fault → Option NodeFault
-in_equation i none = none
-in_equation i (some f) = some (record { equation = i; fault = f })
-
-abbrev pub met_by : Outcome → Option NodeFault
-met_by a = in_equation a.equation (told_of a.met)
+abbrev pub met_by : Result Counts Found → Option NodeFault
+met_by (Ok s) = none
+met_by (Err f) = some (node_fault_of f)
 
 -- M is the number of names; the node stands among these types and nodes, and its equations, with these clocks, from p up to q
 module _ (M : ℕ) (gs vs plan flags firsts holds typed : List ℕ) (types : List TypeDef) (nodes : List Node) (node : Node) (condact : ℕ) (cs : List Clocked) (p q : ℕ) where
@@ -48,6 +57,6 @@ module _ (M : ℕ) (gs vs plan flags firsts holds typed : List ℕ) (types : Lis
         HeldFrom M gs vs (record { types = types; nodes = nodes; node = node; condact = x; flag_ids = flag_ids; first_ids = first_ids; hold_ids = hold_ids }) plan holds 0 (old_yield types nodes node (ids_in needs_of.flags needs_of.firsts flag_ids first_ids hold_ids x) 0 cs).holds
 
   -- by the outcome: the first fault, and where there is none the plan
-  pub record PlansNode (a : Outcome) : Type 0 where
+  pub record PlansNode (a : Result Counts Found) : Type 0 where
     pub met : met_by a ≡ old_fault types nodes node condact 0 cs
-    pub planned : old_fault types nodes node condact 0 cs ≡ none → NodePlanned a.counts
+    pub planned : (s : Counts) → a ≡ Ok s → NodePlanned s

@@ -1,5 +1,6 @@
 -- Operands with their gap: from the readings of the definitions, taken apart one by one, and their places.
 -- Assumes nothing.
+use Rattle.std.specs.Prelude.{Result, Ok}
 use mathlib.Core.Path.{◌≡◌, refl, sym, ◌∙◌, ap}
 use mathlib.Core.List.{List, []}
 use mathlib.Core.Bool.{Bool, true, false, ◌&&◌}
@@ -11,7 +12,7 @@ use lib.ListN.{length, get_or}
 use mir.Val.{Fits}
 use mir.Syntax.{w32}
 use lib.Dec.{leb, ltb}
-use borrow.Author.Tests.{lt-ltb, le-ltb, leb-true, ne_eqb}
+use borrow.Author.Tests.{lt-ltb, leb-true, ne_eqb}
 use Rattle.definitions.specs.declared.Refusal.{Refusal}
 use Rattle.definitions.specs.declared.ExprToken.{ExprToken}
 use Rattle.definitions.specs.Lists.{choose}
@@ -22,10 +23,8 @@ use Rattle.definitions.specs.Grammar.{tagged, high, name, count, counted, ty, ap
 use Rattle.definitions.specs.Bytes.{tokens}
 use Rattle.grammar.specs.declared.Shape.{Shape}
 use Rattle.grammar.specs.Shape.{shape_of, following}
-use Rattle.grammar.specs.declared.Read.{Read}
-use Rattle.grammar.specs.declared.Counted.{Counted}
-use Rattle.grammar.specs.Outcome.{outcome, counts}
-use Rattle.grammar.proofs.Laws.{after-got, wrap-got, tokens-length, there, next-got, refused, count-got, count-refused}
+use Rattle.grammar.specs.Outcome.{told}
+use Rattle.grammar.proofs.Laws.{after-got, wrap-got, tokens-length, there, told-got}
 use Rattle.grammar.proofs.Longer.{token-got, type-grows, expr-grows}
 use Rattle.grammar.proofs.Got.{exprs-cons}
 use Rattle.operands.specs.declared.Gap.{Gap}
@@ -33,7 +32,8 @@ use Rattle.operands.specs.declared.Operand.{Operand}
 use Rattle.operands.specs.declared.Operands.{Operands}
 use Rattle.operands.specs.declared.View.{View}
 use Rattle.operands.specs.Role.{role_of, role_of_expr, operands_of}
-use Rattle.operands.specs.Spread.{tree, before, behind, later, spread, past_in, operand_at, rest_at}
+use Rattle.operands.specs.Spread.{tree, before, behind, later, spread, operand_at, rest_at}
+use Rattle.layout.specs.Spans.{past_in}
 use Rattle.operands.specs.Laid.{skipped, plain_at, behind_count, behind_start, iterated, operands_at}
 use Rattle.operands.specs.Viewed.{OperandsLaid, Viewed, Split, Stepped}
 use Rattle.operands.proofs.Deeper.{tree-head}
@@ -263,10 +263,10 @@ token-there f gs vs same p a q g =
     go (some b) g = cc
 
 -- what the code finds for an expression, and for tokens that are none
-pub viewed : (M : ℕ) (ts : List TagValue) (p : ℕ) (t : ExprToken) (s : ℕ) (v : View) (o : Operands) → token (expr_token_of M) ts p ≡ got t s → v.role ≡ role_of t → OperandsLaid M ts t s o → v ≡ record { role = v.role; first = o.first; count = o.count; gap = o.gap } → Viewed M ts p v
+pub viewed : (M : ℕ) (ts : List TagValue) (p : ℕ) (t : ExprToken) (s : ℕ) (v : View) (o : Operands) → token (expr_token_of M) ts p ≡ got t s → v.role ≡ role_of t → OperandsLaid M ts t s o → v.operands ≡ o → Viewed M ts p v
 viewed M ts p t s v o g i l j = record { role = λ e q h. (go e q h).0; operands = λ e q h. (go e q h).1; past = λ e q h. (go e q h).2; within = within; inside = λ h. (token-got (expr_token_of M) ts p t s g).1 }
   where
-    go : (e : Expr) (q : ℕ) → tree M ts p ≡ got e q → (v.role ≡ role_of_expr e) × (spread M v.gap v.count (tree M) ts v.first ≡ got (operands_of e) q) × (p < v.first)
+    go : (e : Expr) (q : ℕ) → tree M ts p ≡ got e q → (v.role ≡ role_of_expr e) × (spread M v.operands.gap v.operands.count (tree M) ts v.operands.first ≡ got (operands_of e) q) × (p < v.operands.first)
     go e q h =
         let a = tree-head M ts p e q h in
         let b : t ≡ a.0 = cc a.1 in
@@ -274,21 +274,21 @@ viewed M ts p t s v o g i l j = record { role = λ e q h. (go e q h).0; operands
         let d : form M t (tree M) ts s ≡ got e q = rw (b, c) a.2 in
         (i ∙ (formed M (tree M) ts s e q t d).0, rw j (l.operands e q d), rw j (omega (arith, l.past e q d)))
 
-    within : (e : Expr) (q : ℕ) → tree M ts p ≡ got e q → (v.first ≤ q) × (q ≤ length ts)
-    within e q h = (spread-grows M 32 ts v.gap v.count v.first (operands_of e) q (go e q h).1, (places M ts p e q h).1)
+    within : (e : Expr) (q : ℕ) → tree M ts p ≡ got e q → (v.operands.first ≤ q) × (q ≤ length ts)
+    within e q h = (spread-grows M 32 ts v.operands.gap v.operands.count v.operands.first (operands_of e) q (go e q h).1, (places M ts p e q h).1)
 
-pub unviewed : (M : ℕ) (ts : List TagValue) (p : ℕ) (t : Refusal) (v : View) → token (expr_token_of M) ts p ≡ rejected t → v.first ≡ p → Viewed M ts p v
+pub unviewed : (M : ℕ) (ts : List TagValue) (p : ℕ) (t : Refusal) (v : View) → token (expr_token_of M) ts p ≡ rejected t → v.operands.first ≡ p → Viewed M ts p v
 unviewed M ts p t v g i = record { role = λ e q h. absurd (no e q h); operands = λ e q h. absurd (no e q h); past = λ e q h. absurd (no e q h); within = λ e q h. absurd (no e q h); inside = λ h. absurd (omega (arith, h, i)) }
   where
     no : (e : Expr) (q : ℕ) → tree M ts p ≡ got e q → ⊥
     no e q h = let a = tree-head M ts p e q h in let z : ◌≡◌ {A = ℕ} 0 1 = cc a.1 in omega arith
 
 -- where something is viewed, there are tokens left
-pub left_there : (M : ℕ) (gs vs : List ℕ) → length vs ≡ length gs → (p : ℕ) (v : View) → Viewed M (tokens gs vs) p v → p < v.first → p < length gs
+pub left_there : (M : ℕ) (gs vs : List ℕ) → length vs ≡ length gs → (p : ℕ) (v : View) → Viewed M (tokens gs vs) p v → p < v.operands.first → p < length gs
 left_there M gs vs same p v seen h = omega (arith, seen.inside h, tokens-length gs vs same)
 
 -- what the code finds of the first operand
-pub stepped : (M : ℕ) (ts : List TagValue) (g : Gap) (p end : ℕ) (o : Operand) → o.at ≡ operand_at (length ts) g p → ((e : Expr) (q : ℕ) → tree M ts o.at ≡ got e q → end ≡ q) → o.next ≡ rest_at (length ts) g end → o.gap ≡ later g → Stepped M ts g p o
+pub stepped : (M : ℕ) (ts : List TagValue) (g : Gap) (p end : ℕ) (o : Operand) → o.at ≡ operand_at (length ts) g p → ((e : Expr) (q : ℕ) → tree M ts o.at ≡ got e q → end ≡ q) → o.rest.next ≡ rest_at (length ts) g end → o.rest.gap ≡ later g → Stepped M ts g p o
 stepped M ts g p end o a b c d = record { at-or-past = at-or-past g a; split = split }
   where
     at-or-past : (g : Gap) → o.at ≡ operand_at (length ts) g p → p ≤ o.at
@@ -309,12 +309,12 @@ stepped M ts g p end o a b c d = record { at-or-past = at-or-past g a; split = s
         let l = expr-grows M 32 ts o.at k.2 k.3 here in
         let j : end ≡ k.3 = b k.2 k.3 here in
         let w = behind-place g ts k.3 k.4 k.5 l.1 k.9 in
-        let m : o.next ≡ k.5 = rw j at c ∙ sym w.0 in
+        let m : o.rest.next ≡ k.5 = rw j at c ∙ sym w.0 in
         let u = spread-grows M 32 ts (later g) (n - 1) k.5 k.6 q k.10 in
         record { first = k.2; end = k.3; rest = k.6; whole = k.11; here = here; others = rw (m, d) k.10; past = omega arith; within = (l.0, omega arith, omega arith, l.1) }
 
 -- the same over the two arrays
-pub stepped-in : (M : ℕ) (gs vs : List ℕ) → length vs ≡ length gs → (g : Gap) (p end : ℕ) (o : Operand) → o.at ≡ operand_at (length gs) g p → ((e : Expr) (q : ℕ) → tree M (tokens gs vs) o.at ≡ got e q → end ≡ q) → o.next ≡ rest_at (length gs) g end → o.gap ≡ later g → Stepped M (tokens gs vs) g p o
+pub stepped-in : (M : ℕ) (gs vs : List ℕ) → length vs ≡ length gs → (g : Gap) (p end : ℕ) (o : Operand) → o.at ≡ operand_at (length gs) g p → ((e : Expr) (q : ℕ) → tree M (tokens gs vs) o.at ≡ got e q → end ≡ q) → o.rest.next ≡ rest_at (length gs) g end → o.rest.gap ≡ later g → Stepped M (tokens gs vs) g p o
 stepped-in M gs vs same g p end o a b c d =
     let l = sym (tokens-length gs vs same) in
     stepped M (tokens gs vs) g p end o (a ∙ ap (λ (k : ℕ). operand_at k g p) l) b (c ∙ ap (λ (k : ℕ). rest_at k g end) l) d
@@ -323,53 +323,16 @@ pub wide-in : (M : ℕ) (gs vs : List ℕ) → length vs ≡ length gs → (p s 
 unfolding operands_at
 wide-in M gs vs same p s h o i a b = b ∙ (ap (λ (k : ℕ). plain_at k 0) (a ∙ ap (λ (k : ℕ). past_in k p) (sym (tokens-length gs vs same))) ∙ ap (λ (x : Shape). operands_at M (tokens gs vs) x p) (sym i))
 
--- the code's answers, by those of the parts
-pub past-in : (most p : ℕ) → p < most → p + 1 ≡ past_in most p
-past-in most p h = rw (lt-ltb p most h)
-
-pub past-out : (most p : ℕ) → most ≤ p → p ≡ past_in most p
-past-out most p h = rw (le-ltb p most h)
-
-module _ (M : ℕ) (ts : List TagValue) (p : ℕ) (r : Read) where
-  pub type-got : (q : ℕ) (o : Operands) → r ≡ outcome (ty M 8 ts p) → r ≡ Read.Next q → o ≡ plain_at q 1 → o ≡ operands_at M ts Shape.Cast p
-  unfolding operands_at
-  type-got q o e g i = rw (next-got (ty M 8 ts p) r q e g).1 i
-
-  pub type-none : (t : Refusal) (o : Operands) → r ≡ outcome (ty M 8 ts p) → r ≡ Read.Refused t → o ≡ plain_at p 0 → o ≡ operands_at M ts Shape.Cast p
-  unfolding operands_at
-  type-none t o e g i = rw (refused (ty M 8 ts p) r t e g) i
-
-module _ (ts : List TagValue) (p : ℕ) (r : Counted) (e : r ≡ counts (counted 3 0 64 ts p)) where
-  pub count-behind : (g : Gap) (n q : ℕ) → r ≡ Counted.Count n q → record { first = q; count = n; gap = g } ≡ behind_count g p (counted 3 0 64 ts p)
-  count-behind g n q i = rw (count-got (counted 3 0 64 ts p) r n q e i)
-
-  pub count_none : (g : Gap) (t : Refusal) (o : Operands) → r ≡ Counted.Refused t → o ≡ plain_at p 0 → o ≡ behind_count g p (counted 3 0 64 ts p)
-  count_none g t o i j = rw (count-refused (counted 3 0 64 ts p) r t e i) j
-
-module _ (ts : List TagValue) (p u s : ℕ) (r : Counted) (d : u ≡ s) (e : r ≡ counts (counted 3 0 64 ts u)) where
-  pub start-behind : (n q : ℕ) → r ≡ Counted.Count n q → record { first = p; count = n + 1; gap = Gap.Between } ≡ behind_start p (counted 3 0 64 ts s)
-  start-behind n q i = rw (sym d) (rw (count-got (counted 3 0 64 ts u) r n q e i))
-
-  pub start_none : (t : Refusal) (o : Operands) → r ≡ Counted.Refused t → o ≡ plain_at p 0 → o ≡ behind_start p (counted 3 0 64 ts s)
-  start_none t o i j = rw (sym d) (rw (count-refused (counted 3 0 64 ts u) r t e i) j)
-
-module _ (M : ℕ) (ts : List TagValue) (p : ℕ) (r : Counted) (e : r ≡ counts (counted 3 0 1 ts p)) where
-  pub iterated-none : (t : Refusal) (o : Operands) → r ≡ Counted.Refused t → o ≡ plain_at p 0 → o ≡ operands_at M ts Shape.Iteration p
-  unfolding operands_at
-  iterated-none t o i j = rw (count-refused (counted 3 0 1 ts p) r t e i) j
-
-  pub iterated-plain : (k q : ℕ) (o : Operands) → r ≡ Counted.Count k q → k ≡ 0 → o ≡ behind_count Gap.Nothing q (counted 3 0 most_counted ts q) → o ≡ operands_at M ts Shape.Iteration p
-  unfolding operands_at
-  iterated-plain k q o i z j = rw (count-got (counted 3 0 1 ts p) r k q e i, z) j
-
-  pub iterated-started : (k q : ℕ) (o : Operands) → r ≡ Counted.Count k q → (k ≡ 0 → ⊥) → ((a : Expr) (u : ℕ) → tree M ts q ≡ got a u → o ≡ behind_start q (counted 3 0 most_counted ts u)) →
+-- a start value and what is behind it, by the code's count
+module _ (M : ℕ) (ts : List TagValue) (p : ℕ) (r : Result (ℕ × ℕ) Refusal) (e : r ≡ told (counted 3 0 1 ts p)) where
+  pub iterated-started : (k q : ℕ) (o : Operands) → r ≡ Ok (k, q) → (k ≡ 0 → ⊥) → ((a : Expr) (u : ℕ) → tree M ts q ≡ got a u → o ≡ behind_start q (counted 3 0 most_counted ts u)) →
       (es : Exprs) (v : ℕ) → following M Shape.Iteration (tree M) ts p ≡ got es v → o ≡ operands_at M ts Shape.Iteration p
   unfolding operands_at
   iterated-started k q o i z j es v g =
-      let c = count-got (counted 3 0 1 ts p) r k q e i in
+      let c = told-got (counted 3 0 1 ts p) r k q e i in
       let a = start-read M ts p k q es v c z g in
       rw (c, ne_eqb k 0 z) (rw a.2 (j a.0 a.1 a.2))
 
 -- one more than a count fits a word
-pub start_fits : (ts : List TagValue) (p : ℕ) (r : Counted) (n q : ℕ) → r ≡ counts (counted 3 0 most_counted ts p) → r ≡ Counted.Count n q → Fits w32 (n + 1)
-start_fits ts p r n q e i = let l = counted-place 3 0 most_counted ts p n q (count-got (counted 3 0 most_counted ts p) r n q e i) in record { fits = omega arith }
+pub start_fits : (ts : List TagValue) (p : ℕ) (r : Result (ℕ × ℕ) Refusal) (n q : ℕ) → r ≡ told (counted 3 0 most_counted ts p) → r ≡ Ok (n, q) → Fits w32 (n + 1)
+start_fits ts p r n q e i = let l = counted-place 3 0 most_counted ts p n q (told-got (counted 3 0 most_counted ts p) r n q e i) in record { fits = omega arith }

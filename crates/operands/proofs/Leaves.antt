@@ -1,14 +1,16 @@
 -- A leaf by its first token: which tree it is, and where it ends.
 -- Assumes nothing.
-use Prim.Native.Nat.{ℕ, ◌+◌, ◌≤◌}
+use Prim.Native.Nat.{ℕ, ◌+◌}
+use Rattle.std.specs.Prelude as rust
+use Rattle.std.specs.Prelude.{Some, None}
 use mathlib.Core.Path.{◌≡◌, refl, sym}
 use mathlib.Core.List.{List}
 use mathlib.Core.Bool.{Bool, true, false}
 use mathlib.Core.Option.{some}
 use native.Mathlib.Omega.{arith}
 use lib.Dec.{eqb, ltb}
-use lib.ListN.{length, get_or, get_or-eq_default}
-use borrow.Author.Tests.{ne_eqb, eqb-true, lt-ltb}
+use lib.ListN.{length, get_or}
+use borrow.Author.Tests.{eqb-true, lt-ltb}
 use Rattle.definitions.specs.declared.Literal.{Literal}
 use Rattle.definitions.specs.declared.ExprToken.{ExprToken}
 use Rattle.definitions.specs.Lists.{choose}
@@ -20,35 +22,11 @@ use Rattle.definitions.specs.Grammar.{high, constant, form}
 use Rattle.grammar.proofs.Laws.{tokens-length, wrap-got}
 use Rattle.operands.specs.declared.Leaf.{Leaf}
 use Rattle.operands.specs.Leaf.{leaf_at}
-use Rattle.operands.specs.Spread.{tree, past_in}
+use Rattle.layout.specs.Spans.{past_in}
+use Rattle.operands.specs.Spread.{tree}
 use Rattle.operands.proofs.Deeper.{tree-head}
 use Rattle.operands.proofs.Laws.{token-there, high-place}
 
--- ---- the code's arms
-module _ (most tag v p : ℕ) where
-  pub arm-name : tag ≡ 54 → Leaf.Name v (p + 1) ≡ leaf_at most tag v p
-  arm-name e = rw e
-
-  pub arm-bool : tag ≡ 50 → Leaf.Constant (p + 1) ≡ leaf_at most tag v p
-  arm-bool e = rw e
-
-  pub arm-int : (s : ℕ) → tag ≡ 51 → s ≡ past_in most (p + 1) → Leaf.Constant s ≡ leaf_at most tag v p
-  arm-int s e i = rw (e, i)
-
-  pub arm-float : (s : ℕ) → tag ≡ 52 → s ≡ past_in most (p + 1) → Leaf.Constant s ≡ leaf_at most tag v p
-  arm-float s e i = rw (e, i)
-
-  pub arm-char : tag ≡ 53 → Leaf.Constant (p + 1) ≡ leaf_at most tag v p
-  arm-char e = rw e
-
-  pub arm-other : (tag ≡ 54 → ⊥) → (tag ≡ 50 → ⊥) → (tag ≡ 51 → ⊥) → (tag ≡ 52 → ⊥) → (tag ≡ 53 → ⊥) → Leaf.Other ≡ leaf_at most tag v p
-  arm-other a b c d e = rw (ne_eqb tag 54 a, ne_eqb tag 50 b, ne_eqb tag 51 c, ne_eqb tag 52 d, ne_eqb tag 53 e)
-
--- past the end there is none
-pub leaf-past : (gs : List ℕ) (v p : ℕ) → length gs ≤ p → Leaf.Other ≡ leaf_at (length gs) (get_or gs p 0) v p
-leaf-past gs v p h = rw (get_or-eq_default gs 0 h)
-
--- ---- the tree
 module _ (M : ℕ) (gs vs : List ℕ) (same : length vs ≡ length gs) (p : ℕ) (e : Expr) (q : ℕ) (g : tree M (tokens gs vs) p ≡ got e q) where
   abbrev read : (t : ExprToken) × (expr_token_of M (get_or gs p 0) (get_or vs p 0) ≡ some t) × (form M t (tree M) (tokens gs vs) (p + 1) ≡ got e q)
   read = let a = tree-head M (tokens gs vs) p e q g in (a.0, token-there (expr_token_of M) gs vs same p a.0 (p + 1) a.1, a.2)
@@ -114,30 +92,30 @@ module _ (M : ℕ) (gs vs : List ℕ) (same : length vs ≡ length gs) (p : ℕ)
       wide-tree (Literal.Float (get_or vs p 0)) a.0 a.1 a.2
 
   -- THE LAW: what a leaf says of the tree that was read there
-  abbrev pub Says : Leaf → Type 0
-  Says (Leaf.Name x s) = (e ≡ Expr.var x) × (q ≡ s)
-  Says (Leaf.Constant s) = IsConstant s
-  Says Leaf.Other = Unit
+  abbrev pub Says : rust.Option Leaf → Type 0
+  Says (Some (Leaf.Name x s)) = (e ≡ Expr.var x) × (q ≡ s)
+  Says (Some (Leaf.Constant s)) = IsConstant s
+  Says None = Unit
 
-  pub leaf-says : (k : Leaf) → k ≡ leaf_at (length gs) (get_or gs p 0) (get_or vs p 0) p → Says k
+  pub leaf-says : (k : rust.Option Leaf) → k ≡ leaf_at (length gs) (get_or gs p 0) (get_or vs p 0) p → Says k
   leaf-says k i = rw i (at54 (eqb (get_or gs p 0) 54) refl)
     where
-      at53 : (b : Bool) → eqb (get_or gs p 0) 53 ≡ b → Says (choose b (Leaf.Constant (p + 1)) Leaf.Other)
+      at53 : (b : Bool) → eqb (get_or gs p 0) 53 ≡ b → Says (choose b (Some (Leaf.Constant (p + 1))) None)
       at53 true h = char-tree (eqb-true _ 53 h)
       at53 false h = tt
 
-      at52 : (b : Bool) → eqb (get_or gs p 0) 52 ≡ b → Says (choose b (Leaf.Constant (past_in (length gs) (p + 1))) (choose (eqb (get_or gs p 0) 53) (Leaf.Constant (p + 1)) Leaf.Other))
+      at52 : (b : Bool) → eqb (get_or gs p 0) 52 ≡ b → Says (choose b (Some (Leaf.Constant (past_in (length gs) (p + 1)))) (choose (eqb (get_or gs p 0) 53) (Some (Leaf.Constant (p + 1))) None))
       at52 true h = float-tree (eqb-true _ 52 h)
       at52 false h = at53 (eqb (get_or gs p 0) 53) refl
 
-      at51 : (b : Bool) → eqb (get_or gs p 0) 51 ≡ b → Says (choose b (Leaf.Constant (past_in (length gs) (p + 1))) (choose (eqb (get_or gs p 0) 52) (Leaf.Constant (past_in (length gs) (p + 1))) (choose (eqb (get_or gs p 0) 53) (Leaf.Constant (p + 1)) Leaf.Other)))
+      at51 : (b : Bool) → eqb (get_or gs p 0) 51 ≡ b → Says (choose b (Some (Leaf.Constant (past_in (length gs) (p + 1)))) (choose (eqb (get_or gs p 0) 52) (Some (Leaf.Constant (past_in (length gs) (p + 1)))) (choose (eqb (get_or gs p 0) 53) (Some (Leaf.Constant (p + 1))) None)))
       at51 true h = int-tree (eqb-true _ 51 h)
       at51 false h = at52 (eqb (get_or gs p 0) 52) refl
 
-      at50 : (b : Bool) → eqb (get_or gs p 0) 50 ≡ b → Says (choose b (Leaf.Constant (p + 1)) (choose (eqb (get_or gs p 0) 51) (Leaf.Constant (past_in (length gs) (p + 1))) (choose (eqb (get_or gs p 0) 52) (Leaf.Constant (past_in (length gs) (p + 1))) (choose (eqb (get_or gs p 0) 53) (Leaf.Constant (p + 1)) Leaf.Other))))
+      at50 : (b : Bool) → eqb (get_or gs p 0) 50 ≡ b → Says (choose b (Some (Leaf.Constant (p + 1))) (choose (eqb (get_or gs p 0) 51) (Some (Leaf.Constant (past_in (length gs) (p + 1)))) (choose (eqb (get_or gs p 0) 52) (Some (Leaf.Constant (past_in (length gs) (p + 1)))) (choose (eqb (get_or gs p 0) 53) (Some (Leaf.Constant (p + 1))) None))))
       at50 true h = bool-tree (eqb-true _ 50 h)
       at50 false h = at51 (eqb (get_or gs p 0) 51) refl
 
-      at54 : (b : Bool) → eqb (get_or gs p 0) 54 ≡ b → Says (choose b (Leaf.Name (get_or vs p 0) (p + 1)) (choose (eqb (get_or gs p 0) 50) (Leaf.Constant (p + 1)) (choose (eqb (get_or gs p 0) 51) (Leaf.Constant (past_in (length gs) (p + 1))) (choose (eqb (get_or gs p 0) 52) (Leaf.Constant (past_in (length gs) (p + 1))) (choose (eqb (get_or gs p 0) 53) (Leaf.Constant (p + 1)) Leaf.Other)))))
+      at54 : (b : Bool) → eqb (get_or gs p 0) 54 ≡ b → Says (choose b (Some (Leaf.Name (get_or vs p 0) (p + 1))) (choose (eqb (get_or gs p 0) 50) (Some (Leaf.Constant (p + 1))) (choose (eqb (get_or gs p 0) 51) (Some (Leaf.Constant (past_in (length gs) (p + 1)))) (choose (eqb (get_or gs p 0) 52) (Some (Leaf.Constant (past_in (length gs) (p + 1)))) (choose (eqb (get_or gs p 0) 53) (Some (Leaf.Constant (p + 1))) None)))))
       at54 true h = name-tree (eqb-true _ 54 h)
       at54 false h = at50 (eqb (get_or gs p 0) 50) refl

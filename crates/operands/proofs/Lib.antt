@@ -5,4 +5,3 @@ pub mod Laws
 pub mod Roles
 pub mod Apart
 pub mod Leaves
-pub mod Simple

@@ -7,10 +7,9 @@ use Rattle.definitions.specs.Reading.{Got, got, rejected}
 use Rattle.definitions.specs.Grammar.{counted, ty, most_counted, deepest_type}
 use Rattle.grammar.specs.declared.Shape.{Shape}
 use Rattle.operands.specs.declared.Gap.{Gap}
-use Rattle.operands.specs.declared.Role.{Role}
 use Rattle.operands.specs.declared.Operands.{Operands}
-use Rattle.operands.specs.declared.View.{View}
-use Rattle.operands.specs.Spread.{tree, past_in}
+use Rattle.layout.specs.Spans.{past_in}
+use Rattle.operands.specs.Spread.{tree}
 
 -- the place after an expression at p, where there is one
 abbrev pub skipped : ℕ → Got Expr → ℕ
@@ -20,10 +19,6 @@ skipped p (rejected r) = p
 -- operands with nothing between them
 abbrev pub plain_at : ℕ → ℕ → Operands
 plain_at p n = record { first = p; count = n; gap = Gap.Nothing }
-
--- an expression that does r, whose operands stand so
-abbrev pub simple_view : Role → ℕ → ℕ → View
-simple_view r p n = record { role = r; first = p; count = n; gap = Gap.Nothing }
 
 -- operands behind their count, a start value and its operands, an operand behind a type
 abbrev pub behind_count : Gap → ℕ → Got ℕ → Operands

@@ -1,14 +1,14 @@
 -- A leaf by its first token.
-use Rattle.std.specs.Prelude.{ℕ, ◌+◌, eqb}
+use Rattle.std.specs.Prelude.{ℕ, ◌+◌, eqb, Option, Some, None}
 use Rattle.definitions.specs.Lists.{choose}
 use Rattle.operands.specs.declared.Leaf.{Leaf}
-use Rattle.operands.specs.Spread.{past_in}
+use Rattle.layout.specs.Spans.{past_in}
 
 -- by the tag and the value at p, of so many places: "50 bool(0/1), 51 int(low), 52 float(low), 53 char(0 to 255), 54 var(id)"; "51 and 52 are followed by high"
-abbrev pub leaf_at : ℕ → ℕ → ℕ → ℕ → Leaf
+abbrev pub leaf_at : ℕ → ℕ → ℕ → ℕ → Option Leaf
 leaf_at most tag v p =
-    choose (eqb tag 54) (Leaf.Name v (p + 1)) (
-    choose (eqb tag 50) (Leaf.Constant (p + 1)) (
-    choose (eqb tag 51) (Leaf.Constant (past_in most (p + 1))) (
-    choose (eqb tag 52) (Leaf.Constant (past_in most (p + 1))) (
-    choose (eqb tag 53) (Leaf.Constant (p + 1)) Leaf.Other))))
+    choose (eqb tag 54) (Some (Leaf.Name v (p + 1))) (
+    choose (eqb tag 50) (Some (Leaf.Constant (p + 1))) (
+    choose (eqb tag 51) (Some (Leaf.Constant (past_in most (p + 1)))) (
+    choose (eqb tag 52) (Some (Leaf.Constant (past_in most (p + 1)))) (
+    choose (eqb tag 53) (Some (Leaf.Constant (p + 1))) None))))

@@ -1,9 +1,9 @@
 -- Operands among the tokens: so many, with what stands between them.
-use Rattle.std.specs.Prelude.{ℕ, zero, suc, ◌+◌, ltb}
-use Rattle.definitions.specs.Lists.{choose}
+use Rattle.std.specs.Prelude.{ℕ, zero, suc}
 use Rattle.definitions.specs.Tree.{Expr, Exprs}
 use Rattle.definitions.specs.Reading.{Reader, ◌>>=◌, return}
 use Rattle.definitions.specs.Grammar.{name, count, expr, most_counted, deepest_expr}
+use Rattle.layout.specs.Spans.{past_in}
 use Rattle.operands.specs.declared.Gap.{Gap}
 
 -- what stands behind the first operand
@@ -17,10 +17,6 @@ abbrev pub later : Gap → Gap
 later Gap.Nothing = Gap.Nothing
 later Gap.Names = Gap.Names
 later Gap.Between = Gap.Nothing
-
--- the place after p, of so many
-abbrev pub past_in : ℕ → ℕ → ℕ
-past_in most p = choose (ltb p most) (p + 1) p
 
 -- the place of the first operand, and where the rest begin behind it
 abbrev pub operand_at : ℕ → Gap → ℕ → ℕ

@@ -22,11 +22,11 @@ module _ (M : ℕ) (ts : List TagValue) where
   -- the expression at p: what it does, and its operands
   pub record Viewed (p : ℕ) (v : View) : Type 0 where
     pub role : (e : Expr) (q : ℕ) → tree M ts p ≡ got e q → v.role ≡ role_of_expr e
-    pub operands : (e : Expr) (q : ℕ) → tree M ts p ≡ got e q → spread M v.gap v.count (tree M) ts v.first ≡ got (operands_of e) q
-    pub past : (e : Expr) (q : ℕ) → tree M ts p ≡ got e q → p < v.first
-    pub within : (e : Expr) (q : ℕ) → tree M ts p ≡ got e q → (v.first ≤ q) × (q ≤ length ts)
+    pub operands : (e : Expr) (q : ℕ) → tree M ts p ≡ got e q → spread M v.operands.gap v.operands.count (tree M) ts v.operands.first ≡ got (operands_of e) q
+    pub past : (e : Expr) (q : ℕ) → tree M ts p ≡ got e q → p < v.operands.first
+    pub within : (e : Expr) (q : ℕ) → tree M ts p ≡ got e q → (v.operands.first ≤ q) × (q ≤ length ts)
     -- past the end nothing is viewed
-    pub inside : p < v.first → p < length ts
+    pub inside : p < v.operands.first → p < length ts
 
   -- n operands es with the gap g from p to q, the first of them as o says
   pub record Split (g : Gap) (n p : ℕ) (es : Exprs) (q : ℕ) (o : Operand) : Type 0 where
@@ -35,9 +35,9 @@ module _ (M : ℕ) (ts : List TagValue) where
     pub rest : Exprs
     pub whole : es ≡ Exprs.and first rest
     pub here : tree M ts o.at ≡ got first end
-    pub others : spread M o.gap (n - 1) (tree M) ts o.next ≡ got rest q
-    pub past : p < o.next
-    pub within : (o.at < end) × (end ≤ o.next) × (o.next ≤ q) × (end ≤ length ts)
+    pub others : spread M o.rest.gap (n - 1) (tree M) ts o.rest.next ≡ got rest q
+    pub past : p < o.rest.next
+    pub within : (o.at < end) × (end ≤ o.rest.next) × (o.rest.next ≤ q) × (end ≤ length ts)
 
   -- the first of the operands with this gap that stand from p on
   pub record Stepped (g : Gap) (p : ℕ) (o : Operand) : Type 0 where

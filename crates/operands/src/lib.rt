@@ -1,22 +1,21 @@
 // The uniform view of an expression of an accepted sheet: what it does, and where its operands stand.
-// `tags` and `values` are as long as each other; `names` is the number of names. Answers for tokens that no expression
-// was read from say nothing.
+// Answers for tokens that no expression was read from say nothing.
 #![tactic(auto)]
 
 ghost use Rattle.std.specs.Prelude.{◌≡◌, ℕ, length, get_or};
-ghost use Rattle.definitions.specs.Bytes.{tokens};
+ghost use Rattle.grammar.specs.Read.{tokens_of};
 ghost use Rattle.definitions.specs.Tree.{Expr, Exprs};
 ghost use Rattle.definitions.specs.Reading.{got};
 ghost use Rattle.operands.specs.Role.{role_of};
-ghost use Rattle.operands.specs.Spread.{tree, spread, later, past_in, operand_at, rest_at};
+ghost use Rattle.operands.specs.Spread.{tree, spread, later, operand_at, rest_at};
 ghost use Rattle.definitions.specs.Grammar.{counted};
 ghost use Rattle.grammar.specs.Shape.{following};
 ghost use Rattle.operands.specs.Leaf.{leaf_at};
-ghost use Rattle.operands.specs.Laid.{plain_at, simple_view, behind_count, behind_start, operands_at};
+ghost use Rattle.operands.specs.Laid.{plain_at, behind_count, behind_start, operands_at};
 ghost use Rattle.operands.specs.Viewed.{OperandsLaid, Viewed, Stepped};
 
 use definitions::{ARRAY_LEVELS, Condition, ExprToken, MOST_ITEMS, Test};
-use grammar::{Counted, ExprHead, Read, Shape};
+use grammar::{Shape, Source};
 
 // What an expression does.
 #[derive(Clone, Copy)]
@@ -52,9 +51,7 @@ pub struct Operands {
 #[derive(Clone, Copy)]
 pub struct View {
     pub role: Role,
-    pub first: usize,
-    pub count: u32,
-    pub gap: Gap,
+    pub operands: Operands,
 }
 
 // Where the operands after one begin, with their gap.
@@ -64,20 +61,18 @@ pub struct Rest {
     pub gap: Gap,
 }
 
-// An operand's place, and where the operands after it begin, with their gap.
+// An operand's place, and the operands after it.
 #[derive(Clone, Copy)]
 pub struct Operand {
     pub at: usize,
-    pub next: usize,
-    pub gap: Gap,
+    pub rest: Rest,
 }
 
-// A leaf, with where it ends: a name; a constant; or an expression that is none.
+// A leaf, with where it ends: a name; a constant.
 #[derive(Clone, Copy)]
 pub enum Leaf {
     Name(u32, usize),
     Constant(usize),
-    Other,
 }
 
 // What an expression does, by its first token.
@@ -87,37 +82,30 @@ fn role_of(t: ExprToken) -> Role
     match t {
         ExprToken::Const(_) => Role::Constant,
         ExprToken::Var(x) => Role::Name(x),
-        ExprToken::Unary(_) => Role::Compute,
-        ExprToken::Binary(_) => Role::Compute,
-        ExprToken::If => Role::Compute,
         ExprToken::Pre => Role::Previous,
         ExprToken::Arrow => Role::Follow,
         ExprToken::Call(f) => Role::Call(f),
-        ExprToken::Field(_) => Role::Compute,
         ExprToken::Index => Role::Index,
-        ExprToken::Tuple => Role::Compute,
-        ExprToken::Array => Role::Compute,
-        ExprToken::Struct(_) => Role::Compute,
-        ExprToken::Cast => Role::Compute,
-        ExprToken::When(x) => Role::Sample(Condition {
-            name: x,
+        ExprToken::When(name) => Role::Sample(Condition {
+            name,
             test: Test::On,
         }),
-        ExprToken::WhenNot(x) => Role::Sample(Condition {
-            name: x,
+        ExprToken::WhenNot(name) => Role::Sample(Condition {
+            name,
             test: Test::Not,
         }),
         ExprToken::Merge(x) => Role::Join(x),
-        ExprToken::Map(_) => Role::Compute,
-        ExprToken::Fold(_) => Role::Compute,
+        ExprToken::Unary(_)
+        | ExprToken::Binary(_)
+        | ExprToken::If
+        | ExprToken::Field(_)
+        | ExprToken::Tuple
+        | ExprToken::Array
+        | ExprToken::Struct(_)
+        | ExprToken::Cast
+        | ExprToken::Map(_)
+        | ExprToken::Fold(_) => Role::Compute,
     }
-}
-
-// The place after this one, within the sheet.
-fn past(tags: &[u8], at: usize) -> usize
-    ensures { result ≡ past_in (length tags.now) at }
-{
-    if at < tags.len() { at + 1 } else { at }
 }
 
 // The place of the first of the operands that begin there.
@@ -125,9 +113,8 @@ pub fn operand_at(tags: &[u8], gap: Gap, at: usize) -> usize
     ensures { result ≡ operand_at (length tags.now) gap at }
 {
     match gap {
-        Gap::Nothing => at,
-        Gap::Names => past(tags, at),
-        Gap::Between => at,
+        Gap::Names => layout::behind(tags, at),
+        Gap::Nothing | Gap::Between => at,
     }
 }
 
@@ -136,39 +123,22 @@ pub fn after_operand(tags: &[u8], gap: Gap, end: usize) -> Rest
     ensures { (result.next ≡ rest_at (length tags.now) gap end) × (result.gap ≡ later gap) }
 {
     match gap {
-        Gap::Nothing => Rest {
-            next: end,
+        Gap::Between => Rest {
+            next: layout::behind(tags, end),
             gap: Gap::Nothing,
         },
-        Gap::Names => Rest {
-            next: end,
-            gap: Gap::Names,
-        },
-        Gap::Between => {
-            let next = past(tags, end);
-            Rest {
-                next: next,
-                gap: Gap::Nothing,
-            }
-        }
+        Gap::Nothing | Gap::Names => Rest { next: end, gap },
     }
 }
 
 // The first of the operands that begin there, with where the others begin.
-pub fn first_operand(tags: &[u8], values: &[u32], names: u32, gap: Gap, at: usize) -> Operand
-    requires { length values.now ≡ length tags.now }
-    ensures { Stepped names (tokens tags.now values.now) gap at result }
+pub fn first_operand(source: &Source<'_>, gap: Gap, at: usize) -> Operand
+    ensures { Stepped source.now.names (tokens_of source.now) gap at result }
 {
-    let place = operand_at(tags, gap, at);
-    let end = layout::expr_end(tags, values, place);
-    let rest = after_operand(tags, gap, end);
-    let next = rest.next;
-    let later = rest.gap;
-    Operand {
-        at: place,
-        next: next,
-        gap: later,
-    }
+    let place = operand_at(source.tags, gap, at);
+    let end = layout::expr_end(source, place);
+    let rest = after_operand(source.tags, gap, end);
+    Operand { at: place, rest }
 }
 
 // Operands with nothing between them.
@@ -176,188 +146,120 @@ fn plain(first: usize, count: u32) -> Operands
     ensures { result ≡ plain_at first count }
 {
     Operands {
-        first: first,
-        count: count,
+        first,
+        count,
         gap: Gap::Nothing,
     }
 }
 
 // Operands behind their count.
-fn behind_count(tags: &[u8], values: &[u32], gap: Gap, at: usize) -> Operands
-    requires { length values.now ≡ length tags.now }
-    ensures { result ≡ behind_count gap at (counted 3 0 64 (tokens tags.now values.now) at) }
+fn behind_count(source: &Source<'_>, gap: Gap, at: usize) -> Operands
+    ensures { result ≡ behind_count gap at (counted 3 0 64 (tokens_of source.now) at) }
 {
-    let count = grammar::read_count(tags, values, 3, 0, MOST_ITEMS, at);
-    match count {
-        Counted::Count(n, first) => Operands {
-            first: first,
+    match grammar::read_count(source, 3, 0, MOST_ITEMS, at) {
+        Ok((n, first)) => Operands {
+            first,
             count: n,
-            gap: gap,
+            gap,
         },
-        Counted::Refused(_) => plain(at, 0),
+        Err(_) => plain(at, 0),
     }
 }
 
 // A start value and the operands behind it.
-fn behind_start(tags: &[u8], values: &[u32], names: u32, at: usize) -> Operands
-    requires { length values.now ≡ length tags.now }
-    ensures { (e : Expr) (q : ℕ) → tree names (tokens tags.now values.now) at ≡ got e q → result ≡ behind_start at (counted 3 0 64 (tokens tags.now values.now) q) }
+fn behind_start(source: &Source<'_>, at: usize) -> Operands
+    ensures { (e : Expr) (q : ℕ) → tree source.now.names (tokens_of source.now) at ≡ got e q → result ≡ behind_start at (counted 3 0 64 (tokens_of source.now) q) }
 {
-    let end = layout::expr_end(tags, values, at);
-    let count = grammar::read_count(tags, values, 3, 0, MOST_ITEMS, end);
-    match count {
-        Counted::Count(n, _) => Operands {
+    let end = layout::expr_end(source, at);
+    match grammar::read_count(source, 3, 0, MOST_ITEMS, end) {
+        Ok((n, _)) => Operands {
             first: at,
             count: n + 1,
             gap: Gap::Between,
         },
-        Counted::Refused(_) => plain(at, 0),
+        Err(_) => plain(at, 0),
     }
 }
 
 // The operands of a map or a fold.
-fn iterated(tags: &[u8], values: &[u32], names: u32, at: usize) -> Operands
-    requires { length values.now ≡ length tags.now }
-    ensures { (es : Exprs) (q : ℕ) → following names Shape.Iteration (tree names) (tokens tags.now values.now) at ≡ got es q → result ≡ operands_at names (tokens tags.now values.now) Shape.Iteration at }
+#[tactic(auto, unfolding(crate::specs::Laid::operands_at, grammar::specs::Shape::following))]
+fn iterated(source: &Source<'_>, at: usize) -> Operands
+    ensures { (es : Exprs) (q : ℕ) → following source.now.names Shape.Iteration (tree source.now.names) (tokens_of source.now) at ≡ got es q → result ≡ operands_at source.now.names (tokens_of source.now) Shape.Iteration at }
 {
-    let count = grammar::read_count(tags, values, 3, 0, 1, at);
-    match count {
-        Counted::Count(n, first) => if n == 0 {
-            behind_count(tags, values, Gap::Nothing, first)
+    match grammar::read_count(source, 3, 0, 1, at) {
+        Ok((n, first)) => if n == 0 {
+            behind_count(source, Gap::Nothing, first)
         } else {
-            behind_start(tags, values, names, first)
+            behind_start(source, first)
         },
-        Counted::Refused(_) => plain(at, 0),
+        Err(_) => plain(at, 0),
     }
 }
 
 // The operand behind a type.
-fn behind_type(tags: &[u8], values: &[u32], names: u32, at: usize) -> Operands
-    requires { length values.now ≡ length tags.now }
-    ensures { result ≡ operands_at names (tokens tags.now values.now) Shape.Cast at }
+#[tactic(auto, unfolding(crate::specs::Laid::operands_at))]
+fn behind_type(source: &Source<'_>, at: usize) -> Operands
+    ensures { result ≡ operands_at source.now.names (tokens_of source.now) Shape.Cast at }
 {
-    let read = grammar::read_type(tags, values, names, ARRAY_LEVELS, at);
-    match read {
-        Read::Next(first) => plain(first, 1),
-        Read::Refused(_) => plain(at, 0),
+    match grammar::read_type(source, ARRAY_LEVELS, at) {
+        Ok(first) => plain(first, 1),
+        Err(_) => plain(at, 0),
     }
 }
 
 // The operands that follow a first token of this shape.
-fn laid(tags: &[u8], values: &[u32], names: u32, shape: Shape, at: usize) -> Operands
-    requires { length values.now ≡ length tags.now }
-    ensures { (es : Exprs) (q : ℕ) → following names shape (tree names) (tokens tags.now values.now) at ≡ got es q → result ≡ operands_at names (tokens tags.now values.now) shape at }
+#[tactic(auto, unfolding(crate::specs::Laid::operands_at))]
+fn laid(source: &Source<'_>, shape: Shape, at: usize) -> Operands
+    ensures { (es : Exprs) (q : ℕ) → following source.now.names shape (tree source.now.names) (tokens_of source.now) at ≡ got es q → result ≡ operands_at source.now.names (tokens_of source.now) shape at }
 {
     match shape {
-        Shape::Wide => plain(past(tags, at), 0),
+        Shape::Wide => plain(layout::behind(source.tags, at), 0),
         Shape::Operands(n) => plain(at, n),
-        Shape::Items => behind_count(tags, values, Gap::Nothing, at),
-        Shape::Fields => behind_count(tags, values, Gap::Names, at),
-        Shape::Cast => behind_type(tags, values, names, at),
-        Shape::Iteration => iterated(tags, values, names, at),
+        Shape::Items => behind_count(source, Gap::Nothing, at),
+        Shape::Fields => behind_count(source, Gap::Names, at),
+        Shape::Cast => behind_type(source, at),
+        Shape::Iteration => iterated(source, at),
     }
 }
 
 // The operands of an expression with this first token, which `next` follows.
-fn operands_of(tags: &[u8], values: &[u32], names: u32, t: ExprToken, next: usize) -> Operands
-    requires { length values.now ≡ length tags.now }
-    ensures { OperandsLaid names (tokens tags.now values.now) t next result }
+fn operands_of(source: &Source<'_>, t: ExprToken, next: usize) -> Operands
+    ensures { OperandsLaid source.now.names (tokens_of source.now) t next result }
 {
-    let shape = grammar::shape_of(t);
-    laid(tags, values, names, shape, next)
+    laid(source, grammar::shape_of(t), next)
 }
 
-// The expression that stands there, by its whole token.
-fn whole_view(tags: &[u8], values: &[u32], names: u32, at: usize) -> View
-    requires { length values.now ≡ length tags.now }
-    ensures { Viewed names (tokens tags.now values.now) at result }
+// The expression that stands there.
+pub fn view_at(source: &Source<'_>, at: usize) -> View
+    ensures { Viewed source.now.names (tokens_of source.now) at result }
 {
-    let head = grammar::expr_head(tags, values, names, at);
-    match head {
-        ExprHead::Token(t, next) => {
-            let role = role_of(t);
-            let o = operands_of(tags, values, names, t, next);
-            let first = o.first;
-            let count = o.count;
-            let gap = o.gap;
+    match grammar::expr_head(source, at) {
+        Ok((t, next)) => {
+            let operands = operands_of(source, t, next);
             View {
-                role: role,
-                first: first,
-                count: count,
-                gap: gap,
+                role: role_of(t),
+                operands,
             }
         }
-        ExprHead::Refused(_) => View {
+        Err(_) => View {
             role: Role::Constant,
-            first: at,
-            count: 0,
-            gap: Gap::Nothing,
+            operands: plain(at, 0),
         },
     }
 }
 
-// An expression whose operands follow its token, with nothing between them.
-fn simple_view(role: Role, first: usize, count: u32) -> View
-    ensures { result ≡ simple_view role first count }
+// The leaf that stands there, if one does, by its first token.
+// Stays (speed): numbers of tags; by whole tokens merges of two sites, in equations in reverse order, take 5 instructions in 100 more.
+pub fn leaf_at(source: &Source<'_>, at: usize) -> Option<Leaf>
+    ensures { result ≡ leaf_at (length source.now.tags.now) (get_or source.now.tags.now at 0) (get_or source.now.values.now at 0) at }
 {
-    View {
-        role: role,
-        first: first,
-        count: count,
-        gap: Gap::Nothing,
+    if source.tags.len() <= at {
+        return None;
     }
-}
-
-// An expression that samples by a condition on this name.
-fn sample_view(name: u32, test: Test, first: usize) -> View
-    ensures { result ≡ simple_view (Role.Sample (record { name = name; test = test })) first 1 }
-{
-    let condition = Condition {
-        name: name,
-        test: test,
-    };
-    simple_view(Role::Sample(condition), first, 1)
-}
-
-// The expression that stands there: most are known by their tag.
-pub fn view_at(tags: &[u8], values: &[u32], names: u32, at: usize) -> View
-    requires { length values.now ≡ length tags.now }
-    ensures { Viewed names (tokens tags.now values.now) at result }
-{
-    if tags.len() <= at {
-        return whole_view(tags, values, names, at);
-    }
-    let tag = tags[at];
-    match tag {
-        55 => simple_view(Role::Compute, at + 1, 1),
-        56 => simple_view(Role::Compute, at + 1, 2),
-        57 => simple_view(Role::Compute, at + 1, 3),
-        58 => simple_view(Role::Previous, at + 1, 1),
-        59 => simple_view(Role::Follow, at + 1, 2),
-        61 => simple_view(Role::Compute, at + 1, 1),
-        62 => simple_view(Role::Index, at + 1, 2),
-        67 => sample_view(values[at], Test::On, at + 1),
-        68 => sample_view(values[at], Test::Not, at + 1),
-        69 => simple_view(Role::Join(values[at]), at + 1, 2),
-        _ => whole_view(tags, values, names, at),
-    }
-}
-
-// The leaf that stands there, by its first token.
-pub fn leaf_at(tags: &[u8], values: &[u32], at: usize) -> Leaf
-    requires { length values.now ≡ length tags.now }
-    ensures { result ≡ leaf_at (length tags.now) (get_or tags.now at 0) (get_or values.now at 0) at }
-{
-    if tags.len() <= at {
-        return Leaf::Other;
-    }
-    let tag = tags[at];
-    match tag {
-        54 => Leaf::Name(values[at], at + 1),
-        50 => Leaf::Constant(at + 1),
-        51 => Leaf::Constant(past(tags, at + 1)),
-        52 => Leaf::Constant(past(tags, at + 1)),
-        53 => Leaf::Constant(at + 1),
-        _ => Leaf::Other,
+    match source.tags[at] {
+        54 => Some(Leaf::Name(source.values[at], at + 1)),
+        50 | 53 => Some(Leaf::Constant(at + 1)),
+        51 | 52 => Some(Leaf::Constant(layout::behind(source.tags, at + 1))),
+        _ => None,
     }
 }

@@ -14,8 +14,8 @@ use Rattle.definitions.specs.Lists.{sum, over}
 use Rattle.definitions.specs.Refusals.{Answer, accepted, refused, faulty, told, must, ◌>>=◌}
 use Rattle.definitions.specs.Bytes.{Parts, size, M, L, T, lengths, letters, tags, values, four_byte_words, cut, bad_name, parts}
 use Rattle.parts.specs.declared.Sizes.{Sizes}
-use Rattle.parts.specs.declared.PartsAnswer.{PartsAnswer}
-use Rattle.parts.specs.Answers.{word_at, sizes_of, parts_of, answered, told_of, parts_answer, tags_after, values_after, SizedParts, Accepted}
+use Rattle.std.specs.Prelude.{Ok, Err, Some, None}
+use Rattle.parts.specs.Answers.{word_at, sizes_of, parts_of, answered, told_of, parts_answer, tags_after, values_after, SizedParts, FirstBad, Accepted}
 use Rattle.parts.proofs.Words.{word_of, word-take, words-length}
 
 -- the sizes that the code reads are the sheet's
@@ -68,8 +68,8 @@ module _ (b : List ℕ) where
             unfolding parts
             other_length h = rw (le-leb 12 (length b) long, le-leb (M b) 1024 m, le-leb (L b) 16384 l, le-leb 2 (T b) t, le-leb (T b) 4096 u, ne_eqb (length b) (12 + M b + L b + 5 * T b) h)
 
-  pub sizes-read : 12 ≤ length b → (u v w m l t : ℕ) → u ≡ word_at b 0 → v ≡ word_at b 4 → w ≡ word_at b 8 → m ≡ u → l ≡ v → t ≡ w → SizesRead b m l t
-  sizes-read h u v w m l t p q r x y z = record { names = size-read h 0 (omega arith) ∙ sym (x ∙ p); letters = size-read h 1 (omega arith) ∙ sym (y ∙ q); tokens = size-read h 2 (omega arith) ∙ sym (z ∙ r) }
+  pub sizes-read : 12 ≤ length b → (m l t : ℕ) → m ≡ word_at b 0 → l ≡ word_at b 4 → t ≡ word_at b 8 → SizesRead b m l t
+  sizes-read h m l t p q r = record { names = size-read h 0 (omega arith) ∙ sym p; letters = size-read h 1 (omega arith) ∙ sym q; tokens = size-read h 2 (omega arith) ∙ sym r }
 
   -- the sizes read are the sheet's
   pub sized : (m l t : ℕ) → SizesRead b m l t → 12 ≤ length b → m ≤ 1024 → l ≤ 16384 → 2 ≤ t → t ≤ 4096 → length b ≡ 12 + m + l + 5 * t
@@ -77,11 +77,11 @@ module _ (b : List ℕ) where
   sized m l t r a d e f g h = record { told = rw (r.names, r.letters, r.tokens); long = a; names = omega arith; letters = omega arith; few = omega arith; many = omega arith; whole = omega arith }
 
   -- the refusal that the definition gives is the code's answer
-  pub refused-answer : (r : Refusal) → parts b ≡ refused r → PartsAnswer.Refused r ≡ parts_answer b
+  pub refused-answer : (r : Refusal) → parts b ≡ refused r → Err r ≡ parts_answer b
   unfolding parts_answer
   refused-answer r e = rw e
 
-  pub accepted-answer : (p : Parts) → parts b ≡ accepted p → PartsAnswer.Parts (sizes_of b) ≡ parts_answer b
+  pub accepted-answer : (p : Parts) → parts b ≡ accepted p → Ok (sizes_of b) ≡ parts_answer b
   unfolding parts_answer
   accepted-answer p e = rw e
 
@@ -153,7 +153,7 @@ module _ (b : List ℕ) where
     other-sum h = names-left ∙ rw (ne_eqb (sum (lengths b)) (L b) h)
 
     -- the code's sum is another
-    pub sum-answer : (n : ℕ) → n ≡ sum (take (12 + s.names - 12) (drop 12 b)) → (n ≡ s.letters → ⊥) → PartsAnswer.Refused (Refusal.Name s.names) ≡ parts_answer b
+    pub sum-answer : (n : ℕ) → n ≡ sum (take (12 + s.names - 12) (drop 12 b)) → (n ≡ s.letters → ⊥) → Err (Refusal.Name s.names) ≡ parts_answer b
     sum-answer n e h =
         let f : n ≡ sum (lengths b) = e ∙ ap sum lengths-part in
         rw names-told (refused-answer (Refusal.Name (M b)) (other-sum (λ q. h (f ∙ (q ∙ sym letters-told)))))
@@ -162,22 +162,20 @@ module _ (b : List ℕ) where
       right-sum : sum (lengths b) ≡ L b
       right-sum = sym (ap sum lengths-part) ∙ (sym e ∙ (u ∙ letters-told))
 
-      module _ (bad : ℕ) (f : bad ≡ bad_name [] (cut (take (12 + s.names - 12) (drop 12 b)) (take (12 + s.names + s.letters - (12 + s.names)) (drop (12 + s.names) b)))) where
-        bad-is : bad ≡ bad_name [] (cut (lengths b) (letters b))
-        bad-is = rw (lengths-part, letters-part) at f
+      -- the code's first bad name is one of the names
+      pub bad-answer : (bad : ℕ) → FirstBad (take (12 + s.names - 12) (drop 12 b)) (take (12 + s.names + s.letters - (12 + s.names)) (drop (12 + s.names) b)) (Some bad) → Err (Refusal.Name bad) ≡ parts_answer b
+      unfolding names_checked
+      bad-answer bad f =
+          let i : bad ≡ bad_name [] (cut (lengths b) (letters b)) = rw (lengths-part, letters-part) at f.0 in
+          let l : bad < M b = rw (lengths-part, lengths-long) at f.1 in
+          let g : bad_name [] (cut (lengths b) (letters b)) ≡ M b → ⊥ = λ q. omega (arith, i, l, q) in
+          rw i (refused-answer (Refusal.Name (bad_name [] (cut (lengths b) (letters b)))) (names-left ∙ rw (eq-eqb (sum (lengths b)) (L b) right-sum, ne_eqb (bad_name [] (cut (lengths b) (letters b))) (M b) g)))
 
-        -- the code's first bad name is one of the names
-        pub bad-answer : (bad ≡ s.names → ⊥) → PartsAnswer.Refused (Refusal.Name bad) ≡ parts_answer b
-        unfolding names_checked
-        bad-answer h =
-            let g : bad_name [] (cut (lengths b) (letters b)) ≡ M b → ⊥ = λ q. h (bad-is ∙ (q ∙ sym names-told)) in
-            rw bad-is (refused-answer (Refusal.Name (bad_name [] (cut (lengths b) (letters b)))) (names-left ∙ rw (eq-eqb (sum (lengths b)) (L b) right-sum, ne_eqb (bad_name [] (cut (lengths b) (letters b))) (M b) g)))
-
-        pub good-answer : bad ≡ s.names → PartsAnswer.Parts s ≡ parts_answer b
-        unfolding names_checked
-        good-answer h =
-            let g : bad_name [] (cut (lengths b) (letters b)) ≡ M b = sym bad-is ∙ (h ∙ names-told) in
-            rw z.told (accepted-answer (parts_of b) (names-left ∙ rw (eq-eqb (sum (lengths b)) (L b) right-sum, eq-eqb (bad_name [] (cut (lengths b) (letters b))) (M b) g)))
+      pub good-answer : FirstBad (take (12 + s.names - 12) (drop 12 b)) (take (12 + s.names + s.letters - (12 + s.names)) (drop (12 + s.names) b)) None → Ok s ≡ parts_answer b
+      unfolding names_checked
+      good-answer f =
+          let g : bad_name [] (cut (lengths b) (letters b)) ≡ M b = rw (lengths-part, letters-part, lengths-long) at f in
+          rw z.told (accepted-answer (parts_of b) (names-left ∙ rw (eq-eqb (sum (lengths b)) (L b) right-sum, eq-eqb (bad_name [] (cut (lengths b) (letters b))) (M b) g)))
 
 -- ---- acceptance
 -- both tests of a number's value
@@ -257,22 +255,22 @@ module _ (b : List ℕ) where
       go (refused r) = refl
       go (faulty l) = refl
 
-  pub answer-refused : (r : Refusal) → PartsAnswer.Refused r ≡ parts_answer b → parts b ≡ refused r
+  pub answer-refused : (r : Refusal) → Err r ≡ parts_answer b → parts b ≡ refused r
   unfolding parts_answer
   answer-refused r e = go (parts b) refl e
     where
-      go : (a : Answer Parts) → parts b ≡ a → PartsAnswer.Refused r ≡ answered a b → parts b ≡ refused r
+      go : (a : Answer Parts) → parts b ≡ a → Err r ≡ answered a b → parts b ≡ refused r
       go (accepted p) f g = absurd (let z : ◌≡◌ {A = ℕ} 0 1 = cc in omega arith)
       go (refused q) f g = cc
       go (faulty l) f g = absurd (never-faulty l f)
 
-  module _ (s : Sizes) (e : PartsAnswer.Parts s ≡ parts_answer b) where
+  module _ (s : Sizes) (e : Ok s ≡ parts_answer b) where
     pub answer-accepted : Accepted b
     unfolding parts_answer
-    answer-accepted = not-refused (λ r f. let g : PartsAnswer.Parts s ≡ PartsAnswer.Refused r = e ∙ rw f in let z : ◌≡◌ {A = ℕ} 0 1 = cc in omega arith)
+    answer-accepted = not-refused (λ r f. let g : Ok s ≡ Err r = e ∙ rw f in let z : ◌≡◌ {A = ℕ} 0 1 = cc in omega arith)
 
     pub answer-sizes : s ≡ sizes_of b
-    answer-sizes = let f : PartsAnswer.Parts (sizes_of b) ≡ parts_answer b = accepted-answer b (parts_of b) (accepted-is answer-accepted) in cc
+    answer-sizes = let f : Ok (sizes_of b) ≡ parts_answer b = accepted-answer b (parts_of b) (accepted-is answer-accepted) in cc
 
     pub answer-sized : SizedParts b s
     answer-sized = rw answer-sizes answer-accepted.sized
@@ -287,7 +285,7 @@ module _ (b : List ℕ) where
     pub values-over : (lent : List ℕ) → over (four_byte_words (drop (12 + s.names + s.letters + s.tokens) b)) lent ≡ values_after (parts b) b lent
     values-over lent = rw (answer-parts, values-part b s answer-sized)
 
-  module _ (r : Refusal) (e : PartsAnswer.Refused r ≡ parts_answer b) where
+  module _ (r : Refusal) (e : Err r ≡ parts_answer b) where
     pub tags-kept : (lent : List ℕ) → lent ≡ tags_after (parts b) b lent
     tags-kept lent = rw (answer-refused r e)
 

@@ -1,35 +1,22 @@
 -- Names: tests letter by letter, and where the names stand among the letters.
 use Prim.Native.Nat.{ℕ, zero, suc, ◌+◌, ◌-◌, ◌≤◌, ◌<◌}
 use mathlib.Core.Path.{◌≡◌, refl, sym, ap, ◌∙◌}
-use mathlib.Core.Bool.{Bool, true, false, ◌&&◌, ◌||◌, not}
+use mathlib.Core.Bool.{Bool, true, false, ◌&&◌, ◌||◌}
 use mathlib.Core.List.{List, [], ◌∷◌}
 use native.Mathlib.Nat.{zero-add}
-use native.Mathlib.Numerals.{add-one, sub-one}
+use native.Mathlib.Numerals.{add-one}
 use native.Mathlib.Omega.{arith}
-use lib.ListN.{length, get_or, take, drop, drop_of_length-le}
+use lib.ListN.{length, get_or, take, drop, drop_of_length-le, length-drop}
 use lib.Seq.{drop-cons, drop-drop}
 use lib.Dec.{eqb}
-use borrow.Author.Tests.{le-ltb, lt-ltb, eq-eqb, ne_eqb}
+use borrow.Author.Tests.{le-ltb, lt-ltb, eqb-true, eqb-false}
+use Rattle.std.specs.List.{list_all}
+use Rattle.std.specs.Str.{bytes_eq}
 use Rattle.definitions.specs.Lists.{all, any, sum, same_letters}
 use Rattle.definitions.specs.Bytes.{is_letter, is_digit, well_formed, bad_name, cut}
 use Rattle.parts.specs.Places.{start, name_at, before}
 
 -- ---- tests
-pub or-first : (x y z r : Bool) → r ≡ x → r ≡ true → true ≡ (x || y || z)
-or-first x y z r p q = rw (← p, q)
-
-pub or-second : (x y z r s : Bool) → r ≡ x → r ≡ false → s ≡ y → s ≡ true → true ≡ (x || y || z)
-or-second x y z r s p q u v = rw (← p, q, ← u, v)
-
-pub or-last : (x y z r s : Bool) → r ≡ x → r ≡ false → s ≡ y → s ≡ false → z ≡ (x || y || z)
-or-last x y z r s p q u v = rw (← p, q, ← u, v)
-
-pub or-found : (y r x : Bool) → y ≡ (r || x) → r ≡ true → y ≡ true
-or-found y r x e h = e ∙ rw h
-
-pub or-passed : (y r x : Bool) → y ≡ (r || x) → r ≡ false → y ≡ x
-or-passed y r x e h = e ∙ rw h
-
 and-false : (x : Bool) → (x && false) ≡ false
 and-false true = refl
 and-false false = refl
@@ -38,71 +25,51 @@ and-true : (x : Bool) → (x && true) ≡ x
 and-true true = refl
 and-true false = refl
 
+or-true : (x y : Bool) → y ≡ true → (x || y) ≡ true
+or-true true y e = refl
+or-true false y e = e
+
 -- ---- well formed
 -- a letter, underscore or digit
 abbrev pub is_part : ℕ → Bool
 is_part d = is_letter d || is_digit d
 
-module _ (p : ℕ → Bool) (l : List ℕ) (i : ℕ) where
-  pub all-step : i < length l → p (get_or l i 0) ≡ true → all p (drop i l) ≡ all p (drop (i + 1) l)
-  all-step h e = rw (add-one i, drop-cons l i 0 h, e)
+pub all-listed : (p : ℕ → Bool) (l : List ℕ) → list_all p l ≡ all p l
+all-listed p [] = refl
+all-listed p (x ∷ l) = ap (λ r. p x && r) (all-listed p l)
 
-  pub all-no : i < length l → p (get_or l i 0) ≡ false → all p (drop i l) ≡ false
-  all-no h e = rw (drop-cons l i 0 h, e)
+module _ (l : List ℕ) (b : ℕ) (bs : List ℕ) (s : l ≡ b ∷ bs) where
+  pub wf-first : is_letter b ≡ false → false ≡ well_formed l
+  unfolding well_formed
+  wf-first e = rw (s, e)
 
-  pub all_end : length l ≤ i → all p (drop i l) ≡ true
-  all_end h = rw (drop_of_length-le l h)
+  pub wf-long : 32 ≤ length bs → false ≡ well_formed l
+  unfolding well_formed
+  wf-long h = rw (s, le-ltb (length bs) 32 h) (sym (and-false (is_letter b && all is_part bs)))
 
-pub wf-none : (l : List ℕ) → length l ≡ 0 → well_formed l ≡ false
+  pub wf-rest : is_letter b ≡ true → length bs < 32 → (r : Bool) → r ≡ list_all is_part bs → r ≡ well_formed l
+  unfolding well_formed
+  wf-rest e h r f = rw (s, e, lt-ltb (length bs) 32 h) (f ∙ (all-listed is_part bs ∙ sym (and-true (all is_part bs))))
+
+pub wf-none : (l : List ℕ) → length l ≡ 0 → false ≡ well_formed l
 unfolding well_formed
 wf-none [] e = refl
 wf-none (b ∷ bs) e = absurd (omega arith)
 
-pub wf-long : (l : List ℕ) → 32 < length l → well_formed l ≡ false
-unfolding well_formed
-wf-long [] h = refl
-wf-long (b ∷ bs) h =
-    let k : 32 ≤ length bs = omega arith in
-    rw (le-ltb (length bs) 32 k) (and-false (is_letter b && all is_part bs))
-
-pub wf-first : (l : List ℕ) → is_letter (get_or l 0 0) ≡ false → well_formed l ≡ false
-unfolding well_formed
-wf-first [] e = refl
-wf-first (b ∷ bs) e = rw e
-
-pub wf-rest : (l : List ℕ) → (length l ≡ 0 → ⊥) → length l ≤ 32 → is_letter (get_or l 0 0) ≡ true → well_formed l ≡ all is_part (drop 1 l)
-unfolding well_formed
-wf-rest [] n h e = absurd (n refl)
-wf-rest (b ∷ bs) n h e =
-    let k : length bs < 32 = omega arith in
-    rw (e, lt-ltb (length bs) 32 k) (and-true (all is_part bs))
-
 -- ---- the same letters
-pub same-long : (x y : List ℕ) → (length x ≡ length y → ⊥) → same_letters x y ≡ false
-same-long [] [] n = absurd (n refl)
-same-long [] (b ∷ l) n = refl
-same-long (a ∷ k) [] n = refl
-same-long (a ∷ k) (b ∷ l) n = go (eqb a b) (same-long k l (λ e. n (ap suc e)))
+-- `==` of two slices
+pub same_bytes : (x y : List ℕ) → bytes_eq x y ≡ same_letters x y
+same_bytes [] [] = refl
+same_bytes [] (b ∷ l) = refl
+same_bytes (a ∷ k) [] = refl
+same_bytes (a ∷ k) (b ∷ l) = go (eqb a b) (same_bytes k l)
   where
-    go : (t : Bool) → same_letters k l ≡ false → elim t [ true ↦ same_letters k l | false ↦ false ] ≡ false
+    go : (t : Bool) → bytes_eq k l ≡ same_letters k l → (t && bytes_eq k l) ≡ elim t [ true ↦ same_letters k l | false ↦ false ]
     go true e = e
     go false e = refl
 
-module _ (x y : List ℕ) (i : ℕ) where
-  same_at : i < length x → i < length y → same_letters (drop i x) (drop i y) ≡ elim (eqb (get_or x i 0) (get_or y i 0)) [ true ↦ same_letters (drop (suc i) x) (drop (suc i) y) | false ↦ false ]
-  same_at h k = rw (drop-cons x i 0 h, drop-cons y i 0 k)
-
-  pub same_step : i < length x → i < length y → get_or x i 0 ≡ get_or y i 0 → same_letters (drop i x) (drop i y) ≡ same_letters (drop (i + 1) x) (drop (i + 1) y)
-  same_step h k e = rw (add-one i) (same_at h k ∙ rw (eq-eqb (get_or x i 0) (get_or y i 0) e))
-
-  pub same-no : i < length x → i < length y → (get_or x i 0 ≡ get_or y i 0 → ⊥) → same_letters (drop i x) (drop i y) ≡ false
-  same-no h k e = same_at h k ∙ rw (ne_eqb (get_or x i 0) (get_or y i 0) e)
-
-  pub same_end : length x ≤ i → length y ≤ i → same_letters (drop i x) (drop i y) ≡ true
-  same_end h k = rw (drop_of_length-le x h, drop_of_length-le y k)
-
 -- ---- places
-pub sum_drop : (l : List ℕ) (i : ℕ) → sum (drop i l) ≡ get_or l i 0 + sum (drop (suc i) l)
+sum_drop : (l : List ℕ) (i : ℕ) → sum (drop i l) ≡ get_or l i 0 + sum (drop (suc i) l)
 sum_drop [] zero = refl
 sum_drop [] (suc i) = refl
 sum_drop (n ∷ l) zero = refl
@@ -121,38 +88,42 @@ module _ (lens letters : List ℕ) where
   pub end-within : (i : ℕ) → sum lens ≤ length letters → start lens i + get_or lens i 0 ≤ length letters
   end-within i h = omega (arith, start-sum lens (i + 1), start-next i)
 
-  pub start-last : (j : ℕ) → 0 < j → start lens j ≡ start lens (j - 1) + get_or lens (j - 1) 0
-  start-last j h = let e : j - 1 + 1 ≡ j = omega arith in rw e at (start-next (j - 1))
-
-  pub before_last : (j : ℕ) → 0 < j → before lens letters j ≡ name_at lens letters (j - 1) ∷ before lens letters (j - 1)
-  unfolding before
-  before_last zero h = absurd (omega arith)
-  before_last (suc j) h = rw (sub-one (suc j))
-
   pub part-name : (i at end : ℕ) → at ≡ start lens i → end ≡ at + get_or lens i 0 → take (end - at) (drop at letters) ≡ name_at lens letters i
   unfolding name_at
   part-name i at end p q =
       let e : end - at ≡ get_or lens i 0 = omega arith in
       rw (e, p)
 
-  -- one more earlier name is looked at
-  pub repeat-at : (i at end : ℕ) → at ≡ start lens i → end ≡ at + get_or lens i 0 → (j to from : ℕ) → 0 < j → to ≡ start lens j → from ≡ to - get_or lens (j - 1) 0
-      → (r : Bool) → r ≡ same_letters (take (end - at) (drop at letters)) (take (to - from) (drop from letters))
-      → any (same_letters (name_at lens letters i)) (before lens letters j) ≡ (r || any (same_letters (name_at lens letters i)) (before lens letters (j - 1)))
-  repeat-at i at end p q j to from h u v r e =
-      let w : from ≡ start lens (j - 1) = omega (arith, start-last j h) in
-      let z : to ≡ from + get_or lens (j - 1) 0 = omega (arith, start-last j h) in
-      rw (before_last j h, e, part-name i at end p q, part-name (j - 1) from to w z)
+  -- the letters from name i on: name i, and the letters from the next one on
+  module _ (i : ℕ) (rest : List ℕ) (r : rest ≡ drop (start lens i) letters) where
+    pub fits-rest : sum lens ≤ length letters → get_or lens i 0 ≤ length rest
+    fits-rest h = rw r (omega (arith, end-within i h, length-drop (start lens i) letters))
+
+    pub first-name : (n : ℕ) (name : List ℕ) → n ≡ get_or lens i 0 → name ≡ take n rest → name ≡ name_at lens letters i
+    unfolding name_at
+    first-name n name e f = f ∙ rw (e, r)
+
+    pub rest-next : (n : ℕ) (later : List ℕ) → n ≡ get_or lens i 0 → later ≡ drop n rest → later ≡ drop (start lens (i + 1)) letters
+    rest-next n later e f = rw (start-next i, ← e) (f ∙ (rw r (drop-drop n (start lens i) letters)))
+
+  -- a name that an earlier one is is found before each later place
+  pub before-found : (p : List ℕ → Bool) (k i : ℕ) → k < i → p (name_at lens letters k) ≡ true → any p (before lens letters i) ≡ true
+  unfolding before
+  before-found p k zero h e = absurd (omega arith)
+  before-found p k (suc i) h e = go (eqb k i) refl (λ l. before-found p k i l e)
+    where
+      go : (t : Bool) → eqb k i ≡ t → (k < i → any p (before lens letters i) ≡ true) → (p (name_at lens letters i) || any p (before lens letters i)) ≡ true
+      go true q f = rw (← eqb-true k i q, e)
+      go false q f = or-true (p (name_at lens letters i)) (any p (before lens letters i)) (f (omega (arith, eqb-false k i q)))
+
+  pub before-next : (p : List ℕ → Bool) (k : ℕ) → any p (before lens letters k) ≡ false → p (name_at lens letters k) ≡ false → any p (before lens letters (k + 1)) ≡ false
+  unfolding before
+  before-next p k f e = rw (add-one k, e) f
 
   -- the place of the first bad name, counted from name i
   unfoldable pub rest : ℕ → ℕ
   unfolding start before bad_name cut
   rest i = bad_name (before lens letters i) (cut (drop i lens) (drop (start lens i) letters))
-
-  -- is name i well formed and no earlier one's repeat?
-  unfoldable pub fine : ℕ → Bool
-  unfolding name_at before well_formed
-  fine i = well_formed (name_at lens letters i) && not (any (same_letters (name_at lens letters i)) (before lens letters i))
 
   cut_at : (i : ℕ) → i < length lens → cut (drop i lens) (drop (start lens i) letters) ≡ name_at lens letters i ∷ cut (drop (suc i) lens) (drop (start lens (suc i)) letters)
   unfolding cut name_at start
@@ -162,21 +133,19 @@ module _ (lens letters : List ℕ) where
   unfolding rest start before
   rest-start = sym (zero-add (rest 0))
 
-  pub fine-ill : (i : ℕ) → well_formed (name_at lens letters i) ≡ false → fine i ≡ false
-  unfolding fine
-  fine-ill i e = rw e
+  -- name i is ill formed, repeats an earlier one, or neither
+  module _ (i : ℕ) (x : List ℕ) (n : x ≡ name_at lens letters i) (h : i < length lens) where
+    pub rest-ill : well_formed x ≡ false → rest i ≡ 0
+    unfolding rest bad_name
+    rest-ill e = rw (cut_at i h, ← n, e)
 
-  pub fine-else : (i : ℕ) (r : Bool) → well_formed (name_at lens letters i) ≡ true → r ≡ any (same_letters (name_at lens letters i)) (before lens letters i) → not r ≡ fine i
-  unfolding fine
-  fine-else i r e q = rw (e, q)
+    pub rest-again : any (same_letters x) (before lens letters i) ≡ true → rest i ≡ 0
+    unfolding rest bad_name
+    rest-again e = rw (cut_at i h, ← n, e, and-false (well_formed x))
 
-  pub rest-step : (i : ℕ) → i < length lens → fine i ≡ true → rest i ≡ suc (rest (i + 1))
-  unfolding rest fine bad_name before
-  rest-step i h e = rw (add-one i, cut_at i h, e)
-
-  pub rest-here : (i : ℕ) → i < length lens → fine i ≡ false → rest i ≡ 0
-  unfolding rest fine bad_name
-  rest-here i h e = rw (cut_at i h, e)
+    pub rest-step : well_formed x ≡ true → any (same_letters x) (before lens letters i) ≡ false → rest i ≡ suc (rest (i + 1))
+    unfolding rest bad_name before
+    rest-step e f = rw (add-one i, cut_at i h, ← n, e, f)
 
   pub rest_end : (i : ℕ) → length lens ≤ i → rest i ≡ 0
   unfolding rest bad_name cut

@@ -1,13 +1,15 @@
 -- Runs of stores, and the bytes of a sheet by its parts.
-use Prim.Native.Nat.{ℕ, suc, ◌+◌, ◌*◌, ◌%◌, ◌/◌, ◌≤◌, ◌<◌}
+use Prim.Native.Nat.{ℕ, suc, ◌+◌, ◌-◌, ◌*◌, ◌≤◌, ◌<◌}
 use mathlib.Core.Path.{◌≡◌, refl, sym, ap, ◌∙◌}
 use mathlib.Core.List.{List, [], ◌∷◌, ◌++◌, map, append_assoc}
 use native.Mathlib.Numerals.{add-one}
 use native.Mathlib.Omega.{arith}
-use lib.ListN.{length, get_or, take, set}
-use lib.Seq.{sets, take-suc, take_all, length-take-le}
+use lib.ListN.{length, get_or, take, drop, set}
+use lib.Seq.{sets, sets-eq, length-sets, drop-drop, take-suc, take_all, length-take-le}
+use borrow.Rule.Slice.PartMut.{put_mid}
 use Rattle.definitions.specs.Lists.{join, over}
 use Rattle.definitions.specs.Output.{word_bytes}
+use Rattle.parts.proofs.Words.{over-whole}
 
 -- ---- runs of stores
 -- one run after another is one run
@@ -29,25 +31,17 @@ sets_over l [] = refl
 sets_over [] (v ∷ vs) = sets-none 1 vs
 sets_over (x ∷ l) (v ∷ vs) = sets_behind v l vs 0 ∙ ap (λ (r : List ℕ). v ∷ r) (sets_over l vs)
 
--- one more byte is stored
-pub bytes-step : (l out v : List ℕ) (at k : ℕ) → k < length v → out ≡ sets l at (take k v) → set out (at + k) (get_or v k 0) ≡ sets l at (take (k + 1) v)
-bytes-step l out v at k h e =
-    let j : at + k ≡ at + length (take k v) = omega (arith, length-take-le k v (omega arith)) in
-    rw (e, add-one k, take-suc v k 0 h) (sets-two l (take k v) (get_or v k 0 ∷ []) at (at + k) j)
+-- bytes that are copied over a part of the list
+pub bytes-put : (l v w : List ℕ) (at k : ℕ) → at + length v ≤ length l → k ≡ length v → w ≡ v → put_mid at k l w ≡ sets l at v
+bytes-put l v w at k h e f = rw (e, f, drop-drop (length v) at l) (sym (sets-eq v l at h ∙ append_assoc (take at l) v (drop (at + length v) l)))
 
-pub bytes-all : (l v : List ℕ) (at k : ℕ) → length v ≤ k → sets l at (take k v) ≡ sets l at v
-bytes-all l v at k h = rw (take_all k v h)
+-- one run more, behind those before
+pub part-put : (o l p v w : List ℕ) (at k : ℕ) → l ≡ sets o 0 p → length p ≡ at → at + length v ≤ length o → k ≡ length v → w ≡ v → put_mid at k l w ≡ sets o 0 (p ++ v)
+part-put o l p v w at k e n h f g =
+    let m : length l ≡ length o = ap length e ∙ length-sets o 0 p in
+    bytes-put l v w at k (omega arith) f g ∙ rw e (sets-two o p v 0 at (omega arith))
 
 -- ---- words
--- the stores that the code makes
-pub word-stored : (l : List ℕ) (at x a b c d : ℕ) → a ≡ x % 256 → b ≡ (x / 256) % 256 → c ≡ (x / 65536) % 256 → d ≡ (x / 16777216) % 256
-    → set (set (set (set l at a) (at + 1) b) (at + 2) c) (at + 3) d ≡ sets l at (word_bytes x)
-word-stored l at x a b c d p q r s =
-    let f : at + 1 ≡ suc at = omega arith in
-    let g : at + 2 ≡ suc (suc at) = omega arith in
-    let h : at + 3 ≡ suc (suc (suc at)) = omega arith in
-    rw (f, g, h, p, q, r, s)
-
 map-append : {A B : Type 0} (f : A → B) (a b : List A) → map f (a ++ b) ≡ map f a ++ map f b
 map-append f [] b = refl
 map-append f (x ∷ a) b = ap (λ r. f x ∷ r) (map-append f a b)
@@ -61,13 +55,13 @@ words_long [] = refl
 words_long (x ∷ v) = omega (arith, words_long v)
 
 -- one more word is stored
-pub words_step : (l out v : List ℕ) (at k : ℕ) → k < length v → out ≡ sets l at (join (map word_bytes (take k v)))
-    → sets out (at + 4 * k) (word_bytes (get_or v k 0)) ≡ sets l at (join (map word_bytes (take (k + 1) v)))
-words_step l out v at k h e =
-    let j : at + 4 * k ≡ at + length (join (map word_bytes (take k v))) = omega (arith, words_long (take k v), length-take-le k v (omega arith)) in
-    let m : join (map word_bytes (take (suc k) v)) ≡ join (map word_bytes (take k v)) ++ word_bytes (get_or v k 0) =
-    ap (λ r. join (map word_bytes r)) (take-suc v k 0 h) ∙ (ap join (map-append word_bytes (take k v) (get_or v k 0 ∷ [])) ∙ join-append (map word_bytes (take k v)) (word_bytes (get_or v k 0) ∷ [])) in
-    rw (e, add-one k, m) (sets-two l (join (map word_bytes (take k v))) (word_bytes (get_or v k 0)) at (at + 4 * k) j)
+pub words_step : (l out v w : List ℕ) (k : ℕ) → length l ≡ 4 * length v → k < length v → out ≡ sets l 0 (join (map word_bytes (take k v))) → w ≡ word_bytes (get_or v k 0)
+    → put_mid (4 * k) (4 * k + 4 - 4 * k) out w ≡ sets l 0 (join (map word_bytes (take (k + 1) v)))
+words_step l out v w k h m e f =
+    let a : length (join (map word_bytes (take k v))) ≡ 4 * k = omega (arith, words_long (take k v), length-take-le k v (omega arith)) in
+    let b : join (map word_bytes (take (suc k) v)) ≡ join (map word_bytes (take k v)) ++ word_bytes (get_or v k 0) =
+    ap (λ r. join (map word_bytes r)) (take-suc v k 0 m) ∙ (ap join (map-append word_bytes (take k v) (get_or v k 0 ∷ [])) ∙ join-append (map word_bytes (take k v)) (word_bytes (get_or v k 0) ∷ [])) in
+    rw (add-one k, b) (part-put l out (join (map word_bytes (take k v))) (word_bytes (get_or v k 0)) w (4 * k) (4 * k + 4 - 4 * k) e a (omega arith) (omega arith) f)
 
-pub words-all : (l v : List ℕ) (at k : ℕ) → length v ≤ k → sets l at (join (map word_bytes (take k v))) ≡ sets l at (join (map word_bytes v))
-words-all l v at k h = rw (take_all k v h)
+pub words-end : (l v : List ℕ) (k : ℕ) → length l ≡ 4 * length v → length v ≤ k → sets l 0 (join (map word_bytes (take k v))) ≡ join (map word_bytes v)
+words-end l v k h m = rw (take_all k v m) (sets_over l (join (map word_bytes v)) ∙ over-whole (join (map word_bytes v)) l (omega (arith, words_long v)))

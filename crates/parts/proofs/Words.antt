@@ -1,12 +1,13 @@
 -- Words of four bytes, sums, and lists written over the front of others.
 use Prim.Native.Nat.{ℕ, zero, suc, ◌+◌, ◌-◌, ◌*◌, ◌≤◌, ◌<◌}
 use mathlib.Core.Path.{◌≡◌, refl, ap, ◌∙◌}
-use mathlib.Core.List.{List, [], ◌∷◌}
+use mathlib.Core.List.{List, [], ◌∷◌, ◌++◌}
 use native.Mathlib.Numerals.{add-one}
 use native.Mathlib.Omega.{arith}
 use lib.ListN.{length, get_or, take, drop, set, length-drop}
 use lib.Seq.{get_or-take, get_or-drop, length-take-le, take_all}
-use Rattle.parts.proofs.NamesLaws.{sum_drop}
+use Rattle.std.specs.List.{sum_by}
+use Rattle.std.proofs.lemmas.List.Sums.{sum_by-cons}
 use Rattle.definitions.specs.Lists.{sum, over}
 use Rattle.definitions.specs.Bytes.{four_byte_words}
 use Rattle.parts.specs.Answers.{word_at}
@@ -61,12 +62,16 @@ words-length zero (a ∷ b ∷ c ∷ d ∷ l) h = absurd (omega arith)
 words-length (suc n) (a ∷ b ∷ c ∷ d ∷ l) h = ap suc (words-length n l (omega arith))
 
 -- ---- sums
-pub sum-last : (l : List ℕ) (i : ℕ) → 0 < i → sum (drop (i - 1) l) ≡ get_or l (i - 1) 0 + sum (drop i l)
-sum-last l i h =
-    let e : suc (i - 1) ≡ i = omega arith in
-    sum_drop l (i - 1) ∙ ap (λ (n : ℕ). get_or l (i - 1) 0 + sum (drop n l)) e
+pub sum_all : (l : List ℕ) → sum_by (λ n. n) l ≡ sum l
+sum_all [] = refl
+sum_all (n ∷ l) = sum_by-cons (λ k. k) n l ∙ ap (λ k. n + k) (sum_all l)
 
 -- ---- writing over the front
+pub bytes_over : (l v : List ℕ) → length v ≤ length l → v ++ drop (length v) l ≡ over v l
+bytes_over l [] h = refl
+bytes_over [] (x ∷ v) h = absurd (omega arith)
+bytes_over (y ∷ l) (x ∷ v) h = ap (λ (r : List ℕ). x ∷ r) (bytes_over l v (omega arith))
+
 pub over-step : (l lent : List ℕ) (k : ℕ) → k < length l → set (over (take k l) lent) k (get_or l k 0) ≡ over (take (k + 1) l) lent
 over-step l lent k h = rw (add-one k) (go l lent k h)
   where
@@ -80,30 +85,35 @@ over-step l lent k h = rw (add-one k) (go l lent k h)
 pub over-all : (l lent : List ℕ) (k : ℕ) → length l ≤ k → over (take k l) lent ≡ over l lent
 over-all l lent k h = rw (take_all k l h)
 
--- one more byte is copied
-pub tags-step : (b lent out : List ℕ) (at n k : ℕ) → at + n ≤ length b → k < n → out ≡ over (take k (take n (drop at b))) lent
-    → set out k (get_or b (at + k) 0) ≡ over (take (k + 1) (take n (drop at b))) lent
-tags-step b lent out at n k h m e =
-    let l : n ≤ length (drop at b) = omega (arith, length-drop at b) in
-    let w : k < length (take n (drop at b)) = omega (arith, length-take-le n (drop at b) l) in
-    let g : get_or (take n (drop at b)) k 0 ≡ get_or b (at + k) 0 = get_or-take n (drop at b) k 0 m ∙ get_or-drop at b k 0 in
-    rw (e, ← g) (over-step (take n (drop at b)) lent k w)
+-- bytes that are copied over the front
+pub tags-copied : (b lent out : List ℕ) (at n : ℕ) → at + n ≤ length b → n ≤ length lent → out ≡ take n (drop at b)
+    → out ++ drop n lent ≡ over (take n (drop at b)) lent
+tags-copied b lent out at n h k e =
+    let l : length (take n (drop at b)) ≡ n = length-take-le n (drop at b) (omega (arith, length-drop at b)) in
+    rw e (rw l at (bytes_over lent (take n (drop at b)) (omega arith)))
 
-pub tags-all : (b lent : List ℕ) (at n k : ℕ) → at + n ≤ length b → n ≤ k → over (take k (take n (drop at b))) lent ≡ over (take n (drop at b)) lent
-tags-all b lent at n k h m =
-    let l : n ≤ length (drop at b) = omega (arith, length-drop at b) in
-    over-all (take n (drop at b)) lent k (omega (arith, length-take-le n (drop at b) l))
+-- one more word is read
+pub words_read : (b before out : List ℕ) (n k : ℕ) → length b ≡ 4 * n → k < n → out ≡ over (take k (four_byte_words b)) before → set out k (word_at b (4 * k)) ≡ over (take (k + 1) (four_byte_words b)) before
+words_read b before out n k h m e = rw (e, ← word_of b k (omega arith)) (over-step (four_byte_words b) before k (omega (arith, words-length n b h)))
 
--- one more word is copied
-pub values-step : (b lent out : List ℕ) (at n k : ℕ) → at + 4 * n ≡ length b → k < n → out ≡ over (take k (four_byte_words (drop at b))) lent
-    → set out k (word_at b (at + 4 * k)) ≡ over (take (k + 1) (four_byte_words (drop at b))) lent
-values-step b lent out at n k h m e =
-    let l : length (drop at b) ≡ 4 * n = omega (arith, length-drop at b) in
-    let w : k < length (four_byte_words (drop at b)) = omega (arith, words-length n (drop at b) l) in
-    let g : get_or (four_byte_words (drop at b)) k 0 ≡ word_at b (at + 4 * k) = word_of (drop at b) k (omega arith) ∙ word-drop at (4 * k) b in
-    rw (e, ← g) (over-step (four_byte_words (drop at b)) lent k w)
+pub over-whole : (v l : List ℕ) → length l ≡ length v → over v l ≡ v
+over-whole [] [] h = refl
+over-whole [] (y ∷ l) h = absurd (omega arith)
+over-whole (x ∷ v) [] h = absurd (omega arith)
+over-whole (x ∷ v) (y ∷ l) h = ap (λ (r : List ℕ). x ∷ r) (over-whole v l (omega arith))
 
-pub values-all : (b lent : List ℕ) (at n k : ℕ) → at + 4 * n ≡ length b → n ≤ k → over (take k (four_byte_words (drop at b))) lent ≡ over (four_byte_words (drop at b)) lent
-values-all b lent at n k h m =
-    let l : length (drop at b) ≡ 4 * n = omega (arith, length-drop at b) in
-    over-all (four_byte_words (drop at b)) lent k (omega (arith, words-length n (drop at b) l))
+pub words-end : (b before : List ℕ) (k : ℕ) → length b ≡ 4 * length before → length before ≤ k → over (take k (four_byte_words b)) before ≡ four_byte_words b
+words-end b before k h m =
+    let l = words-length (length before) b h in
+    over-all (four_byte_words b) before k (omega (arith, l)) ∙ over-whole (four_byte_words b) before (omega (arith, l))
+
+-- the words from a place to the end, over the front
+module _ (b lent : List ℕ) (s n : ℕ) (h : s + 4 * n ≡ length b) (m : n ≤ length lent) where
+  pub words-left : length (take (length b - s) (drop s b)) ≡ 4 * length (take n lent)
+  words-left = omega (arith, length-take-le (length b - s) (drop s b) (omega (arith, length-drop s b)), length-drop s b, length-take-le n lent m)
+
+  pub words-copied : (out : List ℕ) → out ≡ four_byte_words (take (length b - s) (drop s b)) → out ++ drop n lent ≡ over (four_byte_words (drop s b)) lent
+  words-copied out e =
+      let l : length (four_byte_words (drop s b)) ≡ n = words-length n (drop s b) (omega (arith, length-drop s b)) in
+      let f : out ≡ four_byte_words (drop s b) = e ∙ ap four_byte_words (take_all (length b - s) (drop s b) (omega (arith, length-drop s b))) in
+      rw f (rw l at (bytes_over lent (four_byte_words (drop s b)) (omega arith)))

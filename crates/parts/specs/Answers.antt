@@ -1,11 +1,10 @@
 -- The answer that the code gives to what the definition answers, and what stands in the working arrays afterwards.
-use Rattle.std.specs.Prelude.{ℕ, suc, ◌+◌, ◌*◌, ◌^◌, ◌≤◌, ◌≡◌, List, [], length, get_or}
+use Rattle.std.specs.Prelude.{ℕ, suc, ◌+◌, ◌*◌, ◌^◌, ◌≤◌, ◌<◌, ◌≡◌, List, [], length, get_or, Result, Ok, Err, Option, Some, None}
 use Rattle.definitions.specs.declared.Refusal.{Refusal}
 use Rattle.definitions.specs.Lists.{sum, over}
 use Rattle.definitions.specs.Refusals.{Answer, accepted, refused, faulty, Told, fine, down}
 use Rattle.definitions.specs.Bytes.{Parts, M, L, T, lengths, letters, tags, values, tokens, cut, bad_name, parts, most_names, most_letters, fewest_tokens, most_tokens}
 use Rattle.parts.specs.declared.Sizes.{Sizes}
-use Rattle.parts.specs.declared.PartsAnswer.{PartsAnswer}
 
 -- the word of four bytes at a place, low byte first
 unfoldable pub word_at : List ℕ → ℕ → ℕ
@@ -20,18 +19,18 @@ unfoldable pub parts_of : List ℕ → Parts
 parts_of bytes = record { names = cut (lengths bytes) (letters bytes); tokens = tokens (tags bytes) (values bytes) }
 
 -- the code's answer: the sizes, or the refusal
-abbrev pub answered : Answer Parts → List ℕ → PartsAnswer
-answered (accepted p) bytes = PartsAnswer.Parts (sizes_of bytes)
-answered (refused r) bytes = PartsAnswer.Refused r
-answered (faulty l) bytes = PartsAnswer.Refused (Refusal.Faulty (length l))
+abbrev pub answered : Answer Parts → List ℕ → Result Sizes Refusal
+answered (accepted p) bytes = Ok (sizes_of bytes)
+answered (refused r) bytes = Err r
+answered (faulty l) bytes = Err (Refusal.Faulty (length l))
 
 -- the refusal that the code's answer tells, where it does
-abbrev pub told_of : PartsAnswer → Told
-told_of (PartsAnswer.Parts s) = fine
-told_of (PartsAnswer.Refused r) = down r
+abbrev pub told_of : Result Sizes Refusal → Told
+told_of (Ok s) = fine
+told_of (Err r) = down r
 
 -- the code's answer for a sheet
-unfoldable pub parts_answer : List ℕ → PartsAnswer
+unfoldable pub parts_answer : List ℕ → Result Sizes Refusal
 parts_answer bytes = answered (parts bytes) bytes
 
 -- the working array of tags: an accepted sheet's are written over its front, and a refusal writes nothing
@@ -57,9 +56,14 @@ pub record SizedParts (bytes : List ℕ) (s : Sizes) : Type 0 where
   pub whole : length bytes ≡ 12 + M bytes + L bytes + 5 * T bytes
 
 -- what the reading of the sizes tells
-unfoldable pub SizesTold : PartsAnswer → List ℕ → Type 0
-SizesTold (PartsAnswer.Parts s) bytes = SizedParts bytes s
-SizesTold (PartsAnswer.Refused r) bytes = parts bytes ≡ refused r
+unfoldable pub SizesTold : Result Sizes Refusal → List ℕ → Type 0
+SizesTold (Ok s) bytes = SizedParts bytes s
+SizesTold (Err r) bytes = parts bytes ≡ refused r
+
+-- the first of the names of these lengths that is ill formed or repeats an earlier one; nothing, where none does
+abbrev pub FirstBad : List ℕ → List ℕ → Option ℕ → Type 0
+FirstBad lens letters (Some i) = (i ≡ bad_name [] (cut lens letters)) × (i < length lens)
+FirstBad lens letters None = bad_name [] (cut lens letters) ≡ length lens
 
 -- refusals 1 to 4 do not apply
 pub record Accepted (bytes : List ℕ) : Type 0 where

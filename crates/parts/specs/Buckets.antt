@@ -1,7 +1,8 @@
 -- Names in buckets by their letters, so that each is compared with the earlier ones of its bucket only.
-use Rattle.std.specs.Prelude.{ℕ, zero, suc, ◌+◌, ◌*◌, ◌/◌, ◌%◌, ◌<◌, ◌≡◌, List, [], ◌∷◌, get_or, eqb}
+use Rattle.std.specs.Prelude.{ℕ, zero, suc, ◌+◌, ◌*◌, ◌/◌, ◌%◌, ◌<◌, ◌≡◌, List, [], ◌∷◌, length, get_or, eqb, Option, None, Some}
 use Rattle.definitions.specs.Lists.{Letters, choose}
 use Rattle.parts.specs.Places.{start, name_at}
+use Rattle.parts.specs.declared.buckets.Entry.{Entry}
 
 -- a hash with one more letter in it
 unfoldable pub mixed : ℕ → ℕ → ℕ
@@ -21,16 +22,18 @@ unfoldable pub bucket_at : List ℕ → List ℕ → ℕ → ℕ
 unfolding name_at bucket_of
 bucket_at lens letters i = bucket_of (name_at lens letters i)
 
--- one past the last name before name i that is in bucket b; 0, where none is
-unfoldable pub last_in : (ℕ → ℕ) → ℕ → ℕ → ℕ
-last_in bucket b zero = 0
-last_in bucket b (suc i) = choose (eqb (bucket i) b) (suc i) (last_in bucket b i)
+-- the last name before name i that is in bucket b
+unfoldable pub last_in : (ℕ → ℕ) → ℕ → ℕ → Option ℕ
+last_in bucket b zero = None
+last_in bucket b (suc i) = choose (eqb (bucket i) b) (Some i) (last_in bucket b i)
 
--- of each name before name i: where its letters start, and one past the name before it in its bucket
-pub record Chained (lens letters starts next : List ℕ) (i : ℕ) : Type 0 where
-  pub begins : (j : ℕ) → j < i → get_or starts j 0 ≡ start lens j
-  pub follows : (j : ℕ) → j < i → get_or next j 0 ≡ last_in (bucket_at lens letters) (bucket_at lens letters j) j
+-- no name's entry
+abbrev pub no_entry : Entry
+no_entry = record { start = 0; previous = None }
 
--- of each bucket: one past the last name before name i that is in it
-abbrev pub BucketHeads : List ℕ → List ℕ → List ℕ → ℕ → Type 0
-BucketHeads lens letters heads i = (b : ℕ) → b < 1024 → get_or heads b 0 ≡ last_in (bucket_at lens letters) b i
+-- the tables hold the names before name i: where the letters of each start, the name before it in its bucket, and each bucket's last one
+pub record Filled (lens letters : List ℕ) (entries : List Entry) (lasts : List (Option ℕ)) (i : ℕ) : Type 0 where
+  pub all-entries : length entries ≡ 1024
+  pub all-lasts : length lasts ≡ 1024
+  pub entered : (j : ℕ) → j < i → get_or entries j no_entry ≡ record { start = start lens j; previous = last_in (bucket_at lens letters) (bucket_at lens letters j) j }
+  pub headed : (b : ℕ) → b < 1024 → get_or lasts b None ≡ last_in (bucket_at lens letters) b i

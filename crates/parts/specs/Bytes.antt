@@ -1,14 +1,14 @@
 -- What is answered and what the caller's bytes are afterwards.
-use Rattle.std.specs.Prelude.{ℕ, ◌<◌, ◌≤◌, ◌≡◌, List, [], ◌∷◌, ◌++◌, map, leb, length}
+use Rattle.std.specs.Prelude.{ℕ, ◌<◌, ◌≤◌, ◌≡◌, List, [], ◌∷◌, ◌++◌, map, leb, length, Result, Ok, Err}
 use Rattle.definitions.specs.Lists.{choose, join, over, Letters}
 use Rattle.definitions.specs.Tokens.{TagValue, words}
 use Rattle.definitions.specs.Bytes.{bad_name, most_names, most_letters, fewest_tokens, most_tokens}
 use Rattle.definitions.specs.Output.{word_bytes}
-use Rattle.parts.specs.declared.Written.{Written}
+use Rattle.definitions.specs.declared.Refusal.{Refusal}
 
--- 'done' where the caller's bytes are enough, else the number needed
-unfoldable pub written_answer : List ℕ → List ℕ → Written
-written_answer bytes lent = choose (leb (length bytes) (length lent)) (Written.Done (length bytes)) (Written.Lent (length bytes))
+-- how many bytes are written, where the caller's are enough, else 12 with the number needed
+unfoldable pub written_answer : List ℕ → List ℕ → Result ℕ Refusal
+written_answer bytes lent = choose (leb (length bytes) (length lent)) (Ok (length bytes)) (Err (Refusal.Lent (length bytes)))
 
 -- "An accepted output fills its first bytes, the rest unchanged"; too few stay as they are
 unfoldable pub written_bytes : List ℕ → List ℕ → List ℕ

@@ -4,14 +4,20 @@ use mathlib.Core.Path.{◌≡◌, refl, sym, ◌∙◌, ap}
 use mathlib.Core.Bool.{Bool, true, false, true≢false}
 use mathlib.Core.List.{List, [], ◌∷◌}
 use mathlib.Core.Option.{Option, none, some}
-use Prim.Native.Nat.{ℕ, zero, suc, ◌+◌}
+use Prim.Native.Nat.{ℕ, zero, suc, ◌+◌, ◌-◌}
 use lib.Dec.{eqb}
 use native.Mathlib.Omega.{arith}
 use borrow.Author.Tests.{ne_eqb}
+use Rattle.std.specs.Prelude as rust
+use Rattle.std.specs.declared.option.Option as code
+use Rattle.std.specs.declared.option.Option.TheVariants.{None, Some}
 use Rattle.definitions.specs.Lists.{or_else}
+use Rattle.definitions.specs.declared.Refusal.{Refusal}
+use Rattle.definitions.specs.Bytes.{tokens}
+use Rattle.definitions.specs.Reading.{got, times}
+use Rattle.definitions.specs.Grammar.{declaration, ty}
 use Rattle.definitions.specs.Tokens.{TagValue}
 use Rattle.definitions.specs.Tree.{Ty, Declared, TypeDef, Node}
-use Rattle.definitions.specs.declared.Primitive.{Primitive}
 use Rattle.definitions.specs.Clock.{is_base}
 use Rattle.definitions.specs.Types.{default}
 use Rattle.definitions.specs.InferClocks.{Fault, no_output_default}
@@ -22,6 +28,14 @@ use Rattle.defaults.specs.Has.{is_some}
 use Rattle.typing.specs.declared.TypeFound.{TypeFound}
 use Rattle.typing.specs.Found.{IsFound}
 use Rattle.stateless.specs.Faults.{unless, outputs_fault}
+use Rattle.grammar.specs.Outcome.{outcome}
+use Rattle.grammar.proofs.Got.{times-nil}
+use Rattle.layout.specs.Spans.{past_in}
+use Rattle.layout.proofs.TypedefsLaws.{declared-read, declared-not-refused}
+use Rattle.typing.proofs.Laws.{label_is}
+use Rattle.plan.specs.Closed.{lack_fault}
+use Rattle.std.specs.Prelude.{Result, Ok, Err}
+use lib.ListN.{length, get_or}
 
 -- the clock of a row is base where it has no conditions
 pub base-depth : (t : List ℕ) (b d : ℕ) → d ≡ depth_in t b → eqb d 0 ≡ is_base (clock_in t b)
@@ -32,31 +46,15 @@ base-depth t b d i = ap (λ (n : ℕ). eqb n 0) i ∙ go (depth_in t b)
     go zero = refl
     go (suc n) = ne_eqb (suc n) 0 (λ z. omega arith)
 
--- the type that is found
-module _ (M : ℕ) (ts : List TagValue) (o : Option Ty) (f : TypeFound) (h : IsFound M ts o f) where
-  pub typed_at : (p : ℕ) → f ≡ TypeFound.At p → true ≡ is_there o
-  unfolding IsFound
-  typed_at p i = go o (rw i at h)
-    where
-      go : (o : Option Ty) → IsFound M ts o (TypeFound.At p) → true ≡ is_there o
-      go none z = absurd z
-      go (some t) z = refl
-
-  pub typed-basic : (k : Primitive) → f ≡ TypeFound.Basic k → true ≡ is_there o
-  unfolding IsFound
-  typed-basic k i = go o (rw i at h)
-    where
-      go : (o : Option Ty) → IsFound M ts o (TypeFound.Basic k) → true ≡ is_there o
-      go none z = absurd z
-      go (some t) z = refl
-
-  pub typed-none : f ≡ TypeFound.Unknown → false ≡ is_there o
-  unfolding IsFound
-  typed-none i = go o (rw i at h)
-    where
-      go : (o : Option Ty) → IsFound M ts o TypeFound.Unknown → false ≡ is_there o
-      go none z = refl
-      go (some t) z = absurd z
+-- a type is found where there is one
+pub typed-there : (M : ℕ) (ts : List TagValue) (o : Option Ty) (f : code.Option TypeFound) → IsFound M ts o f → rust.is_some f ≡ is_there o
+unfolding IsFound
+typed-there M ts none None h = refl
+typed-there M ts none (Some (TypeFound.At p)) h = absurd h
+typed-there M ts none (Some (TypeFound.Basic k)) h = absurd h
+typed-there M ts (some t) None h = absurd h
+typed-there M ts (some t) (Some (TypeFound.At p)) h = refl
+typed-there M ts (some t) (Some (TypeFound.Basic k)) h = refl
 
 -- ---- outputs without a default
 unless-none : {A : Type 0} (o : Option A) (f : Fault) (b : Bool) → b ≡ is_some o → b ≡ false → unless o f ≡ some f
@@ -80,3 +78,32 @@ module _ (types : List TypeDef) (l : List Node) (node : Node) (f : ℕ) (ds : Li
     pub outputs-more : b ≡ true → (o : Option Fault) → o ≡ outputs_fault types l node f rest → o ≡ outputs_fault types l node f ds
     unfolding outputs_fault
     outputs-more j o k = rw w (k ∙ ap (λ (m : Option Fault). or_else m (outputs_fault types l node f rest)) (unless-there (default types t) (no_output_default x f) b i j))
+
+-- what so many outputs from p on lack
+module _ (types : List TypeDef) (l : List Node) (node : Node) (M : ℕ) where
+  pub record Lacking (gs vs : List ℕ) (k p : ℕ) (r : code.Option ℕ) : Type 0 where
+    pub all : (f : ℕ) (ds : List Declared) (q : ℕ) → times k (declaration M) (tokens gs vs) p ≡ got ds q → lack_fault f r ≡ outputs_fault types l node f ds
+
+  pub lacking-none : (gs vs : List ℕ) (k p : ℕ) → k ≡ 0 → Lacking gs vs k p None
+  lacking-none gs vs k p z = record { all = λ f ds q g. outputs-none types l node f ds (times-nil (declaration M) (tokens gs vs) k p ds q z g).0 }
+
+  module _ (gs vs : List ℕ) (same : length vs ≡ length gs) (k p : ℕ) (some_left : k ≡ 0 → ⊥) (r : Result ℕ Refusal) (i : r ≡ outcome (declaration M (tokens gs vs) p)) where
+    pub lacking-refused : (e : Refusal) → r ≡ Err e → (o : code.Option ℕ) → Lacking gs vs k p o
+    lacking-refused e j o = record { all = λ f ds q g. absurd (declared-not-refused M gs vs same k p ds q some_left g r i e j) }
+
+    -- h is whether the first has a default
+    module _ (next : ℕ) (e : r ≡ Ok next) (first : ℕ) (j : first ≡ past_in (length gs) p) (h : Bool) (has : (t : Ty) (q : ℕ) → ty M 8 (tokens gs vs) first ≡ got t q → h ≡ is_some (default types t)) where
+      pub lacking-first : h ≡ false → (x : ℕ) → x ≡ get_or vs p 0 → Lacking gs vs k p (Some x)
+      lacking-first b x v = record {
+        all = λ f ds q g.
+            let u = (declared-read M gs vs same k p ds q some_left g r i next e first j).0 in
+            outputs-lack types l node f ds u.id u.type u.rest u.whole h (has u.type u.next u.typed) b x (v ∙ sym (label_is M gs vs same p u.id first u.label).0);
+      }
+
+      pub lacking-more : h ≡ true → (n : ℕ) → n ≡ k - 1 → (o : code.Option ℕ) → Lacking gs vs n next o → Lacking gs vs k p o
+      lacking-more b n c o x = record {
+        all = λ f ds q g.
+            let a = declared-read M gs vs same k p ds q some_left g r i next e first j in
+            let u = a.0 in
+            outputs-more types l node f ds u.id u.type u.rest u.whole h (has u.type u.next u.typed) b (lack_fault f o) (x.all f u.rest q (ap (λ (y : ℕ). times y (declaration M) (tokens gs vs) next) c ∙ a.1));
+      }

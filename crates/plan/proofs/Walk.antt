@@ -37,9 +37,15 @@ use Rattle.skeleton.specs.Lies.{Frame, weave, code_at, Computes, Framed, Lies, L
 use Rattle.skeleton.proofs.Codes.{codes-append}
 use Rattle.skeleton.proofs.Laws.{lies-owed, lies-none, sign-first, expr-first, seen_at, bare-is, previous-in, follow-in, calls-in, sample_in, join-in, plain_in}
 use Rattle.planned.specs.Writes.{named, gate_codes}
-use Rattle.plan.specs.Planned.{Begun, Ahead, Kept, Ground, Says, Planned, Ended, tree_codes, tree_holds, both_codes, both_holds, frame_codes, frame_holds}
+use Rattle.findings.specs.declared.Fault as value
+use Rattle.std.specs.Prelude.{Result, Ok, Err}
+use Rattle.std.specs.Result.{IsErr, IsErrAnd}
+use Rattle.std.proofs.lemmas.Result.{err_from_is_err_and}
+use Rattle.plan.specs.declared.Notes.{Notes}
+use Rattle.plan.specs.Tables.{Arrays, Tables, tables_of, StillLent, Begun}
+use Rattle.plan.specs.Planned.{Ahead, Kept, Ground, Says, Planned, Ended, tree_codes, tree_holds, both_codes, both_holds, frame_codes, frame_holds}
 use Rattle.plan.specs.Closed.{Beside, Followed, Gated, Preceded}
-use Rattle.plan.specs.Walks.{Arrays, Tables, Setting, ground_of, Known, Roomy, Site, Leaves, Walks, WalksBoth, WalksAll}
+use Rattle.plan.specs.Walks.{Setting, ground_of, Known, Roomy, Site, Leaves, Walks, WalksBoth, WalksAll}
 use Rattle.plan.proofs.Growth.{ahead-needed, ahead-all, ahead-settled, arrow-holds, call-holds, yield-holds, yield-count}
 use Rattle.plan.proofs.Laws.{stays-but, says_none, says-as, says_then, says-stay, says-drop, says-join, says-follow, says-call, says-previous, arrow_codes, pre_codes, call_codes, defaults_in, pre_holds}
 
@@ -147,23 +153,23 @@ module _ (G : Ground) where
 -- ---- answers
 module _ (G : Ground) where
   -- the same walk, of a token before its parts
-  shifted : (plan plan' flags firsts holds holds' tally : List ℕ) (y : Needs) (p n m q : ℕ) (t u : Ids → List TagValue) (j : ℕ) (hs : Ids → List Hold) → Says G plan' holds' y p m q u j hs → Planned G plan plan' flags firsts holds holds' tally y (p + 1) n q t j hs → Planned G plan plan' flags firsts holds holds' tally y p m q u j hs
-  shifted plan plan' flags firsts holds holds' tally y p n m q t u j hs S P = record { begun = P.begun; kept = λ i h. P.kept i (wider i h); held = P.held; says = S }
+  shifted : (s s' : Tables) (y : Needs) (p n m q : ℕ) (t u : Ids → List TagValue) (j : ℕ) (hs : Ids → List Hold) → Says G s'.plan s'.holds y p m q u j hs → Planned G s s' y (p + 1) n q t j hs → Planned G s s' y p m q u j hs
+  shifted s s' y p n m q t u j hs S P = record { begun = P.begun; kept = λ i h. P.kept i (wider i h); held = P.held; says = S }
     where
       wider : (i : ℕ) → (i < p) ⊎ (q ≤ i) → (i < p + 1) ⊎ (q ≤ i)
       wider i (inl h) = inl (omega arith)
       wider i (inr h) = inr h
 
   -- one walk after another
-  followed-by : (plan plan' plan'' flags firsts flags' firsts' holds holds' holds'' tally tally' : List ℕ) (y z : Needs) (p a r b q : ℕ) (t u : Ids → List TagValue) (j : ℕ) (hs ks : Ids → List Hold) → ((ids : Ids) → j + length (hs ids) ≡ y.holds) → j ≤ y.holds → Ahead y z → p ≤ r → r ≤ q →
-      Planned G plan plan' flags firsts holds holds' tally y p a r t j hs → Planned G plan' plan'' flags' firsts' holds' holds'' tally' z r b q u y.holds ks → Planned G plan plan'' flags' firsts' holds holds'' tally' z p (a + b) q (λ ids. t ids ++ u ids) j (λ ids. hs ids ++ ks ids)
-  followed-by plan plan' plan'' flags firsts flags' firsts' holds holds' holds'' tally tally' y z p a r b q t u j hs ks count f A i o P Q =
+  followed-by : (s s' s'' : Tables) (y z : Needs) (p a r b q : ℕ) (t u : Ids → List TagValue) (j : ℕ) (hs ks : Ids → List Hold) → ((ids : Ids) → j + length (hs ids) ≡ y.holds) → j ≤ y.holds → Ahead y z → p ≤ r → r ≤ q →
+      Planned G s s' y p a r t j hs → Planned G s' s'' z r b q u y.holds ks → Planned G s s'' z p (a + b) q (λ ids. t ids ++ u ids) j (λ ids. hs ids ++ ks ids)
+  followed-by s s' s'' y z p a r b q t u j hs ks count f A i o P Q =
       let g = A.holds in
       record {
         begun = Q.begun;
         kept = λ n h. Q.kept n (later p r q n i h) ∙ P.kept n (sooner p r q n o h);
         held = λ n h. Q.held n (later (2 * j) (2 * y.holds) (2 * z.holds) n (omega arith) h) ∙ P.held n (sooner (2 * j) (2 * y.holds) (2 * z.holds) n (omega arith) h);
-        says = says_then G plan' plan'' holds' holds'' y z p a r b q t u j hs ks count P.says Q.says Q.kept Q.held A i o;
+        says = says_then G s'.plan s''.plan s'.holds s''.holds y z p a r b q t u j hs ks count P.says Q.says Q.kept Q.held A i o;
       }
     where
       later : (p r q n : ℕ) → p ≤ r → (n < p) ⊎ (q ≤ n) → (n < r) ⊎ (q ≤ n)
@@ -175,45 +181,63 @@ module _ (G : Ground) where
       sooner p r q n o (inr h) = inr (omega arith)
 
   -- other tokens, holds and needs that are the same
-  retold : (plan plan' flags firsts holds holds' tally : List ℕ) (y z : Needs) (p n q : ℕ) (t u : Ids → List TagValue) (j : ℕ) (hs ks : Ids → List Hold) → y ≡ z → ((ids : Ids) → t ids ≡ u ids) → ((ids : Ids) → hs ids ≡ ks ids) → Planned G plan plan' flags firsts holds holds' tally y p n q t j hs → Planned G plan plan' flags firsts holds holds' tally z p n q u j ks
-  retold plan plan' flags firsts holds holds' tally y z p n q t u j hs ks i e f P =
-      subst (λ (x : Needs). Planned G plan plan' flags firsts holds holds' tally x p n q u j ks) i (record { begun = P.begun; kept = P.kept; held = P.held; says = says-as G plan' holds' y p n q t u j hs ks e f P.says })
+  retold : (s s' : Tables) (y z : Needs) (p n q : ℕ) (t u : Ids → List TagValue) (j : ℕ) (hs ks : Ids → List Hold) → y ≡ z → ((ids : Ids) → t ids ≡ u ids) → ((ids : Ids) → hs ids ≡ ks ids) → Planned G s s' y p n q t j hs → Planned G s s' z p n q u j ks
+  retold s s' y z p n q t u j hs ks i e f P =
+      subst (λ (x : Needs). Planned G s s' x p n q u j ks) i (record { begun = P.begun; kept = P.kept; held = P.held; says = says-as G s'.plan s'.holds y p n q t u j hs ks e f P.says })
 
   -- a token whose own word is written behind its parts'
-  closed : (plan plan' plan'' flags firsts flags' firsts' holds holds' holds'' tally tally' : List ℕ) (y z : Needs) (p n q : ℕ) (t u : Ids → List TagValue) (j : ℕ) (hs ks : Ids → List Hold) → p < q → j ≤ y.holds → y.holds ≤ z.holds → Planned G plan plan' flags firsts holds holds' tally y (p + 1) n q t j hs →
-      Beside plan' plan'' p → Kept holds' holds'' (2 * y.holds) (2 * z.holds) → Begun flags' firsts' tally' z → Says G plan'' holds'' z p 1 q u j ks → Planned G plan plan'' flags' firsts' holds holds'' tally' z p 1 q u j ks
-  closed plan plan' plan'' flags firsts flags' firsts' holds holds' holds'' tally tally' y z p n q t u j hs ks o f g P beside kept B S = record { begun = B; kept = other; held = row; says = S }
+  closed : (s s' s'' : Tables) (y z : Needs) (p n q : ℕ) (t u : Ids → List TagValue) (j : ℕ) (hs ks : Ids → List Hold) → p < q → j ≤ y.holds → y.holds ≤ z.holds → Planned G s s' y (p + 1) n q t j hs →
+      Beside s'.plan s''.plan p → Kept s'.holds s''.holds (2 * y.holds) (2 * z.holds) → Begun s'' z → Says G s''.plan s''.holds z p 1 q u j ks → Planned G s s'' z p 1 q u j ks
+  closed s s' s'' y z p n q t u j hs ks o f g P beside kept B S = record { begun = B; kept = other; held = row; says = S }
     where
-      other : (i : ℕ) → (i < p) ⊎ (q ≤ i) → get_or plan'' i 0 ≡ get_or plan i 0
+      other : (i : ℕ) → (i < p) ⊎ (q ≤ i) → get_or s''.plan i 0 ≡ get_or s.plan i 0
       other i (inl h) = beside i (λ e. omega arith) ∙ P.kept i (inl (omega arith))
       other i (inr h) = beside i (λ e. omega arith) ∙ P.kept i (inr h)
 
-      row : (i : ℕ) → (i < 2 * j) ⊎ (2 * z.holds ≤ i) → get_or holds'' i 0 ≡ get_or holds i 0
+      row : (i : ℕ) → (i < 2 * j) ⊎ (2 * z.holds ≤ i) → get_or s''.holds i 0 ≡ get_or s.holds i 0
       row i (inl h) = kept i (inl (omega arith)) ∙ P.held i (inl h)
       row i (inr h) = kept i (inr h) ∙ P.held i (inr (omega arith))
 
 -- ---- by the fault that is met
-pub ended-map : {tally : List ℕ} {end r : ℕ} {P Q : Type 0} {o : Option Fault} → (P → Q) → Ended tally end r P o → Ended tally end r Q o
+pub ok-same : (x m : ℕ) (r : Result ℕ value.Fault) → r ≡ Ok x → r ≡ Ok m → x ≡ m
+ok-same x m r i e = let h : ◌≡◌ {A = Result ℕ value.Fault} (Ok x) (Ok m) = sym i ∙ e in cc
+
+pub ok-err : (x : ℕ) (g : value.Fault) (r : Result ℕ value.Fault) → r ≡ Ok x → r ≡ Err g → ⊥
+ok-err x g r i e = let h : ◌≡◌ {A = Result ℕ value.Fault} (Ok x) (Err g) = sym i ∙ e in cc
+
+pub err-same : (t g : value.Fault) (r : Result ℕ value.Fault) → r ≡ Err t → r ≡ Err g → t ≡ g
+err-same t g r i e = let h : ◌≡◌ {A = Result ℕ value.Fault} (Err t) (Err g) = sym i ∙ e in cc
+
+pub ended-map : {end : ℕ} {r : Result ℕ value.Fault} {P Q : Type 0} {o : Option Fault} → (P → Q) → Ended end r P o → Ended end r Q o
 ended-map f (Ended.goes h e) = Ended.goes (f h) e
-ended-map f (Ended.stops h e) = Ended.stops h e
+ended-map f (Ended.stops g i e) = Ended.stops g i e
 
 -- what was walked on
-pub ended-on : {tally tally' : List ℕ} {end r : ℕ} {P Q : Type 0} {o : Option Fault} → 0 < r → (P → Q) → Ended tally end r P o → Ended tally' end r Q o
-ended-on i f (Ended.goes h e) = Ended.goes (f h) e
-ended-on i f (Ended.stops h e) = absurd (omega arith)
+ended-on : {end x : ℕ} {r : Result ℕ value.Fault} {P Q : Type 0} {o : Option Fault} → r ≡ Ok x → (P → Q) → Ended end r P o → Ended end (Ok x) Q o
+ended-on i f (Ended.goes h e) = Ended.goes (f h) (sym i ∙ e)
+ended-on {x = x} {r = r} i f (Ended.stops g j e) = absurd (ok-err x g r i e)
 
-pub ended-then : {tally tally' : List ℕ} {m q x r : ℕ} {P Q R : Type 0} {o u : Option Fault} → 0 < x → Ended tally m x P o → (P → x ≡ m → Ended tally' q r Q u) → (P → Q → R) → Ended tally' q r R (or_else o u)
-ended-then i (Ended.goes h e) k f = ended-map (f h) (k h e)
-ended-then i (Ended.stops h e) k f = absurd (omega arith)
+pub ended-then : {m q x : ℕ} {r r' : Result ℕ value.Fault} {P Q R : Type 0} {o u : Option Fault} → r ≡ Ok x → Ended m r P o → (P → x ≡ m → Ended q r' Q u) → (P → Q → R) → Ended q r' R (or_else o u)
+ended-then {m = m} {x = x} {r = r} i (Ended.goes h e) k f = ended-map (f h) (k h (ok-same x m r i e))
+ended-then {x = x} {r = r} i (Ended.stops g j e) k f = absurd (ok-err x g r i e)
 
--- what was stopped
-pub ended-stop : {tally : List ℕ} {m q x : ℕ} {P R : Type 0} {o : Option Fault} (u : Option Fault) (p : ℕ) → x ≤ p → p < m → Ended tally m x P o → Ended tally q 0 R (or_else o u)
-ended-stop u p i j (Ended.goes h e) = absurd (omega arith)
-ended-stop u p i j (Ended.stops h e) = Ended.stops h refl
+-- a fault that is passed on
+pub ended-stop : {m q : ℕ} {r w : Result ℕ value.Fault} {P R : Type 0} {o : Option Fault} (u : Option Fault) (t : value.Fault) → r ≡ Err t → w ≡ r → Ended m r P o → Ended q w R (or_else o u)
+ended-stop {m = m} {r = r} u t i k (Ended.goes h e) = absurd (ok-err m t r e i)
+ended-stop u t i k (Ended.stops g j e) = Ended.stops g j (k ∙ e)
 
-ended-stopped : {tally : List ℕ} {m q x : ℕ} {P R : Type 0} {o : Option Fault} (p : ℕ) → x ≤ p → p < m → Ended tally m x P o → Ended tally q 0 R o
-ended-stopped p i j (Ended.goes h e) = absurd (omega arith)
-ended-stopped p i j (Ended.stops h e) = Ended.stops h refl
+ended-stopped : {m q : ℕ} {r w : Result ℕ value.Fault} {P R : Type 0} {o : Option Fault} (t : value.Fault) → r ≡ Err t → w ≡ r → Ended m r P o → Ended q w R o
+ended-stopped {m = m} {r = r} t i k (Ended.goes h e) = absurd (ok-err m t r e i)
+ended-stopped t i k (Ended.stops g j e) = Ended.stops g j (k ∙ e)
+
+-- an end is past the place
+ended-past : {m x p : ℕ} {r : Result ℕ value.Fault} {P : Type 0} {o : Option Fault} → r ≡ Ok x → x ≤ p → p < m → Ended m r P o → ⊥
+ended-past {m = m} {x = x} {r = r} i l b (Ended.goes h e) = omega (arith, ok-same x m r i e)
+ended-past {x = x} {r = r} i l b (Ended.stops g j e) = ok-err x g r i e
+
+-- what a `?` passes on
+pub passes : (r w : Result ℕ value.Fault) (t : value.Fault) → IsErr r × IsErrAnd r (λ y. y ≡ t) → w ≡ Err t → r ≡ w
+passes r w t e h = let p = err_from_is_err_and r e.1 in rw (p.1, p.2) (sym h)
 
 -- ---- tables as long as before
 pub record Sized (s s' : Tables) : Type 0 where
@@ -221,6 +245,25 @@ pub record Sized (s s' : Tables) : Type 0 where
   pub flags : length s'.flags ≡ length s.flags
   pub firsts : length s'.firsts ≡ length s.firsts
   pub holds : length s'.holds ≡ length s.holds
+
+pub sized : {n n' : Notes} → StillLent n n' → Sized (tables_of n) (tables_of n')
+sized L = record { plan = L.plan-long; flags = L.flags-long; firsts = L.firsts-long; holds = L.holds-long }
+
+pub still-then : {a b c : Notes} → StillLent a b → StillLent b c → StillLent a c
+still-then L M =
+    record {
+      plan = M.plan ∙ L.plan;
+      same_flags = M.same_flags ∙ L.same_flags;
+      same_firsts = M.same_firsts ∙ L.same_firsts;
+      same_holds = M.same_holds ∙ L.same_holds;
+      flags = M.flags ∙ L.flags;
+      firsts = M.firsts ∙ L.firsts;
+      holds = M.holds ∙ L.holds;
+      plan-long = M.plan-long ∙ L.plan-long;
+      flags-long = M.flags-long ∙ L.flags-long;
+      firsts-long = M.firsts-long ∙ L.firsts-long;
+      holds-long = M.holds-long ∙ L.holds-long;
+    }
 
 module _ (A : Arrays) where
   pub roomy_after : (T : Setting) (s s' : Tables) → Sized s s' → Roomy A T s → Roomy A T s'
@@ -234,10 +277,10 @@ module _ (A : Arrays) where
   counted T e c y ids = yield-count T.types T.nodes T.node ids e c y.holds ∙ yield-holds T.types T.nodes T.node ids e c y.holds y refl
 
   -- no expression stands past the end
-  pub walks-past : (s : Tables) (p r : ℕ) → length A.tags ≤ p → Walks A s s p r
+  pub walks-past : (s : Tables) (p : ℕ) (r : Result ℕ value.Fault) → length A.tags ≤ p → Walks A s s p r
   walks-past s p r h = record { walk = λ T c e q y K R d B. let x = seen_at e refl refl refl d in absurd (omega arith) }
 
-  module _ (s s' : Tables) (p r : ℕ) where
+  module _ (s s' : Tables) (p : ℕ) (r : Result ℕ value.Fault) where
     -- a when
     pub walks-sample : 67 ≤ get_or A.tags p 0 → get_or A.tags p 0 < 69 → Walks A s s' (p + 1) r → Walks A s s' p r
     unfolding needed yield fault_in
@@ -245,7 +288,7 @@ module _ (A : Arrays) where
       walk = λ T c e q y K R d B.
           let x = seen_at e refl refl refl d in
           let o = sample_in x.2 lo hi in
-          rw o.2 (ended-map (λ P. shifted (ground_of A T) _ _ _ _ _ _ _ _ p 1 1 q _ _ _ _ (says-drop (ground_of A T) _ _ _ p q _ _ _ x.0 lo hi P.says) P) (E.walk T (parent c) o.1 q y K R o.3 B));
+          rw o.2 (ended-map (λ P. shifted (ground_of A T) s s' _ p 1 1 q _ _ _ _ (says-drop (ground_of A T) _ _ _ p q _ _ _ x.0 lo hi P.says) P) (E.walk T (parent c) o.1 q y K R o.3 B));
     }
 
     -- a merge
@@ -255,16 +298,17 @@ module _ (A : Arrays) where
       walk = λ T c e q y K R d B.
           let x = seen_at e refl refl refl d in
           let o = join-in x.2 t in
-          rw o.4 (ended-map (λ P. retold (ground_of A T) _ _ _ _ _ _ _ _ _ p 1 q _ _ _ _ _ refl (join-codes (ground_of A T) c o.0 o.1 o.2 y.holds) (λ ids. refl)
-          (shifted (ground_of A T) _ _ _ _ _ _ _ _ p 2 1 q _ _ _ _ (says-join (ground_of A T) _ _ _ p q o.0 _ _ _ x.0 t o.5 P.says) P)) (E.walk T (c ↓ is_on o.0) (c ↓ is_not o.0) o.1 o.2 o.3 q y K R o.6 o.7 B));
+          rw o.4 (ended-map (λ P. retold (ground_of A T) s s' _ _ p 1 q _ _ _ _ _ refl (join-codes (ground_of A T) c o.0 o.1 o.2 y.holds) (λ ids. refl)
+          (shifted (ground_of A T) s s' _ p 2 1 q _ _ _ _ (says-join (ground_of A T) _ _ _ p q o.0 _ _ _ x.0 t o.5 P.says) P)) (E.walk T (c ↓ is_on o.0) (c ↓ is_not o.0) o.1 o.2 o.3 q y K R o.6 o.7 B));
     }
 
     -- what computes
-    pub walks-plain : (get_or A.tags p 0 ≡ 58 → ⊥) → (get_or A.tags p 0 ≡ 59 → ⊥) → (get_or A.tags p 0 ≡ 60 → ⊥) → (get_or A.tags p 0 ≡ 67 → ⊥) → (get_or A.tags p 0 ≡ 68 → ⊥) → (get_or A.tags p 0 ≡ 69 → ⊥) → (n : ℕ) → n ≡ follows (get_or A.tags p 0) (get_or A.values p 0) →
+    pub walks-plain : (get_or A.tags p 0 ≡ 58 → ⊥) → (get_or A.tags p 0 ≡ 59 → ⊥) → (get_or A.tags p 0 ≡ 60 → ⊥) → (get_or A.tags p 0 ≡ 67 → ⊥) → (get_or A.tags p 0 ≡ 68 → ⊥) → (get_or A.tags p 0 ≡ 69 → ⊥) → (n v : ℕ) → v ≡ get_or A.values p 0 → n ≡ follows (get_or A.tags p 0) v →
         WalksAll A s s' n (p + 1) r → Walks A s s' p r
-    walks-plain n58 n59 n60 n67 n68 n69 n i E = record {
+    walks-plain n58 n59 n60 n67 n68 n69 n v w j E = record {
       walk = λ T c e q y K R d B.
           let G = ground_of A T in
+          let i = j ∙ ap (follows (get_or A.tags p 0)) w in
           let x = seen_at e refl refl refl d in
           let o = plain_in x.2 n58 n59 n60 n67 n68 n69 in
           let us = o.0 in
@@ -274,51 +318,48 @@ module _ (A : Arrays) where
           let W = E.walk T c us ds q y K R D B in
           let stays = stays-but (get_or A.tags p 0) n58 n59 n60 n67 n68 n69 in
           let U : Leaves A T s s' (needed T.nodes c e y) p 1 q (tree_codes G c y.holds e) y.holds (tree_holds G c y.holds e) r (fault_among T.types T.nodes T.node c c us) =
-          ended-map (λ P. retold G _ _ _ _ _ _ _ (needed_all T.nodes c c us y) (needed T.nodes c e y) p 1 q _ _ _ _ _ (computes-needs G e us f.computes c y) (computes-codes G e us p ds f.computes f.framed c y.holds) (computes-holds G e us f.computes c y.holds)
-          (shifted G _ _ _ _ _ _ _ (needed_all T.nodes c c us y) p n 1 q _ _ _ _ (says-stay G _ _ (needed_all T.nodes c c us y) p 0 q (frame_codes G c y.holds us ds) y.holds (frame_holds G c y.holds us) x.0 stays
+          ended-map (λ P. retold G s s' (needed_all T.nodes c c us y) (needed T.nodes c e y) p 1 q _ _ _ _ _ (computes-needs G e us f.computes c y) (computes-codes G e us p ds f.computes f.framed c y.holds) (computes-holds G e us f.computes c y.holds)
+          (shifted G s s' (needed_all T.nodes c c us y) p n 1 q _ _ _ _ (says-stay G _ _ (needed_all T.nodes c c us y) p 0 q (frame_codes G c y.holds us ds) y.holds (frame_holds G c y.holds us) x.0 stays
           (subst (λ (z : ℕ). Says G s'.plan s'.holds (needed_all T.nodes c c us y) (p + 1) z q (frame_codes G c y.holds us ds) y.holds (frame_holds G c y.holds us)) (omega arith) P.says)) P)) W in
           subst (λ (z : Option Fault). Leaves A T s s' (needed T.nodes c e y) p 1 q (tree_codes G c y.holds e) y.holds (tree_holds G c y.holds e) r z) (computes-fault G e us f.computes c) U;
     }
 
-  -- ---- a `->`, a call and a `pre` whose operands were walked up to x
-  module _ (s s' : Tables) (p x : ℕ) where
-    -- a fault was met there
-    pub follow-stops : get_or A.tags p 0 ≡ 59 → x ≤ p → WalksBoth A s s' (p + 1) x → Walks A s s' p 0
+  -- ---- a `->`, a call and a `pre` in whose operands a fault was met
+  module _ (s s' : Tables) (p : ℕ) (r w : Result ℕ value.Fault) (g : value.Fault) (i : r ≡ Err g) (k : w ≡ r) where
+    pub follow-stops : get_or A.tags p 0 ≡ 59 → WalksBoth A s s' (p + 1) r → Walks A s s' p w
     unfolding needed yield fault_in
-    follow-stops t i E = record {
+    follow-stops t E = record {
       walk = λ T c e q y K R d B.
           let v = seen_at e refl refl refl d in
           let o = follow-in v.2 t in
-          let f = owed-on (lies-owed o.5) in
-          let g = owed-on (lies-owed o.6) in
-          rw o.3 (ended-stopped {m = q} p i (omega arith) (E.walk T c c o.0 o.1 o.2 q y K R o.5 o.6 B));
+          rw o.3 (ended-stopped {m = q} g i k (E.walk T c c o.0 o.1 o.2 q y K R o.5 o.6 B));
     }
 
-    pub call-stops : get_or A.tags p 0 ≡ 60 → x ≤ p → WalksAll A s s' 1 (p + 1) x → Walks A s s' p 0
+    pub call-stops : get_or A.tags p 0 ≡ 60 → WalksAll A s s' 1 (p + 1) r → Walks A s s' p w
     unfolding needed yield fault_in
-    call-stops t i E = record {
+    call-stops t E = record {
       walk = λ T c e q y K R d B.
           let v = seen_at e refl refl refl d in
           let o = calls-in v.2 t in
-          let f = owed-on (lies-owed o.6) in
-          rw o.3 (ended-stop {m = q} _ p i (omega arith) (E.walk T c o.1 o.2 q y K R o.6 B));
+          rw o.3 (ended-stop {m = q} _ g i k (E.walk T c o.1 o.2 q y K R o.6 B));
     }
 
-    pub previous-stops : get_or A.tags p 0 ≡ 58 → x ≤ p → Walks A s s' (p + 1) x → Walks A s s' p 0
+    pub previous-stops : get_or A.tags p 0 ≡ 58 → Walks A s s' (p + 1) r → Walks A s s' p w
     unfolding needed yield fault_in
-    previous-stops t i E = record {
+    previous-stops t E = record {
       walk = λ T c e q y K R d B.
           let v = seen_at e refl refl refl d in
           let o = previous-in v.2 t in
-          let f = owed-on (lies-owed o.3) in
-          rw o.1 (ended-stop {m = q} _ p i (omega arith) (E.walk T c o.0 q y K R o.3 B));
+          rw o.1 (ended-stop {m = q} _ g i k (E.walk T c o.0 q y K R o.3 B));
     }
 
-    module _ (s'' : Tables) (r : ℕ) (L : Sized s s') (L' : Sized s' s'') (i : p < x) where
+  -- ---- and whose operands were walked up to x
+  module _ (s s' s'' : Tables) (p x : ℕ) (r₀ : Result ℕ value.Fault) (went : r₀ ≡ Ok x) where
+    module _ (L : Sized s s') (L' : Sized s' s'') where
       -- a `->`
-      pub walks-follow : get_or A.tags p 0 ≡ 59 → WalksBoth A s s' (p + 1) x → s''.holds ≡ s'.holds → ((y : Needs) → Begun s'.flags s'.firsts s'.tally y → Followed s'.plan s''.plan s''.flags s''.firsts s''.tally (clock_in A.sites (17 * p)) y p) → Walks A s s'' p x
+      pub walks-follow : get_or A.tags p 0 ≡ 59 → WalksBoth A s s' (p + 1) r₀ → ((y : Needs) → Begun s' y → Followed s' s'' (clock_in A.sites (17 * p)) y p) → Walks A s s'' p (Ok x)
       unfolding needed yield fault_in
-      walks-follow t E h F = record {
+      walks-follow t E F = record {
         walk = λ T c e q y K R d B.
             let G = ground_of A T in
             let v = seen_at e refl refl refl d in
@@ -338,20 +379,20 @@ module _ (A : Arrays) where
             let fits = R.plan in
             let wide = L.plan in
             let there = v.0 in
-            rw o.3 (ended-on (omega arith) (λ P.
-            let D : Followed s'.plan s''.plan s''.flags s''.firsts s''.tally c z p = subst (λ (w : Clock). Followed s'.plan s''.plan s''.flags s''.firsts s''.tally w z p) on (F z P.begun) in
-            retold G s.plan s''.plan s''.flags s''.firsts s.holds s''.holds s''.tally (settled (arrow_turn c) c z) (settled (arrow_turn c) c z) p 1 q _ _ y.holds _ _ refl (arrow-codes G c a b y.holds) (λ ids. refl)
-            (closed G s.plan s'.plan s''.plan s'.flags s'.firsts s''.flags s''.firsts s.holds s'.holds s''.holds s'.tally s''.tally z (settled (arrow_turn c) c z) p 2 q _ _ y.holds _ _ u (omega arith) (omega arith) P D.beside (λ j w. ap (λ (l : List ℕ). get_or l j 0) h) D.begun
-            (subst (λ (l : List ℕ). Says G s''.plan l (settled (arrow_turn c) c z) p 1 q (λ ids. arrow_codes c ids (both_codes G c c y.holds a b ids)) y.holds (both_holds G c c y.holds a b)) (sym h)
+            rw o.3 (ended-on went (λ P.
+            let D : Followed s' s'' c z p = subst (λ (w : Clock). Followed s' s'' w z p) on (F z P.begun) in
+            retold G s s'' (settled (arrow_turn c) c z) (settled (arrow_turn c) c z) p 1 q _ _ y.holds _ _ refl (arrow-codes G c a b y.holds) (λ ids. refl)
+            (closed G s s' s'' z (settled (arrow_turn c) c z) p 2 q _ _ y.holds _ _ u (omega arith) (omega arith) P D.beside (λ j w. ap (λ (l : List ℕ). get_or l j 0) D.held) D.begun
+            (subst (λ (l : List ℕ). Says G s''.plan l (settled (arrow_turn c) c z) p 1 q (λ ids. arrow_codes c ids (both_codes G c c y.holds a b ids)) y.holds (both_holds G c c y.holds a b)) (sym D.held)
             (says-follow G s'.plan s''.plan z c p q (both_codes G c c y.holds a b) y.holds (both_holds G c c y.holds a b) there u D.beside s'.holds o.4 (λ j w. D.word (omega arith) (omega (arith, room.firsts)) w) P.says)))) W);
       }
 
       -- a call
-      pub walks-call : get_or A.tags p 0 ≡ 60 → WalksAll A s s' 1 (p + 1) x → s''.holds ≡ s'.holds → s''.firsts ≡ s'.firsts →
-          ((types : List TypeDef) (l : List Node) (node : Node) (firsts : List ℕ) (y : Needs) → NodesStand A.names A.tags A.values A.places A.nodes l → Table A.names (tokens A.tags A.values) A.defs A.types types → DefaultsKnown types A.types A.types A.has → Begun s'.flags firsts s'.tally y →
-          Ended s''.tally x r (Gated s'.plan s''.plan s''.flags firsts s''.tally (clock_in A.sites (17 * p)) (is_there (operator_outputs l (get_or A.values p 0))) y p) (gate_fault types l node (get_or A.values p 0) (gate_of types l node (clock_in A.sites (17 * p)) (get_or A.values p 0)))) → Walks A s s'' p r
+      pub walks-call : (r : Result ℕ value.Fault) → get_or A.tags p 0 ≡ 60 → WalksAll A s s' 1 (p + 1) r₀ →
+          ((types : List TypeDef) (l : List Node) (node : Node) (y : Needs) → NodesStand A.names A.tags A.values A.places A.nodes l → Table A.names (tokens A.tags A.values) A.defs A.types types → DefaultsKnown types A.types A.types A.has → Begun s' y →
+          Ended x r (Gated s' s'' (clock_in A.sites (17 * p)) (is_there (operator_outputs l (get_or A.values p 0))) y p) (gate_fault types l node (get_or A.values p 0) (gate_of types l node (clock_in A.sites (17 * p)) (get_or A.values p 0)))) → Walks A s s'' p r
       unfolding needed yield fault_in
-      walks-call t E h j F = record {
+      walks-call r t E F = record {
         walk = λ T c e q y K R d B.
             let G = ground_of A T in
             let v = seen_at e refl refl refl d in
@@ -373,31 +414,31 @@ module _ (A : Arrays) where
             let wide = L.plan in
             let there = v.0 in
             let fault = gate_fault T.types T.nodes T.node f (gate_of T.types T.nodes T.node c f) in
-            let next : Planned G s.plan s'.plan s'.flags s'.firsts s.holds s'.holds s'.tally z (p + 1) 1 q (frame_codes G c y.holds us ds) y.holds (frame_holds G c y.holds us) → x ≡ q →
-            Ended s''.tally q r ((fault ≡ none) × Gated s'.plan s''.plan s''.flags s'.firsts s''.tally c (is_there out) z p) fault =
-            λ P m. with_none fault (subst (λ (w : ℕ). Ended s''.tally w r (Gated s'.plan s''.plan s''.flags s'.firsts s''.tally c (is_there out) z p) fault) m
-            (subst (λ (w : ℕ). Ended s''.tally x r (Gated s'.plan s''.plan s''.flags s'.firsts s''.tally c (is_there (operator_outputs T.nodes w)) z p) (gate_fault T.types T.nodes T.node w (gate_of T.types T.nodes T.node c w))) val
-            (subst (λ (w : Clock). Ended s''.tally x r (Gated s'.plan s''.plan s''.flags s'.firsts s''.tally w (is_there (operator_outputs T.nodes (get_or A.values p 0))) z p) (gate_fault T.types T.nodes T.node (get_or A.values p 0) (gate_of T.types T.nodes T.node w (get_or A.values p 0)))) on
-            (F T.types T.nodes T.node s'.firsts z K.standing K.table K.defaulted P.begun)))) in
-            rw o.3 (ended-then (omega arith) W next (λ P Q.
+            let next : Planned G s s' z (p + 1) 1 q (frame_codes G c y.holds us ds) y.holds (frame_holds G c y.holds us) → x ≡ q →
+            Ended q r ((fault ≡ none) × Gated s' s'' c (is_there out) z p) fault =
+            λ P m. with_none fault (subst (λ (w : ℕ). Ended w r (Gated s' s'' c (is_there out) z p) fault) m
+            (subst (λ (w : ℕ). Ended x r (Gated s' s'' c (is_there (operator_outputs T.nodes w)) z p) (gate_fault T.types T.nodes T.node w (gate_of T.types T.nodes T.node c w))) val
+            (subst (λ (w : Clock). Ended x r (Gated s' s'' w (is_there (operator_outputs T.nodes (get_or A.values p 0))) z p) (gate_fault T.types T.nodes T.node (get_or A.values p 0) (gate_of T.types T.nodes T.node w (get_or A.values p 0)))) on
+            (F T.types T.nodes T.node z K.standing K.table K.defaulted P.begun)))) in
+            rw o.3 (ended-then went W next (λ P Q.
             let D = Q.1 in
             let w = settled (call_turn c (is_there out)) c z in
-            retold G s.plan s''.plan s''.flags s''.firsts s.holds s''.holds s''.tally w w p 1 q _ _ y.holds _ _ refl (call-codes G f us p ds o.4 (subst (λ (w : Expr). Framed A.tags A.values w us p ds) o.3 o.5) c y.holds) (λ ids. refl)
-            (closed G s.plan s'.plan s''.plan s'.flags s'.firsts s''.flags s''.firsts s.holds s'.holds s''.holds s'.tally s''.tally z w p 1 q _ _ y.holds _ _ u k (omega arith) P D.beside (λ i a. ap (λ (l : List ℕ). get_or l i 0) h) (subst (λ (l : List ℕ). Begun s''.flags l s''.tally w) (sym j) D.begun)
-            (subst (λ (l : List ℕ). Says G s''.plan l w p 1 q (λ ids. call_codes (defaults_in G) (gate_of T.types T.nodes T.node c f) c f ids (frame_codes G c y.holds us ds ids)) y.holds (frame_holds G c y.holds us)) (sym h)
+            retold G s s'' w w p 1 q _ _ y.holds _ _ refl (call-codes G f us p ds o.4 (subst (λ (w : Expr). Framed A.tags A.values w us p ds) o.3 o.5) c y.holds) (λ ids. refl)
+            (closed G s s' s'' z w p 1 q _ _ y.holds _ _ u k (omega arith) P D.beside (λ i a. ap (λ (l : List ℕ). get_or l i 0) D.held) D.begun
+            (subst (λ (l : List ℕ). Says G s''.plan l w p 1 q (λ ids. call_codes (defaults_in G) (gate_of T.types T.nodes T.node c f) c f ids (frame_codes G c y.holds us ds ids)) y.holds (frame_holds G c y.holds us)) (sym D.held)
             (says-call G s'.plan s''.plan z c p q (frame_codes G c y.holds us ds) y.holds (frame_holds G c y.holds us) there u D.beside s'.holds f o.4 Q.0 (λ a b. D.word (omega arith) (omega (arith, room.flags)) b) P.says)))));
       }
         where
-          with_none : (o : Option Fault) → {tally : List ℕ} {q r : ℕ} {P : Type 0} → Ended tally q r P o → Ended tally q r ((o ≡ none) × P) o
+          with_none : (o : Option Fault) → {q : ℕ} {r : Result ℕ value.Fault} {P : Type 0} → Ended q r P o → Ended q r ((o ≡ none) × P) o
           with_none o (Ended.goes a b) = Ended.goes (refl, a) b
-          with_none o (Ended.stops a b) = Ended.stops a b
+          with_none o (Ended.stops g a b) = Ended.stops g a b
 
       -- a `pre`
-      pub walks-previous : get_or A.tags p 0 ≡ 58 → Walks A s s' (p + 1) x → s''.firsts ≡ s'.firsts →
-          ((e : Expr) (q : ℕ) (ds : List Declared) (firsts : List ℕ) (y : Needs) → tree A.names (tokens A.tags A.values) (p + 1) ≡ got e q → (p + 1 < length A.tags) × (is_bare e ≡ eqb (get_or A.tags (p + 1) 0) 54) → Declares A.names (tokens A.tags A.values) A.typed ds → Begun s'.flags firsts s'.tally y →
-          Ended s''.tally x r (Preceded s'.plan s''.plan s''.flags firsts s'.holds s''.holds s''.tally (clock_in A.sites (17 * p)) (is_bare e) y p) (pre_fault (pre_turn (clock_in A.sites (17 * p)) (is_bare e)) (operand_type ds e))) → Walks A s s'' p r
+      pub walks-previous : (r : Result ℕ value.Fault) → get_or A.tags p 0 ≡ 58 → Walks A s s' (p + 1) r₀ →
+          ((e : Expr) (q : ℕ) (ds : List Declared) (y : Needs) → tree A.names (tokens A.tags A.values) (p + 1) ≡ got e q → (p + 1 < length A.tags) × (is_bare e ≡ eqb (get_or A.tags (p + 1) 0) 54) → Declares A.names (tokens A.tags A.values) A.typed ds → Begun s' y →
+          Ended x r (Preceded s' s'' (clock_in A.sites (17 * p)) (is_bare e) y p) (pre_fault (pre_turn (clock_in A.sites (17 * p)) (is_bare e)) (operand_type ds e))) → Walks A s s'' p r
       unfolding needed yield fault_in
-      walks-previous t E j F = record {
+      walks-previous r t E F = record {
         walk = λ T c e q y K R d B.
             let G = ground_of A T in
             let v = seen_at e refl refl refl d in
@@ -420,24 +461,24 @@ module _ (A : Arrays) where
             let there = v.0 in
             let type = type_or (operand_type (declared T.node) a) in
             let fault = pre_fault (pre_turn c bare) (operand_type (declared T.node) a) in
-            let next : Planned G s.plan s'.plan s'.flags s'.firsts s.holds s'.holds s'.tally z (p + 1) 1 q (tree_codes G c y.holds a) y.holds (tree_holds G c y.holds a) → x ≡ q →
-            Ended s''.tally q r ((fault ≡ none) × Preceded s'.plan s''.plan s''.flags s'.firsts s'.holds s''.holds s''.tally c bare z p) fault =
-            λ P m. with_none fault (subst (λ (w : ℕ). Ended s''.tally w r (Preceded s'.plan s''.plan s''.flags s'.firsts s'.holds s''.holds s''.tally c bare z p) fault) m
-            (subst (λ (w : Clock). Ended s''.tally x r (Preceded s'.plan s''.plan s''.flags s'.firsts s'.holds s''.holds s''.tally w bare z p) (pre_fault (pre_turn w bare) (operand_type (declared T.node) a))) on
-            (F a q (declared T.node) s'.firsts z inner.1.stands (inner.0, bare-is inner.2) K.declares P.begun))) in
-            rw o.1 (ended-then (omega arith) W next (λ P Q.
+            let next : Planned G s s' z (p + 1) 1 q (tree_codes G c y.holds a) y.holds (tree_holds G c y.holds a) → x ≡ q →
+            Ended q r ((fault ≡ none) × Preceded s' s'' c bare z p) fault =
+            λ P m. with_none fault (subst (λ (w : ℕ). Ended w r (Preceded s' s'' c bare z p) fault) m
+            (subst (λ (w : Clock). Ended x r (Preceded s' s'' w bare z p) (pre_fault (pre_turn w bare) (operand_type (declared T.node) a))) on
+            (F a q (declared T.node) z inner.1.stands (inner.0, bare-is inner.2) K.declares P.begun))) in
+            rw o.1 (ended-then went W next (λ P Q.
             let D = Q.1 in
             let w = settled (pre_turn c bare) c z in
             let value : Ids → Expr = λ ids. (yield T.types T.nodes T.node ids c y.holds a).value in
-            retold G s.plan s''.plan s''.flags s''.firsts s.holds s''.holds s''.tally w w p 1 q _ _ y.holds _ _ refl (pre-codes G c a y) (pre_held G c a y)
-            (closed G s.plan s'.plan s''.plan s'.flags s'.firsts s''.flags s''.firsts s.holds s'.holds s''.holds s'.tally s''.tally z w p 1 q _ _ y.holds _ _ u k n P D.beside D.kept (subst (λ (l : List ℕ). Begun s''.flags l s''.tally w) (sym j) D.begun)
+            retold G s s'' w w p 1 q _ _ y.holds _ _ refl (pre-codes G c a y) (pre_held G c a y)
+            (closed G s s' s'' z w p 1 q _ _ y.holds _ _ u k n P D.beside D.kept D.begun
             (says-previous G s'.plan s''.plan s'.holds s''.holds z c bare p q a type value y.holds (tree_holds G c y.holds a) there u D.beside (counted T a c y) P.says inner.1.stands (typed-when c bare (operand_type (declared T.node) a) Q.0) D.kept
             (λ b f h l m i. D.row b f (omega arith) h (omega (arith, near.holds)) (omega (arith, room.flags)) i) o.2 (lies-owed o.3) (λ h. D.word (omega arith) h)))));
       }
         where
-          with_none : (o : Option Fault) → {tally : List ℕ} {q r : ℕ} {P : Type 0} → Ended tally q r P o → Ended tally q r ((o ≡ none) × P) o
+          with_none : (o : Option Fault) → {q : ℕ} {r : Result ℕ value.Fault} {P : Type 0} → Ended q r P o → Ended q r ((o ≡ none) × P) o
           with_none o (Ended.goes a b) = Ended.goes (refl, a) b
-          with_none o (Ended.stops a b) = Ended.stops a b
+          with_none o (Ended.stops g a b) = Ended.stops g a b
 
           typed-when : (c : Clock) (bare : Bool) (o : Option Ty) → pre_fault (pre_turn c bare) o ≡ none → is_base c ≡ false → bare ≡ false → o ≡ some (type_or o)
           typed-when c bare o z b f = go o (rw (b, f) at z)
@@ -447,24 +488,34 @@ module _ (A : Arrays) where
               go (some t) h = refl
 
   -- ---- two expressions, and parts
-  module _ (s s' : Tables) (p x : ℕ) (E : Walks A s s' p x) where
-    pub both-stops : x ≤ p → WalksBoth A s s' p 0
-    both-stops i = record {
-      walk = λ T c d a b m q y K R da db B.
-          let f = owed-on (lies-owed da) in
-          ended-stop {m = m} (fault_in T.types T.nodes T.node d b) p i (omega arith) (E.walk T c a m y K R da B);
-    }
+  module _ (s s' : Tables) (p : ℕ) (r₀ : Result ℕ value.Fault) (E : Walks A s s' p r₀) where
+    -- a fault was met
+    module _ (w : Result ℕ value.Fault) (g : value.Fault) (i : r₀ ≡ Err g) (k : w ≡ r₀) where
+      pub both-stops : WalksBoth A s s' p w
+      both-stops = record { walk = λ T c d a b m q y K R da db B. ended-stop {m = m} (fault_in T.types T.nodes T.node d b) g i k (E.walk T c a m y K R da B) }
 
-    pub item-stops : 50 ≤ get_or A.tags p 0 → (n : ℕ) → 0 < n → x ≤ p → WalksAll A s s' n p 0
-    unfolding fault_in
-    item-stops t n z i = record {
-      walk = λ T c es fs q y K R d B.
-          let o = expr-first d z t in
-          let f = owed-on (lies-owed o.here) in
-          rw o.whole (ended-stop {m = o.end} (fault_among T.types T.nodes T.node c c o.others) p i (omega arith) (E.walk T c o.first o.end y K R o.here B));
-    }
+      pub item-stops : 50 ≤ get_or A.tags p 0 → (n : ℕ) → 0 < n → WalksAll A s s' n p w
+      unfolding fault_in
+      item-stops t n z = record {
+        walk = λ T c es fs q y K R d B.
+            let o = expr-first d z t in
+            rw o.whole (ended-stop {m = o.end} (fault_among T.types T.nodes T.node c c o.others) g i k (E.walk T c o.first o.end y K R o.here B));
+      }
 
-    module _ (s'' : Tables) (r : ℕ) (L : Sized s s') (i : p < x) where
+    -- an expression ends past its place
+    module _ (x : ℕ) (went : r₀ ≡ Ok x) (r : Result ℕ value.Fault) (i : x ≤ p) where
+      pub both-past : WalksBoth A s s' p r
+      both-past = record { walk = λ T c d a b m q y K R da db B. let f = owed-on (lies-owed da) in absurd (ended-past went i (omega arith) (E.walk T c a m y K R da B)) }
+
+      pub item-past : 50 ≤ get_or A.tags p 0 → (n : ℕ) → 0 < n → WalksAll A s s' n p r
+      item-past t n z = record {
+        walk = λ T c es fs q y K R d B.
+            let o = expr-first d z t in
+            let f = owed-on (lies-owed o.here) in
+            absurd (ended-past went i (omega arith) (E.walk T c o.first o.end y K R o.here B));
+      }
+
+    module _ (x : ℕ) (went : r₀ ≡ Ok x) (s'' : Tables) (r : Result ℕ value.Fault) (L : Sized s s') where
       pub walks-both : Walks A s' s'' x r → WalksBoth A s s'' p r
       walks-both F = record {
         walk = λ T c d a b m q y K R da db B.
@@ -473,17 +524,17 @@ module _ (A : Arrays) where
             let g = owed-on (lies-owed db) in
             let w = needed T.nodes c a y in
             let z = needed T.nodes d b w in
-            ended-then (omega arith) (E.walk T c a m y K R da B)
+            ended-then went (E.walk T c a m y K R da B)
             (λ P e. subst (λ (u : ℕ). Leaves A T s' s'' z u 1 q (tree_codes G d w.holds b) w.holds (tree_holds G d w.holds b) r (fault_in T.types T.nodes T.node d b)) e
             (F.walk T d b q w K (roomy_after T s s' L R) (subst (λ (u : ℕ). LiesAt A.tags A.values (Site A) d b u q) (sym e) db) P.begun))
-            (λ P Q. retold G s.plan s''.plan s''.flags s''.firsts s.holds s''.holds s''.tally z z p 2 q (λ ids. tree_codes G c y.holds a ids ++ tree_codes G d w.holds b ids) (both_codes G c d y.holds a b) y.holds (λ ids. tree_holds G c y.holds a ids ++ tree_holds G d w.holds b ids) (both_holds G c d y.holds a b) refl
+            (λ P Q. retold G s s'' z z p 2 q (λ ids. tree_codes G c y.holds a ids ++ tree_codes G d w.holds b ids) (both_codes G c d y.holds a b) y.holds (λ ids. tree_holds G c y.holds a ids ++ tree_holds G d w.holds b ids) (both_holds G c d y.holds a b) refl
             (λ ids. ap (λ (u : ℕ). tree_codes G c y.holds a ids ++ tree_codes G d u b ids) (sym (yield-holds T.types T.nodes T.node ids a c y.holds y refl)))
             (λ ids. ap (λ (u : ℕ). tree_holds G c y.holds a ids ++ tree_holds G d u b ids) (sym (yield-holds T.types T.nodes T.node ids a c y.holds y refl)))
-            (followed-by G s.plan s'.plan s''.plan s'.flags s'.firsts s''.flags s''.firsts s.holds s'.holds s''.holds s'.tally s''.tally w z p 1 m 1 q (tree_codes G c y.holds a) (tree_codes G d w.holds b) y.holds (tree_holds G c y.holds a) (tree_holds G d w.holds b)
+            (followed-by G s s' s'' w z p 1 m 1 q (tree_codes G c y.holds a) (tree_codes G d w.holds b) y.holds (tree_holds G c y.holds a) (tree_holds G d w.holds b)
             (counted T a c y) (grown T a c y) (ahead-needed T.nodes b d w) (omega arith) (omega arith) P Q));
       }
 
-      item : (n : ℕ) → WalksAll A s' s'' n x r → (T : Setting) (c : Clock) (e : Expr) (es : Exprs) (fs : Frame) (m q : ℕ) (y : Needs) → Known A T → Roomy A T s → LiesAt A.tags A.values (Site A) c e p m → Lies A.tags A.values (Site A) c es fs m n q → Begun s.flags s.firsts s.tally y →
+      item : (n : ℕ) → WalksAll A s' s'' n x r → (T : Setting) (c : Clock) (e : Expr) (es : Exprs) (fs : Frame) (m q : ℕ) (y : Needs) → Known A T → Roomy A T s → LiesAt A.tags A.values (Site A) c e p m → Lies A.tags A.values (Site A) c es fs m n q → Begun s y →
           Leaves A T s s'' (needed_all T.nodes c c (Exprs.and e es) y) p (1 + n) q (frame_codes (ground_of A T) c y.holds (Exprs.and e es) (none ∷ fs)) y.holds (frame_holds (ground_of A T) c y.holds (Exprs.and e es)) r (fault_among T.types T.nodes T.node c c (Exprs.and e es))
       unfolding needed yield weave operand_tokens fault_in
       item n F T c e es fs m q y K R d h B =
@@ -492,13 +543,13 @@ module _ (A : Arrays) where
           let g = owed-on (lies-owed h) in
           let w = needed T.nodes c e y in
           let z = needed_all T.nodes c c es w in
-          ended-then (omega arith) (E.walk T c e m y K R d B)
+          ended-then went (E.walk T c e m y K R d B)
           (λ P i. subst (λ (u : ℕ). Leaves A T s' s'' z u n q (frame_codes G c w.holds es fs) w.holds (frame_holds G c w.holds es) r (fault_among T.types T.nodes T.node c c es)) i
           (F.walk T c es fs q w K (roomy_after T s s' L R) (subst (λ (u : ℕ). Lies A.tags A.values (Site A) c es fs u n q) (sym i) h) P.begun))
-          (λ P Q. retold G s.plan s''.plan s''.flags s''.firsts s.holds s''.holds s''.tally z z p (1 + n) q (λ ids. tree_codes G c y.holds e ids ++ frame_codes G c w.holds es fs ids) (frame_codes G c y.holds (Exprs.and e es) (none ∷ fs)) y.holds (λ ids. tree_holds G c y.holds e ids ++ frame_holds G c w.holds es ids) (frame_holds G c y.holds (Exprs.and e es)) refl
+          (λ P Q. retold G s s'' z z p (1 + n) q (λ ids. tree_codes G c y.holds e ids ++ frame_codes G c w.holds es fs ids) (frame_codes G c y.holds (Exprs.and e es) (none ∷ fs)) y.holds (λ ids. tree_holds G c y.holds e ids ++ frame_holds G c w.holds es ids) (frame_holds G c y.holds (Exprs.and e es)) refl
           (λ ids. ap (λ (u : ℕ). tree_codes G c y.holds e ids ++ frame_codes G c u es fs ids) (sym (yield-holds T.types T.nodes T.node ids e c y.holds y refl)))
           (λ ids. ap (λ (u : ℕ). tree_holds G c y.holds e ids ++ frame_holds G c u es ids) (sym (yield-holds T.types T.nodes T.node ids e c y.holds y refl)))
-          (followed-by G s.plan s'.plan s''.plan s'.flags s'.firsts s''.flags s''.firsts s.holds s'.holds s''.holds s'.tally s''.tally w z p 1 m n q (tree_codes G c y.holds e) (frame_codes G c w.holds es fs) y.holds (tree_holds G c y.holds e) (frame_holds G c w.holds es)
+          (followed-by G s s' s'' w z p 1 m n q (tree_codes G c y.holds e) (frame_codes G c w.holds es fs) y.holds (tree_holds G c y.holds e) (frame_holds G c w.holds es)
           (counted T e c y) (grown T e c y) (ahead-all T.nodes es c c w) (omega arith) (omega arith) P Q))
 
       pub walks-item : 50 ≤ get_or A.tags p 0 → (n : ℕ) → 0 < n → WalksAll A s' s'' (n - 1) x r → WalksAll A s s'' n p r
@@ -513,7 +564,7 @@ module _ (A : Arrays) where
       }
 
   -- none are left
-  pub walks-none : (s : Tables) (n p : ℕ) → n ≡ 0 → WalksAll A s s n p p
+  pub walks-none : (s : Tables) (n p : ℕ) → n ≡ 0 → WalksAll A s s n p (Ok p)
   unfolding needed yield weave operand_tokens fault_in
   walks-none s n p z = record {
     walk = λ T c es fs q y K R d B.
@@ -522,7 +573,7 @@ module _ (A : Arrays) where
   }
 
   -- a token that stays
-  pub walks-sign : (s s' : Tables) (n p r : ℕ) → get_or A.tags p 0 < 50 → 0 < n → (m : ℕ) → m ≡ n - 1 + follows (get_or A.tags p 0) (get_or A.values p 0) → WalksAll A s s' m (p + 1) r → WalksAll A s s' n p r
+  pub walks-sign : (s s' : Tables) (n p : ℕ) (r : Result ℕ value.Fault) → get_or A.tags p 0 < 50 → 0 < n → (m : ℕ) → m ≡ n - 1 + follows (get_or A.tags p 0) (get_or A.values p 0) → WalksAll A s s' m (p + 1) r → WalksAll A s s' n p r
   unfolding weave
   walks-sign s s' n p r t z m i E = record {
     walk = λ T c es fs q y K R d B.
@@ -531,7 +582,7 @@ module _ (A : Arrays) where
         let w = needed_all T.nodes c c es y in
         let W = E.walk T c es o.0 q y K R (subst (λ (k : ℕ). Lies A.tags A.values (Site A) c es o.0 (p + 1) k q) (sym i) o.3) B in
         let stays = stays-but (get_or A.tags p 0) (λ u. omega arith) (λ u. omega arith) (λ u. omega arith) (λ u. omega arith) (λ u. omega arith) (λ u. omega arith) in
-        let I = ended-map (λ P. shifted G s.plan s'.plan s'.flags s'.firsts s.holds s'.holds s'.tally w p m (suc (n - 1)) q (frame_codes G c y.holds es o.0) (frame_codes G c y.holds es (some (code_at A.tags A.values p) ∷ o.0)) y.holds (frame_holds G c y.holds es)
+        let I = ended-map (λ P. shifted G s s' w p m (suc (n - 1)) q (frame_codes G c y.holds es o.0) (frame_codes G c y.holds es (some (code_at A.tags A.values p) ∷ o.0)) y.holds (frame_holds G c y.holds es)
         (says-stay G s'.plan s'.holds w p (n - 1) q (frame_codes G c y.holds es o.0) y.holds (frame_holds G c y.holds es) o.2 stays
         (subst (λ (k : ℕ). Says G s'.plan s'.holds w (p + 1) k q (frame_codes G c y.holds es o.0) y.holds (frame_holds G c y.holds es)) i P.says)) P) W in
         let J = subst (λ (u : Frame). Leaves A T s s' w p (suc (n - 1)) q (frame_codes G c y.holds es u) y.holds (frame_holds G c y.holds es) r (fault_among T.types T.nodes T.node c c es)) (sym o.1) I in
@@ -539,8 +590,8 @@ module _ (A : Arrays) where
   }
 
   -- there are tokens for all parts
-  pub parts-past : (s : Tables) (n p r : ℕ) → 0 < n → length A.tags ≤ p → WalksAll A s s n p r
+  pub parts-past : (s : Tables) (n p : ℕ) (r : Result ℕ value.Fault) → 0 < n → length A.tags ≤ p → WalksAll A s s n p r
   parts-past s n p r z h = record { walk = λ T c es fs q y K R d B. let f = owed-few (lies-owed d) in absurd (omega arith) }
 
-  pub parts-over : (s : Tables) (n p r : ℕ) → length A.tags < n → WalksAll A s s n p r
+  pub parts-over : (s : Tables) (n p : ℕ) (r : Result ℕ value.Fault) → length A.tags < n → WalksAll A s s n p r
   parts-over s n p r h = record { walk = λ T c es fs q y K R d B. let f = owed-few (lies-owed d) in absurd (omega arith) }

@@ -1,3 +1,4 @@
+pub mod Tables
 pub mod Planned
 pub mod Closed
 pub mod Walks

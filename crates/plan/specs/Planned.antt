@@ -1,40 +1,22 @@
 -- A plan by place that is right: what it says is what rewriting yields, whatever else is needed in the end and whatever ids the new names get.
-use Rattle.std.specs.Prelude.{ℕ, ◌+◌, ◌-◌, ◌*◌, ◌≤◌, ◌<◌, ◌≡◌, true, List, ◌++◌, map, ◌⊎◌, eqb, ltb, length, get_or}
+use Rattle.std.specs.Prelude.{ℕ, ◌+◌, ◌*◌, ◌≤◌, ◌<◌, ◌≡◌, true, List, ◌++◌, map, ◌⊎◌, length, get_or, Result, Ok, Err}
 use Rattle.std.proofs.Math.Option.{Option, none, some}
-use Rattle.definitions.specs.Lists.{choose, any}
+use Rattle.definitions.specs.Lists.{any}
 use Rattle.definitions.specs.Tokens.{TagValue, code_of}
 use Rattle.definitions.specs.Tree.{TypeDef, Expr, Exprs, Node}
 use Rattle.definitions.specs.Clock.{Clock, same_clock}
-use Rattle.definitions.specs.InferClocks.{Fault, undeclared, no_default, no_output_default, not_single_call, pre_untyped}
+use Rattle.definitions.specs.InferClocks.{Fault}
+use Rattle.findings.specs.declared.Fault as value
+use Rattle.findings.specs.Value.{fault_of}
 use Rattle.definitions.specs.Declock.{Hold, clock_place}
 use Rattle.definitions.specs.Output.{expr_tokens, operand_tokens}
-use Rattle.stateless.specs.declared.Counts.{Counts}
-use Rattle.stateless.specs.Need.{Needs, Counted}
+use Rattle.stateless.specs.Need.{Needs}
 use Rattle.stateless.specs.Yield.{Ids, yield, yields}
 use Rattle.stateless.specs.Locals.{ids_in}
 use Rattle.skeleton.specs.Lies.{Frame, weave}
 use Rattle.planned.specs.Writes.{Writer, Writes}
 use Rattle.planned.specs.Held.{HeldFrom}
-
--- what a tally counts: clocks with an activation flag, with a first-tick flag, holds, whether `condact`
-abbrev pub counts_in : List ℕ → Counts
-counts_in t = record { flags = get_or t 0 0; firsts = get_or t 1 0; holds = get_or t 2 0; condact = eqb (get_or t 3 0) 1 }
-
--- the fault that a tally names by its number, and whose it is
-abbrev pub fault_by : ℕ → ℕ → ℕ → Option Fault
-fault_by k x f =
-    choose (eqb k 5) (some (undeclared x)) (
-    choose (eqb k 6) (some (no_default x)) (
-    choose (eqb k 7) (some (no_output_default x f)) (
-    choose (eqb k 8) (some not_single_call) (
-    choose (eqb k 9) (some pre_untyped) none))))
-
--- names are words
-abbrev pub word_in : ℕ → ℕ
-word_in x = choose (ltb x 4294967296) x 0
-
-abbrev pub met_in : List ℕ → Option Fault
-met_in t = fault_by (get_or t 4 0) (word_in (get_or t 5 0)) (word_in (get_or t 6 0))
+use Rattle.plan.specs.Tables.{Tables, Begun}
 
 -- what is needed in the end: no more rows than there is room for, and no more than words can number
 pub record Whole (flag_room first_room hold_room : ℕ) (w : Needs) : Type 0 where
@@ -54,12 +36,6 @@ pub record Ahead (y w : Needs) : Type 0 where
   pub flags : length y.flags ≤ length w.flags
   pub firsts : length y.firsts ≤ length w.firsts
   pub holds : y.holds ≤ w.holds
-
--- y is needed so far, and no fault is met
-pub record Begun (flags firsts tally : List ℕ) (y : Needs) : Type 0 where
-  pub counted : Counted flags firsts (counts_in tally) y
-  pub unmet : met_in tally ≡ none
-  pub tallied : length tally ≡ 8
 
 -- two tables agree from p up to q; the second is the first but for words from p up to q
 abbrev pub Agrees : List ℕ → List ℕ → ℕ → ℕ → Type 0
@@ -95,16 +71,16 @@ pub record Says (G : Ground) (plan holds : List ℕ) (y : Needs) (p n q : ℕ) (
       HeldFrom G.names G.tags G.values (writer G condact flag_ids first_ids hold_ids) plan' holds' j (hs (ids_in w.flags w.firsts flag_ids first_ids hold_ids condact))
 
 -- what a walk over n parts from p up to q leaves where no fault is met: y is needed then, j holds were there before
-pub record Planned (G : Ground) (plan plan' flags firsts holds holds' tally : List ℕ) (y : Needs) (p n q : ℕ) (t : Ids → List TagValue) (j : ℕ) (hs : Ids → List Hold) : Type 0 where
-  pub begun : Begun flags firsts tally y
-  pub kept : Kept plan plan' p q
-  pub held : Kept holds holds' (2 * j) (2 * y.holds)
-  pub says : Says G plan' holds' y p n q t j hs
+pub record Planned (G : Ground) (s s' : Tables) (y : Needs) (p n q : ℕ) (t : Ids → List TagValue) (j : ℕ) (hs : Ids → List Hold) : Type 0 where
+  pub begun : Begun s' y
+  pub kept : Kept s.plan s'.plan p q
+  pub held : Kept s.holds s'.holds (2 * j) (2 * y.holds)
+  pub says : Says G s'.plan s'.holds y p n q t j hs
 
--- by the first fault that is met: there is none, and the answer is the end; or the tally has it, and the answer is 0
-pub data Ended (tally : List ℕ) (end r : ℕ) (P : Type 0) : Option Fault → Type 0 where
-  goes : P → r ≡ end → Ended tally end r P none
-  stops : {f : Fault} → met_in tally ≡ some f → r ≡ 0 → Ended tally end r P (some f)
+-- by the first fault that is met: there is none, and the answer is the end; or the answer is the fault
+pub data Ended (end : ℕ) (r : Result ℕ value.Fault) (P : Type 0) : Option Fault → Type 0 where
+  goes : P → r ≡ Ok end → Ended end r P none
+  stops : {f : Fault} (g : value.Fault) → fault_of g ≡ f → r ≡ Err g → Ended end r P (some f)
 
 module _ (G : Ground) where
   -- the tokens of a rewritten expression, n holds being there before, and the holds that it makes

@@ -1,19 +1,19 @@
-// The plan of an expression of an accepted sheet, in order of need: a word for each `pre`, `->` and call, by which it is written; what its
-// rewriting needs; and the first fault that it meets. `table` is the table of parts; `sites` has the clock of each `pre`, `->` and call in
-// the row of its token; `places` has the places of the sheet's nodes, `defs` those of its types' definitions; byte i of `has` says whether
-// definition i has a default; `types` has the types of the node's names. `plan` gets a word a token, `flags` and `firsts` the clocks with
-// flags, `holds` two words a hold: where its operand stands, and the row of its flag. `tally` counts, and has the fault.
+// The plan of an expression of an accepted sheet, in order of need: a word for each `pre`, `->` and call, by which it is written, and what
+// its rewriting needs; or the first fault that it meets.
 #![tactic(auto)]
 
-ghost use Rattle.std.specs.Prelude.{◌≡◌, List, true, false, ℕ, suc, ◌+◌, ◌*◌, ◌≤◌, ◌<◌, eqb, length, get_or, set};
-ghost use Rattle.definitions.specs.Bytes.{tokens};
+ghost use Rattle.std.specs.Prelude.{◌≡◌, List, true, false, ℕ, suc, ◌+◌, ◌*◌, ◌^◌, ◌≤◌, ◌<◌, eqb, length, get_or, set};
+ghost use Rattle.grammar.specs.Read.{tokens_of};
 ghost use Rattle.definitions.specs.Tree.{Declared, TypeDef, Expr, Node};
 ghost use Rattle.definitions.specs.Reading.{got, times};
 ghost use Rattle.definitions.specs.Grammar.{declaration};
+ghost use Rattle.definitions.specs.Clock as clocks;
 ghost use Rattle.definitions.specs.Clock.{is_base};
-ghost use Rattle.definitions.specs.Declock.{operand_type, operator_outputs};
+ghost use Rattle.definitions.specs.Declock.{clock_place, add, add_with_parents, operand_type, operator_outputs};
+ghost use Rattle.clock_tables.specs.Value.{value_of};
 ghost use Rattle.clock_tables.specs.Flat.{clock_in};
-ghost use Rattle.layout.specs.Owed.{parts};
+ghost use Rattle.clock_tables.specs.Rows.{RowsHold};
+ghost use Rattle.clock_tables.specs.Grown.{Grown};
 ghost use Rattle.layout.specs.Table.{Table};
 ghost use Rattle.operands.specs.Spread.{tree};
 ghost use Rattle.index.specs.Callees.{NodesStand, is_there};
@@ -22,567 +22,293 @@ ghost use Rattle.typing.specs.Found.{Declares};
 ghost use Rattle.stateless.specs.Need.{Needs, is_bare, pre_turn};
 ghost use Rattle.stateless.specs.Yield.{gate_of};
 ghost use Rattle.stateless.specs.Faults.{pre_fault, outputs_fault, gate_fault};
-ghost use Rattle.plan.specs.Planned.{Begun, Ended};
-ghost use Rattle.plan.specs.Closed.{lack_fault, Followed, Gated, Preceded};
+ghost use Rattle.plan.specs.Tables.{arrays_of, tables_of, StillLent, Begun};
+ghost use Rattle.plan.specs.Planned.{Ended};
+ghost use Rattle.plan.specs.Closed.{lack_fault, Followed, Gated, Preceded, ClosesCall, ClosesPrevious};
 ghost use Rattle.plan.specs.Walks.{Walks, WalksBoth, WalksAll};
 
-use definitions::{ARRAY_LEVELS, MOST_NODES, MOST_TYPES};
-use grammar::Read;
-use index::Callee;
-use typing::TypeFound;
+use clock_tables::{Clock, ClockTable, WORDS, put_word, word_past};
+use findings::Fault;
+use grammar::Source;
+use index::Index;
+use layout::PartsTable;
 
-// How many names, nodes and types' definitions a sheet has.
+// What planning a node reads: the sheet's index, the table of parts, the clock of each `pre`, `->` and call in the row of its token, and
+// the types of the node's names.
 #[derive(Clone, Copy)]
-pub struct Extent {
-    pub names: u32,
-    pub nodes: usize,
-    pub types: usize,
+pub struct Planning<'a> {
+    pub index: &'a Index<'a>,
+    pub parts: &'a PartsTable,
+    pub sites: &'a [u32],
+    pub types: &'a [u32],
 }
 
-// Whether an output lacks a default, and which.
-#[derive(Clone, Copy)]
-enum Lack {
-    Nothing,
-    Output(u32),
+// Holds by number, two words each: where its operand stands, and the row of its flag.
+#[derive(Drop)]
+pub struct HoldTable<'a> {
+    pub words: &'a mut [u32],
+    pub count: u32,
 }
 
-// A word into a table, where there is room.
-pub fn put_word(words: &mut [u32], at: usize, word: u32)
-    ensures words_after { words.new ≡ set words.old at word }
-    ensures words_len_unchanged { length words.new ≡ length words.old }
-{
-    if at < words.len() {
-        words[at] = word;
+impl HoldTable<'_> {
+    // A hold behind the others, in two words, as far as there is room.
+    fn push(&mut self, place: u32, row: u32)
+        requires { self.old.count < 4294967295 }
+        ensures same_reference { self.new.words.ghost_name ≡ self.old.words.ghost_name }
+        ensures words_len_unchanged { length self.new.words.now ≡ length self.old.words.now }
+        ensures words_after { self.new.words.now ≡ set (set self.old.words.now (2 * self.old.count) place) (2 * self.old.count + 1) row }
+        ensures counted { self.new.count ≡ self.old.count + 1 }
+    {
+        let first = 2 * (self.count as usize);
+        put_word(self.words, first, place);
+        put_word(self.words, first + 1, row);
+        self.count += 1;
     }
 }
 
-// The word of a row: one more.
-pub fn word_of(i: usize) -> u32
-    ensures { i < 4294967295 → result ≡ suc i }
-{
-    if i < 4294967295 {
-        return (i as u32) + 1;
-    }
-    0
+// What it notes: a word a token; the clocks with an activation flag and those with a first-tick flag; the holds; whether `condact` is
+// needed.
+#[derive(Drop)]
+pub struct Notes<'a, 'b> {
+    pub plan: &'a mut [u32],
+    pub flags: &'a mut ClockTable<'b>,
+    pub firsts: &'a mut ClockTable<'b>,
+    pub holds: &'a mut HoldTable<'b>,
+    pub condact: bool,
 }
 
 // A row as a word.
 fn row_word(i: usize) -> u32
     ensures { i < 4294967296 → result ≡ i }
 {
-    if i < 4294967296 {
-        return i as u32;
-    }
-    0
+    u32::try_from(i).unwrap_or(0)
 }
 
-// A fault into the tally: its number, and whose it is.
-pub fn tell(tally: &mut [usize; 8], fault: usize, x: u32, f: u32)
-    ensures tally_after { tally.new ≡ set (set (set tally.old 4 fault) 5 x) 6 f }
-    ensures x_bound { (x < 4294967296) × (f < 4294967296) }
+// A clock added to those with a flag, its parents before it: its row.
+pub fn add_flag(table: &mut ClockTable<'_>, c: Clock) -> usize
+    ensures grown { Grown (add_with_parents (value_of c)) table.old table.new }
+    ensures row { (cs : List clocks.Clock) → 17 * table.new.count ≤ length table.new.words.now → RowsHold table.new.words.now table.new.count cs → result ≡ clock_place (value_of c) cs }
 {
-    tally[4] = fault;
-    tally[5] = x as usize;
-    tally[6] = f as usize;
+    table.add_with_parents(c);
+    table.list().find(c)
 }
 
 // Is the clock of this row base?
 pub fn on_base(sites: &[u32], at: usize) -> bool
     ensures { result ≡ is_base (clock_in sites.now (17 * at)) }
 {
-    if sites.len() / clock_tables::WORDS < at {
-        return true;
-    }
-    let d = clock_tables::depth_at(sites, clock_tables::WORDS * at);
-    d == 0
+    sites.len() / WORDS < at || clock_tables::depth_at(sites, WORDS * at) == 0
 }
 
 // Is the token there a name?
-fn is_name(tags: &[u8], at: usize) -> bool
-    ensures { at < length tags.now → result ≡ eqb (get_or tags.now at 0) 54 }
+fn is_name(source: &Source<'_>, at: usize) -> bool
+    ensures { at < length source.now.tags.now → result ≡ eqb (get_or source.now.tags.now at 0) 54 }
 {
-    if at < tags.len() {
-        return tags[at] == 54;
-    }
-    false
+    at < source.tags.len() && source.tags[at] == 54
 }
 
 // Does the expression that stands there have a type?
-fn is_typed(tags: &[u8], values: &[u32], names: u32, types: &[u32], at: usize) -> bool
-    requires { length values.now ≡ length tags.now }
-    ensures { (e : Expr) (q : ℕ) (ds : List Declared) → tree names (tokens tags.now values.now) at ≡ got e q → Declares names (tokens tags.now values.now) types.now ds → result ≡ is_there (operand_type ds e) }
+fn is_typed(source: &Source<'_>, types: &[u32], at: usize) -> bool
+    ensures { (e : Expr) (q : ℕ) (ds : List Declared) → tree source.now.names (tokens_of source.now) at ≡ got e q → Declares source.now.names (tokens_of source.now) types.now ds → result ≡ is_there (operand_type ds e) }
 {
-    let found = typing::type_of(tags, values, names, types, at);
-    match found {
-        TypeFound::At(_) => true,
-        TypeFound::Basic(_) => true,
-        TypeFound::Unknown => false,
-    }
+    typing::type_of(source, types, at).is_some()
 }
 
 // The first of so many outputs that lacks a default.
-fn output_lack(
-    tags: &[u8],
-    values: &[u32],
-    defs: &[usize; MOST_TYPES],
-    has: &[u8; MOST_TYPES],
-    k: Extent,
-    count: u32,
-    at: usize,
-) -> Lack
-    requires values_len { length values.now ≡ length tags.now }
-    requires types_bound { k.types ≤ 32 }
-    ensures { (ds : List Declared) (q : ℕ) (f : ℕ) (types : List TypeDef) (l : List Node) (node : Node) → times count (declaration k.names) (tokens tags.now values.now) at ≡ got ds q → Table k.names (tokens tags.now values.now) defs.now k.types types → DefaultsKnown types k.types k.types has.now → lack_fault f result ≡ outputs_fault types l node f ds }
+fn output_lack(index: &Index<'_>, count: u32, at: usize) -> Option<u32>
+    ensures { (ds : List Declared) (q : ℕ) (f : ℕ) (types : List TypeDef) (l : List Node) (node : Node) → times count (declaration index.now.source.names) (tokens_of index.now.source) at ≡ got ds q → Table index.now.source.names (tokens_of index.now.source) index.now.types.at index.now.types.count types → DefaultsKnown types index.now.types.count index.now.types.count index.now.has → lack_fault f result ≡ outputs_fault types l node f ds }
 {
-    if count == 0 {
-        return Lack::Nothing;
+    let source = &index.source;
+    let mut place = at;
+    for _ in 0..count {
+        let Ok(next) = grammar::read_declaration(source, place) else {
+            return None;
+        };
+        let first = layout::behind(source.tags, place);
+        if !defaults::type_has_default(source, &index.types, &index.has, first) {
+            return Some(layout::value_at(source.values, place));
+        }
+        place = next;
     }
-    let names = k.names;
-    let label = grammar::read_name(tags, values, names, at);
-    let Read::Next(first) = label else {
-        return Lack::Nothing;
-    };
-    let read = grammar::read_type(tags, values, names, ARRAY_LEVELS, first);
-    let Read::Next(next) = read else {
-        return Lack::Nothing;
-    };
-    if defaults::type_has_default(tags, values, names, defs, k.types, has, first) {
-        return output_lack(tags, values, defs, has, k, count - 1, next);
-    }
-    let x = layout::value_at(values, at);
-    Lack::Output(x)
+    None
 }
 
 // A `->` whose operands are planned.
-fn close_follow(
-    sites: &[u32],
-    plan: &mut [u32],
-    flags: &mut [u32],
-    firsts: &mut [u32],
-    tally: &mut [usize; 8],
-    at: usize,
-)
-    ensures plan_len_unchanged { length plan.new ≡ length plan.old }
-    ensures flags_len_unchanged { length flags.new ≡ length flags.old }
-    ensures firsts_len_unchanged { length firsts.new ≡ length firsts.old }
-    ensures followed { (y : Needs) → Begun flags.old firsts.old tally.old y → Followed plan.old plan.new flags.new firsts.new tally.new (clock_in sites.now (17 * at)) y at }
+fn close_follow(sites: &[u32], notes: &mut Notes<'_, '_>, at: usize)
+    ensures still_lent { StillLent notes.old notes.new }
+    ensures followed { (y : Needs) → Begun (tables_of notes.old) y → Followed (tables_of notes.old) (tables_of notes.new) (clock_in sites.now (17 * at)) y at }
 {
     if on_base(sites, at) {
-        put_word(plan, at, 0);
+        put_word(notes.plan, at, 0);
         return;
     }
     let c = clock_tables::get(sites, at);
-    let n = clock_tables::add_with_parents(flags, tally[0], c);
-    let m = clock_tables::find_or_add(firsts, tally[1], c);
-    let i = clock_tables::find(firsts, m, c);
-    tally[0] = n;
-    tally[1] = m;
-    put_word(plan, at, word_of(i));
+    add_flag(notes.flags, c);
+    notes.firsts.add(c);
+    let row = notes.firsts.list().find(c);
+    put_word(notes.plan, at, word_past(row));
 }
 
 // A call on a clock that is gated.
-fn gate(sites: &[u32], plan: &mut [u32], flags: &mut [u32], tally: &mut [usize; 8], at: usize)
-    ensures plan_len_unchanged { length plan.new ≡ length plan.old }
-    ensures flags_len_unchanged { length flags.new ≡ length flags.old }
-    ensures by_index { (firsts : List ℕ) (y : Needs) → is_base (clock_in sites.now (17 * at)) ≡ false → Begun flags.old firsts tally.old y → Gated plan.old plan.new flags.new firsts tally.new (clock_in sites.now (17 * at)) true y at }
+fn gate(sites: &[u32], notes: &mut Notes<'_, '_>, at: usize)
+    ensures still_lent { StillLent notes.old notes.new }
+    ensures gated { (y : Needs) → is_base (clock_in sites.now (17 * at)) ≡ false → Begun (tables_of notes.old) y → Gated (tables_of notes.old) (tables_of notes.new) (clock_in sites.now (17 * at)) true y at }
 {
     let c = clock_tables::get(sites, at);
-    let n = clock_tables::add_with_parents(flags, tally[0], c);
-    let row = clock_tables::find(flags, n, c);
-    tally[0] = n;
-    tally[3] = 1;
-    put_word(plan, at, word_of(row));
+    notes.condact = true;
+    let gated = add_flag(notes.flags, c);
+    put_word(notes.plan, at, word_past(gated));
 }
 
 // A call whose arguments are planned and end there.
 fn close_call(
-    tags: &[u8],
-    values: &[u32],
-    sites: &[u32],
-    places: &[usize; MOST_NODES],
-    defs: &[usize; MOST_TYPES],
-    has: &[u8; MOST_TYPES],
-    plan: &mut [u32],
-    flags: &mut [u32],
-    tally: &mut [usize; 8],
-    k: Extent,
+    planning: &Planning<'_>,
+    notes: &mut Notes<'_, '_>,
     end: usize,
     at: usize,
-) -> usize
-    requires values_len { length values.now ≡ length tags.now }
-    requires nodes_bound { (k.nodes ≤ 16) × (k.types ≤ 32) }
-    ensures plan_len_unchanged { length plan.new ≡ length plan.old }
-    ensures flags_len_unchanged { length flags.new ≡ length flags.old }
-    ensures ended { (types : List TypeDef) (l : List Node) (node : Node) (firsts : List ℕ) (y : Needs) → NodesStand k.names tags.now values.now places.now k.nodes l → Table k.names (tokens tags.now values.now) defs.now k.types types → DefaultsKnown types k.types k.types has.now → Begun flags.old firsts tally.old y → Ended tally.new end result (Gated plan.old plan.new flags.new firsts tally.new (clock_in sites.now (17 * at)) (is_there (operator_outputs l (get_or values.now at 0))) y at) (gate_fault types l node (get_or values.now at 0) (gate_of types l node (clock_in sites.now (17 * at)) (get_or values.now at 0))) }
+) -> Result<usize, Fault>
+    ensures still_lent { StillLent notes.old notes.new }
+    ensures closes_call { ClosesCall (arrays_of planning.now) (tables_of notes.old) (tables_of notes.new) end at result }
 {
-    if on_base(sites, at) {
-        put_word(plan, at, 0);
-        return end;
+    if on_base(planning.sites, at) {
+        put_word(notes.plan, at, 0);
+        return Ok(end);
     }
-    let f = layout::value_at(values, at);
-    let callee = index::operator_of(tags, values, k.names, places, k.nodes, f);
-    let Callee::Operator(first, count) = callee else {
-        put_word(plan, at, 0);
-        return end;
+    let index = planning.index;
+    let node = layout::value_at(index.source.values, at);
+    let Some((first, count)) = index.operator_of(node) else {
+        put_word(notes.plan, at, 0);
+        return Ok(end);
     };
-    let lack = output_lack(tags, values, defs, has, k, count, first);
-    match lack {
-        Lack::Nothing => {
-            gate(sites, plan, flags, tally, at);
-            end
-        }
-        Lack::Output(x) => {
-            tell(tally, 7, x, f);
-            0
+    match output_lack(index, count, first) {
+        Some(output) => Err(Fault::NoOutputDefault { output, node }),
+        None => {
+            gate(planning.sites, notes, at);
+            Ok(end)
         }
     }
 }
 
 // A `pre` on a clock that is held.
-fn hold(
-    sites: &[u32],
-    plan: &mut [u32],
-    flags: &mut [u32],
-    holds: &mut [u32],
-    tally: &mut [usize; 8],
-    at: usize,
-)
-    ensures plan_len_unchanged { length plan.new ≡ length plan.old }
-    ensures flags_len_unchanged { length flags.new ≡ length flags.old }
-    ensures holds_len_unchanged { length holds.new ≡ length holds.old }
-    ensures by_index { (firsts : List ℕ) (y : Needs) → is_base (clock_in sites.now (17 * at)) ≡ false → Begun flags.old firsts tally.old y → Preceded plan.old plan.new flags.new firsts holds.old holds.new tally.new (clock_in sites.now (17 * at)) false y at }
+fn hold(sites: &[u32], notes: &mut Notes<'_, '_>, at: usize)
+    ensures still_lent { StillLent notes.old notes.new }
+    ensures preceded { (y : Needs) → is_base (clock_in sites.now (17 * at)) ≡ false → Begun (tables_of notes.old) y → Preceded (tables_of notes.old) (tables_of notes.new) (clock_in sites.now (17 * at)) false y at }
 {
     let c = clock_tables::get(sites, at);
-    let j = tally[2];
-    let n = clock_tables::add_with_parents(flags, tally[0], c);
-    let i = clock_tables::find(flags, n, c);
-    tally[0] = n;
+    let row = add_flag(notes.flags, c);
+    let j = notes.holds.count;
     if 4294967295 <= j {
         return;
     }
-    tally[2] = j + 1;
-    put_word(holds, 2 * j, word_of(at));
-    put_word(holds, 2 * j + 1, row_word(i));
-    put_word(plan, at, word_of(j));
+    notes.holds.push(word_past(at), row_word(row));
+    put_word(notes.plan, at, j + 1);
 }
 
 // A `pre` whose operand is planned and ends there.
 fn close_previous(
-    tags: &[u8],
-    values: &[u32],
-    sites: &[u32],
-    types: &[u32],
-    plan: &mut [u32],
-    flags: &mut [u32],
-    holds: &mut [u32],
-    tally: &mut [usize; 8],
-    names: u32,
+    planning: &Planning<'_>,
+    notes: &mut Notes<'_, '_>,
     end: usize,
     at: usize,
-) -> usize
-    requires values_len { length values.now ≡ length tags.now }
-    requires at_in_bounds { at < length tags.now }
-    ensures plan_len_unchanged { length plan.new ≡ length plan.old }
-    ensures flags_len_unchanged { length flags.new ≡ length flags.old }
-    ensures holds_len_unchanged { length holds.new ≡ length holds.old }
-    ensures ended { (e : Expr) (q : ℕ) (ds : List Declared) (firsts : List ℕ) (y : Needs) → tree names (tokens tags.now values.now) (at + 1) ≡ got e q → (at + 1 < length tags.now) × (is_bare e ≡ eqb (get_or tags.now (at + 1) 0) 54) → Declares names (tokens tags.now values.now) types.now ds → Begun flags.old firsts tally.old y → Ended tally.new end result (Preceded plan.old plan.new flags.new firsts holds.old holds.new tally.new (clock_in sites.now (17 * at)) (is_bare e) y at) (pre_fault (pre_turn (clock_in sites.now (17 * at)) (is_bare e)) (operand_type ds e)) }
+) -> Result<usize, Fault>
+    requires { at + 1 < 2 ^ 64 }
+    ensures still_lent { StillLent notes.old notes.new }
+    ensures closes_previous { ClosesPrevious (arrays_of planning.now) (tables_of notes.old) (tables_of notes.new) end at result }
 {
-    if on_base(sites, at) {
-        put_word(plan, at, 0);
-        return end;
+    let source = &planning.index.source;
+    if on_base(planning.sites, at) || is_name(source, at + 1) {
+        put_word(notes.plan, at, 0);
+        return Ok(end);
     }
-    let bare = is_name(tags, at + 1);
-    if bare {
-        put_word(plan, at, 0);
-        return end;
+    if is_typed(source, planning.types, at + 1) {
+        hold(planning.sites, notes, at);
+        return Ok(end);
     }
-    let typed = is_typed(tags, values, names, types, at + 1);
-    if typed {
-        hold(sites, plan, flags, holds, tally, at);
-        return end;
-    }
-    tell(tally, 9, 0, 0);
-    0
+    Err(Fault::PreUntyped)
 }
 
-// The expression that stands there: where it ends, or 0 if a fault is met.
+// The expression that stands there: where it ends, or the fault that is met.
 #[cycle(walk)]
-pub fn expr(
-    tags: &[u8],
-    values: &[u32],
-    table: &[u8; 72],
-    sites: &[u32],
-    places: &[usize; MOST_NODES],
-    defs: &[usize; MOST_TYPES],
-    has: &[u8; MOST_TYPES],
-    types: &[u32],
-    plan: &mut [u32],
-    flags: &mut [u32],
-    firsts: &mut [u32],
-    holds: &mut [u32],
-    tally: &mut [usize; 8],
-    k: Extent,
-    at: usize,
-) -> usize
-    requires values_len { length values.now ≡ length tags.now }
-    requires table_value { table.now ≡ parts }
-    requires nodes_bound { (k.nodes ≤ 16) × (k.types ≤ 32) }
-    ensures plan_len_unchanged { length plan.new ≡ length plan.old }
-    ensures flags_len_unchanged { length flags.new ≡ length flags.old }
-    ensures firsts_len_unchanged { length firsts.new ≡ length firsts.old }
-    ensures holds_len_unchanged { length holds.new ≡ length holds.old }
-    ensures walks { Walks (record { names = k.names; nodes = k.nodes; types = k.types; tags = tags.now; values = values.now; sites = sites.now; places = places.now; defs = defs.now; has = has.now; typed = types.now }) (record { plan = plan.old; flags = flags.old; firsts = firsts.old; holds = holds.old; tally = tally.old }) (record { plan = plan.new; flags = flags.new; firsts = firsts.new; holds = holds.new; tally = tally.new }) at result }
+pub fn expr(planning: &Planning<'_>, notes: &mut Notes<'_, '_>, at: usize) -> Result<usize, Fault>
+    ensures still_lent { StillLent notes.old notes.new }
+    ensures walks { Walks (arrays_of planning.now) (tables_of notes.old) (tables_of notes.new) at result }
 {
-    if tags.len() <= at {
-        return 0;
+    let source = &planning.index.source;
+    if source.tags.len() <= at {
+        return Ok(at);
     }
-    let tag = tags[at];
+    let tag = source.tags[at];
+    if tag == 67 || tag == 68 {
+        return expr(planning, notes, at + 1);
+    }
     match tag {
         58 => {
-            let end = expr(
-                tags,
-                values,
-                table,
-                sites,
-                places,
-                defs,
-                has,
-                types,
-                plan,
-                flags,
-                firsts,
-                holds,
-                tally,
-                k,
-                at + 1,
-            );
-            if end <= at {
-                return 0;
-            }
-            close_previous(
-                tags, values, sites, types, plan, flags, holds, tally, k.names, end, at,
-            )
+            let end = expr(planning, notes, at + 1)?;
+            close_previous(planning, notes, end, at)
         }
         59 => {
-            let end = both(
-                tags,
-                values,
-                table,
-                sites,
-                places,
-                defs,
-                has,
-                types,
-                plan,
-                flags,
-                firsts,
-                holds,
-                tally,
-                k,
-                at + 1,
-            );
-            if end <= at {
-                return 0;
-            }
-            close_follow(sites, plan, flags, firsts, tally, at);
-            end
+            let end = both(planning, notes, at + 1)?;
+            close_follow(planning.sites, notes, at);
+            Ok(end)
         }
         60 => {
-            let end = exprs(
-                tags,
-                values,
-                table,
-                sites,
-                places,
-                defs,
-                has,
-                types,
-                plan,
-                flags,
-                firsts,
-                holds,
-                tally,
-                k,
-                1,
-                at + 1,
-            );
-            if end <= at {
-                return 0;
-            }
-            close_call(
-                tags, values, sites, places, defs, has, plan, flags, tally, k, end, at,
-            )
+            let end = exprs(planning, notes, 1, at + 1)?;
+            close_call(planning, notes, end, at)
         }
-        67 => expr(
-            tags,
-            values,
-            table,
-            sites,
-            places,
-            defs,
-            has,
-            types,
-            plan,
-            flags,
-            firsts,
-            holds,
-            tally,
-            k,
-            at + 1,
-        ),
-        68 => expr(
-            tags,
-            values,
-            table,
-            sites,
-            places,
-            defs,
-            has,
-            types,
-            plan,
-            flags,
-            firsts,
-            holds,
-            tally,
-            k,
-            at + 1,
-        ),
-        69 => both(
-            tags,
-            values,
-            table,
-            sites,
-            places,
-            defs,
-            has,
-            types,
-            plan,
-            flags,
-            firsts,
-            holds,
-            tally,
-            k,
-            at + 1,
-        ),
+        69 => both(planning, notes, at + 1),
         _ => {
-            let many = layout::follow(table, tag, values[at]);
-            exprs(
-                tags,
-                values,
-                table,
-                sites,
-                places,
-                defs,
-                has,
-                types,
-                plan,
-                flags,
-                firsts,
-                holds,
-                tally,
-                k,
-                many as usize,
-                at + 1,
-            )
+            let value = layout::value_at(source.values, at);
+            let many = planning.parts.follow(tag, value);
+            exprs(planning, notes, many as usize, at + 1)
         }
     }
 }
 
 // The two expressions that stand from there on.
 #[cycle(walk)]
-fn both(
-    tags: &[u8],
-    values: &[u32],
-    table: &[u8; 72],
-    sites: &[u32],
-    places: &[usize; MOST_NODES],
-    defs: &[usize; MOST_TYPES],
-    has: &[u8; MOST_TYPES],
-    types: &[u32],
-    plan: &mut [u32],
-    flags: &mut [u32],
-    firsts: &mut [u32],
-    holds: &mut [u32],
-    tally: &mut [usize; 8],
-    k: Extent,
-    at: usize,
-) -> usize
-    requires values_len { length values.now ≡ length tags.now }
-    requires table_value { table.now ≡ parts }
-    requires nodes_bound { (k.nodes ≤ 16) × (k.types ≤ 32) }
-    ensures plan_len_unchanged { length plan.new ≡ length plan.old }
-    ensures flags_len_unchanged { length flags.new ≡ length flags.old }
-    ensures firsts_len_unchanged { length firsts.new ≡ length firsts.old }
-    ensures holds_len_unchanged { length holds.new ≡ length holds.old }
-    ensures walks_both { WalksBoth (record { names = k.names; nodes = k.nodes; types = k.types; tags = tags.now; values = values.now; sites = sites.now; places = places.now; defs = defs.now; has = has.now; typed = types.now }) (record { plan = plan.old; flags = flags.old; firsts = firsts.old; holds = holds.old; tally = tally.old }) (record { plan = plan.new; flags = flags.new; firsts = firsts.new; holds = holds.new; tally = tally.new }) at result }
+fn both(planning: &Planning<'_>, notes: &mut Notes<'_, '_>, at: usize) -> Result<usize, Fault>
+    ensures still_lent { StillLent notes.old notes.new }
+    ensures walks_both { WalksBoth (arrays_of planning.now) (tables_of notes.old) (tables_of notes.new) at result }
 {
-    let next = expr(
-        tags, values, table, sites, places, defs, has, types, plan, flags, firsts, holds, tally, k,
-        at,
-    );
+    let next = expr(planning, notes, at)?;
     if next <= at {
-        return 0;
+        return Ok(at);
     }
-    expr(
-        tags, values, table, sites, places, defs, has, types, plan, flags, firsts, holds, tally, k,
-        next,
-    )
+    expr(planning, notes, next)
 }
 
 // So many parts that stand from there on.
 #[cycle(walk)]
 fn exprs(
-    tags: &[u8],
-    values: &[u32],
-    table: &[u8; 72],
-    sites: &[u32],
-    places: &[usize; MOST_NODES],
-    defs: &[usize; MOST_TYPES],
-    has: &[u8; MOST_TYPES],
-    types: &[u32],
-    plan: &mut [u32],
-    flags: &mut [u32],
-    firsts: &mut [u32],
-    holds: &mut [u32],
-    tally: &mut [usize; 8],
-    k: Extent,
+    planning: &Planning<'_>,
+    notes: &mut Notes<'_, '_>,
     many: usize,
     at: usize,
-) -> usize
-    requires values_len { length values.now ≡ length tags.now }
-    requires table_value { table.now ≡ parts }
-    requires nodes_bound { (k.nodes ≤ 16) × (k.types ≤ 32) }
-    ensures plan_len_unchanged { length plan.new ≡ length plan.old }
-    ensures flags_len_unchanged { length flags.new ≡ length flags.old }
-    ensures firsts_len_unchanged { length firsts.new ≡ length firsts.old }
-    ensures holds_len_unchanged { length holds.new ≡ length holds.old }
-    ensures walks_all { WalksAll (record { names = k.names; nodes = k.nodes; types = k.types; tags = tags.now; values = values.now; sites = sites.now; places = places.now; defs = defs.now; has = has.now; typed = types.now }) (record { plan = plan.old; flags = flags.old; firsts = firsts.old; holds = holds.old; tally = tally.old }) (record { plan = plan.new; flags = flags.new; firsts = firsts.new; holds = holds.new; tally = tally.new }) many at result }
+) -> Result<usize, Fault>
+    ensures still_lent { StillLent notes.old notes.new }
+    ensures walks_all { WalksAll (arrays_of planning.now) (tables_of notes.old) (tables_of notes.new) many at result }
 {
+    let source = &planning.index.source;
     let mut left = many;
     let mut from = at;
+    // Stays (no plainer): a token that stays adds its parts to those that are left, and an expression ends where its walk says.
     while 0 < left {
-        if tags.len() <= from {
-            return 0;
+        if source.tags.len() <= from || source.tags.len() < left {
+            return Ok(from);
         }
-        if tags.len() < left {
-            return 0;
-        }
-        let tag = tags[from];
+        let tag = source.tags[from];
         if tag < 50 {
-            let more = layout::follow(table, tag, values[from]);
+            let more = planning.parts.follow(tag, source.values[from]);
             left = left - 1 + (more as usize);
             from += 1;
         } else {
-            let next = expr(
-                tags, values, table, sites, places, defs, has, types, plan, flags, firsts, holds,
-                tally, k, from,
-            );
+            let next = expr(planning, notes, from)?;
             if next <= from {
-                return 0;
+                return Ok(from);
             }
             from = next;
             left -= 1;
         }
     }
-    from
+    Ok(from)
 }

@@ -1,40 +1,24 @@
 -- What becomes of a token, an arm for each tag that says something.
 -- Assumes nothing.
-use mathlib.Core.Path.{◌≡◌, refl}
-use mathlib.Core.List.{List, [], ◌∷◌}
-use Prim.Native.Nat.{ℕ, zero, suc, ◌-◌, ◌≤◌}
-use native.Mathlib.Omega.{arith}
-use lib.ListN.{length, get_or}
+use mathlib.Core.Path.{◌≡◌}
+use mathlib.Core.List.{List}
+use mathlib.Core.Bool.{Bool, true, false}
+use Prim.Native.Nat.{ℕ, ◌-◌}
+use lib.Dec.{eqb}
+use lib.ListN.{get_or}
+use Rattle.definitions.specs.Lists.{choose}
 use borrow.Author.Tests.{ne_eqb}
 use Rattle.planned.specs.declared.Plan.{Plan}
 use Rattle.planned.specs.Writes.{plan_of}
 
--- past the end there is 0
-pub none-there : (l : List ℕ) (i : ℕ) → length l ≤ i → 0 ≡ get_or l i 0
-none-there [] i h = refl
-none-there (x ∷ l) zero h = absurd (omega arith)
-none-there (x ∷ l) (suc i) h = none-there l i (omega arith)
-
 module _ (flags firsts holds : List ℕ) (tag v w : ℕ) where
-  pub arm-previous : tag ≡ 58 → w ≡ 0 → Plan.Stay ≡ plan_of flags firsts holds tag v w
-  unfolding plan_of
-  arm-previous e z = rw (e, z)
-
   pub arm-hold : tag ≡ 58 → (w ≡ 0 → ⊥) → (x : ℕ) → x ≡ get_or holds (w - 1) 0 → Plan.Hold x ≡ plan_of flags firsts holds tag v w
   unfolding plan_of
   arm-hold e z x i = rw (e, ne_eqb w 0 z, i)
 
-  pub arm-follow : tag ≡ 59 → w ≡ 0 → Plan.Stay ≡ plan_of flags firsts holds tag v w
-  unfolding plan_of
-  arm-follow e z = rw (e, z)
-
   pub arm-first : tag ≡ 59 → (w ≡ 0 → ⊥) → (x : ℕ) → x ≡ get_or firsts (w - 1) 0 → Plan.Choose x ≡ plan_of flags firsts holds tag v w
   unfolding plan_of
   arm-first e z x i = rw (e, ne_eqb w 0 z, i)
-
-  pub arm-call : tag ≡ 60 → w ≡ 0 → Plan.Stay ≡ plan_of flags firsts holds tag v w
-  unfolding plan_of
-  arm-call e z = rw (e, z)
 
   pub arm-gate : tag ≡ 60 → (w ≡ 0 → ⊥) → (x : ℕ) → x ≡ get_or flags (w - 1) 0 → Plan.Gate x ≡ plan_of flags firsts holds tag v w
   unfolding plan_of
@@ -52,6 +36,18 @@ module _ (flags firsts holds : List ℕ) (tag v w : ℕ) where
   unfolding plan_of
   arm-merge e = rw e
 
-  pub arm-other : (tag ≡ 58 → ⊥) → (tag ≡ 59 → ⊥) → (tag ≡ 60 → ⊥) → (tag ≡ 67 → ⊥) → (tag ≡ 68 → ⊥) → (tag ≡ 69 → ⊥) → Plan.Stay ≡ plan_of flags firsts holds tag v w
-  unfolding plan_of
-  arm-other a b f c d e = rw (ne_eqb tag 58 a, ne_eqb tag 59 b, ne_eqb tag 60 f, ne_eqb tag 67 c, ne_eqb tag 68 d, ne_eqb tag 69 e)
+  module _ (a : tag ≡ 67 → ⊥) (b : tag ≡ 68 → ⊥) (c : tag ≡ 69 → ⊥) where
+    -- without a word a token stays
+    pub arm-bare : w ≡ 0 → Plan.Stay ≡ plan_of flags firsts holds tag v w
+    unfolding plan_of
+    arm-bare z = go (eqb tag 58) (eqb tag 59) (eqb tag 60)
+      where
+        go : (x y t : Bool) → Plan.Stay ≡ choose x (choose (eqb w 0) Plan.Stay (Plan.Hold (get_or holds (w - 1) 0))) (choose y (choose (eqb w 0) Plan.Stay (Plan.Choose (get_or firsts (w - 1) 0))) (choose t (choose (eqb w 0) Plan.Stay (Plan.Gate (get_or flags (w - 1) 0))) (choose (eqb tag 67) Plan.Drop (choose (eqb tag 68) Plan.Drop (choose (eqb tag 69) (Plan.Choose v) Plan.Stay)))))
+        go true y t = rw z
+        go false true t = rw z
+        go false false true = rw z
+        go false false false = rw (ne_eqb tag 67 a, ne_eqb tag 68 b, ne_eqb tag 69 c)
+
+    pub arm-other : (tag ≡ 58 → ⊥) → (tag ≡ 59 → ⊥) → (tag ≡ 60 → ⊥) → Plan.Stay ≡ plan_of flags firsts holds tag v w
+    unfolding plan_of
+    arm-other d e f = rw (ne_eqb tag 58 d, ne_eqb tag 59 e, ne_eqb tag 60 f, ne_eqb tag 67 a, ne_eqb tag 68 b, ne_eqb tag 69 c)

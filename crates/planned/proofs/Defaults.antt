@@ -1,36 +1,41 @@
 -- Defaults of outputs, which are few.
 -- Assumes nothing.
-use mathlib.Core.Path.{◌≡◌, refl, sym, ◌∙◌}
-use mathlib.Core.List.{List, [], ◌∷◌, ◌++◌}
+use mathlib.Core.Path.{◌≡◌, refl, sym, ◌∙◌, ap}
+use mathlib.Core.List.{List, [], ◌∷◌}
 use mathlib.Core.Bool.{Bool, true, false}
 use mathlib.Core.Option.{Option, none, some}
-use Prim.Native.Nat.{ℕ, suc, ◌+◌, ◌-◌, ◌≤◌}
+use Prim.Native.Nat.{ℕ, suc, ◌-◌, ◌≤◌}
 use native.Mathlib.Omega.{arith}
 use lib.Dec.{eqb}
 use lib.ListN.{length, get_or, get_elem?}
-use Rattle.definitions.specs.declared.Token.{Token}
 use Rattle.definitions.specs.Lists.{choose, find, or_else, join}
 use Rattle.definitions.specs.Tokens.{TagValue}
 use Rattle.definitions.specs.Bytes.{tokens}
-use Rattle.definitions.specs.Tree.{Declared, TypeDef, Expr, Node}
+use Rattle.definitions.specs.Tree.{Ty, Declared, TypeDef, Expr, Node}
 use Rattle.definitions.specs.Reading.{got, times}
-use Rattle.definitions.specs.Grammar.{declaration}
+use Rattle.definitions.specs.declared.Refusal.{Refusal}
+use Rattle.definitions.specs.Grammar.{declaration, ty}
 use Rattle.definitions.specs.Types.{default}
 use Rattle.definitions.specs.Declock.{is_operator_kind, operator_outputs}
 use Rattle.definitions.specs.InferClocks.{Fault, no_output_default}
 use Rattle.definitions.specs.Output.{expr_tokens, operand_tokens}
+use Rattle.std.specs.Prelude.{Result, Ok, Err}
+use Rattle.std.specs.declared.option.Option as code
+use Rattle.std.specs.declared.option.Option.TheVariants.{None, Some}
+use Rattle.grammar.specs.Outcome.{outcome}
+use Rattle.layout.specs.Spans.{past_in}
+use Rattle.layout.proofs.TypedefsLaws.{declared-read, declared-not-refused}
+use Rattle.planned.specs.Opening.{Behind}
 use Rattle.grammar.proofs.Laws.{times-length}
 use Rattle.grammar.proofs.Got.{times-nil, declarations-got, node-got}
 use Rattle.operands.proofs.Laws.{count-place}
 use Rattle.index.specs.Callees.{NodesStand}
 use Rattle.stateless.specs.Yield.{output_trees}
 use Rattle.stateless.specs.Faults.{unless, outputs_fault}
-use Rattle.emit.specs.Out.{Out, emits}
-use Rattle.emit.proofs.Laws.{emits-append, emits_none}
-
--- one after the other
-emits_then : (o o₁ o₂ : Out) (a b : List Token) → o₁ ≡ emits o a → o₂ ≡ emits o₁ b → o₂ ≡ emits o (a ++ b)
-emits_then o o₁ o₂ a b e f = f ∙ rw (e, emits-append o a b)
+use Rattle.emit.specs.declared.output.Output.{Output}
+use Rattle.emit.specs.Out.{emits}
+use Rattle.emit.proofs.Laws.{emits_none}
+use Rattle.emit.proofs.NodePartsLaws.{after}
 
 default-there : {A : Type 0} (o : Option A) (f : Fault) (r : Option Fault) → or_else (unless o f) r ≡ none → ((a : A) × (o ≡ some a)) × (r ≡ none)
 default-there none f r h = let z : ◌≡◌ {A = ℕ} 0 1 = cc in absurd (omega arith)
@@ -41,14 +46,45 @@ module _ (types : List TypeDef) (nodes : List Node) (node : Node) (f : ℕ) wher
   unfolding outputs_fault
   first-default ds d rest w h = default-there (default types d.type) (no_output_default d.name f) (outputs_fault types nodes node f rest) (rw w at h)
 
-  pub no-defaults : (M : ℕ) (ts : List TagValue) (k p : ℕ) (ds : List Declared) (q : ℕ) (o : Out) → k ≡ 0 → times k (declaration M) ts p ≡ got ds q → o ≡ emits o (join (operand_tokens (output_trees types nodes node ds)))
+  pub no-defaults : (M : ℕ) (ts : List TagValue) (k p : ℕ) (ds : List Declared) (q : ℕ) (o : Output) → k ≡ 0 → times k (declaration M) ts p ≡ got ds q → o ≡ emits o (join (operand_tokens (output_trees types nodes node ds)))
   unfolding output_trees operand_tokens
   no-defaults M ts k p ds q o z g = let n = times-nil (declaration M) ts k p ds q z g in rw n.0 (sym (emits_none o))
 
-  pub more-defaults : (ds : List Declared) (d : Declared) (rest : List Declared) (a : Expr) (o o₁ o₂ : Out) → ds ≡ d ∷ rest → default types d.type ≡ some a → o₁ ≡ emits o (expr_tokens a) → o₂ ≡ emits o₁ (join (operand_tokens (output_trees types nodes node rest))) →
+  pub more-defaults : (ds : List Declared) (d : Declared) (rest : List Declared) (a : Expr) (o o₁ o₂ : Output) → ds ≡ d ∷ rest → default types d.type ≡ some a → o₁ ≡ emits o (expr_tokens a) → o₂ ≡ emits o₁ (join (operand_tokens (output_trees types nodes node rest))) →
       o₂ ≡ emits o (join (operand_tokens (output_trees types nodes node ds)))
   unfolding output_trees operand_tokens
-  more-defaults ds d rest a o o₁ o₂ w i e g = emits_then o o₁ o₂ (expr_tokens a) (join (operand_tokens (output_trees types nodes node rest))) e g ∙ rw (w, i)
+  more-defaults ds d rest a o o₁ o₂ w i e g = after o o₁ o₂ (expr_tokens a) (join (operand_tokens (output_trees types nodes node rest))) e g ∙ rw (w, i)
+
+-- so many outputs from p on, whose defaults are written
+module _ (types : List TypeDef) (nodes : List Node) (node : Node) (M : ℕ) (ts : List TagValue) where
+  pub record Defaulting (k p : ℕ) (o o₁ : Output) : Type 0 where
+    pub all : (f : ℕ) (ds : List Declared) (q : ℕ) → times k (declaration M) ts p ≡ got ds q → outputs_fault types nodes node f ds ≡ none → o₁ ≡ emits o (join (operand_tokens (output_trees types nodes node ds)))
+
+  pub defaulting-none : (k p : ℕ) (o : Output) → k ≡ 0 → Defaulting k p o o
+  defaulting-none k p o z = record { all = λ f ds q g h. no-defaults types nodes node f M ts k p ds q o z g }
+
+  -- where there are such outputs, and where there are none
+  pub defaulted : (at k : ℕ) (u : code.Option (ℕ × ℕ)) → u ≡ Some (at, k) → (o o₁ : Output) → Defaulting k at o o₁ → (f : ℕ) (ds : List Declared) → Behind M ts u ds → outputs_fault types nodes node f ds ≡ none → o₁ ≡ emits o (join (operand_tokens (output_trees types nodes node ds)))
+  unfolding Behind
+  defaulted at k u i o o₁ x f ds d h = let g : (q : ℕ) × (times k (declaration M) ts at ≡ got ds q) = rw i at d in x.all f ds g.0 g.1 h
+
+  pub none-behind : (u : code.Option (ℕ × ℕ)) → u ≡ None → (o : Output) (ds : List Declared) → Behind M ts u ds → o ≡ emits o (join (operand_tokens (output_trees types nodes node ds)))
+  unfolding Behind output_trees operand_tokens
+  none-behind u i o ds d = let g : ds ≡ [] = rw i at d in rw g (sym (emits_none o))
+
+module _ (types : List TypeDef) (nodes : List Node) (node : Node) (M : ℕ) (gs vs : List ℕ) (same : length vs ≡ length gs) (k p : ℕ) (o : Output) (some_left : k ≡ 0 → ⊥) (r : Result ℕ Refusal) (i : r ≡ outcome (declaration M (tokens gs vs) p)) where
+  pub defaulting-refused : (e : Refusal) → r ≡ Err e → (o₁ : Output) → Defaulting types nodes node M (tokens gs vs) k p o o₁
+  defaulting-refused e j o₁ = record { all = λ f ds q g h. absurd (declared-not-refused M gs vs same k p ds q some_left g r i e j) }
+
+  pub defaulting-step : (next : ℕ) → r ≡ Ok next → (first : ℕ) → first ≡ past_in (length gs) p → (o₁ o₂ : Output) → ((t : Ty) (q : ℕ) (e : Expr) → ty M 8 (tokens gs vs) first ≡ got t q → default types t ≡ some e → o₁ ≡ emits o (expr_tokens e)) → (n : ℕ) → n ≡ k - 1 →
+      Defaulting types nodes node M (tokens gs vs) n next o₁ o₂ → Defaulting types nodes node M (tokens gs vs) k p o o₂
+  defaulting-step next b first j o₁ o₂ put n c x = record {
+    all = λ f ds q g h.
+        let u = declared-read M gs vs same k p ds q some_left g r i next b first j in
+        let d = u.0 in
+        let a = first-default types nodes node f ds _ d.rest d.whole h in
+        more-defaults types nodes node f ds _ d.rest a.0.0 o o₁ o₂ d.whole a.0.1 (put d.type d.next a.0.0 d.typed a.0.1) (x.all f d.rest q (ap (λ (y : ℕ). times y (declaration M) (tokens gs vs) next) c ∙ u.1) a.1);
+  }
 
 -- the outputs of an operator are few
 find-there : (p : Node → Bool) (l : List Node) (n : Node) → find p l ≡ some n → (i : ℕ) × (get_elem? l i ≡ some n)

@@ -9,6 +9,7 @@ use lib.ListN.{length, get_or}
 use Rattle.definitions.specs.declared.Token.{Token}
 use Rattle.definitions.specs.Tokens.{TagValue, code_of}
 use Rattle.definitions.specs.Bytes.{tokens}
+use Rattle.grammar.specs.Read.{tokens_of}
 use Rattle.definitions.specs.Tree.{Equation}
 use Rattle.definitions.specs.Reading.{got}
 use Rattle.definitions.specs.Grammar.{name, equation}
@@ -23,14 +24,16 @@ use Rattle.layout.specs.Spans.{Spanned, Spans}
 use Rattle.layout.proofs.Laws.{span-at, names_stand}
 use Rattle.stateless.specs.Yield.{Ids, shape_after, yield, right_yield}
 use Rattle.stateless.specs.Faults.{right_fault}
-use Rattle.emit.specs.Out.{Out, emits}
+use Rattle.emit.specs.declared.output.Output.{Output}
+use Rattle.emit.specs.Out.{emits}
 use Rattle.emit.proofs.Laws.{emits-codes}
-use Rattle.planned.specs.Writes.{Writer, Writes}
-use Rattle.planned.specs.Opening.{two_more, WrittenAs}
+use Rattle.planned.specs.declared.Written.{Written}
+use Rattle.planned.specs.Writes.{Writer}
+use Rattle.planned.specs.Opening.{two_more, WritesIn, WriterStands, WrittenAs}
 use Rattle.planned.specs.declared.Frame.{Frame}
 use Rattle.planned.specs.Framed.{frame_in, frame_of, lead_in, LeadOut, Framed}
 use Rattle.planned.specs.Planned.{EquationPlanned}
-use Rattle.planned.proofs.FramesLaws.{emits_then}
+use Rattle.emit.proofs.NodePartsLaws.{after}
 use Rattle.planned.proofs.FramesRights.{right-framed}
 
 -- ---- where the parts of an equation stand
@@ -54,8 +57,8 @@ parts_at M gs vs same p e q left g l =
     record { names = subst (λ (y : List ℕ). Spans (name M) (tokens gs vs) y left) f s.0; right = omega (arith, s.1, v.2, n.1, m, h); few = omega (arith, c.1, m, h) }
 
 -- ---- an equation
-module _ (M : ℕ) (gs vs : List ℕ) (W : Writer) (plan : List ℕ) (ids : Ids) (n p : ℕ) (c : Clock) (e : Equation) (q : ℕ) (same : ids.condact ≡ W.condact)
-    (free : right_fault W.types W.nodes W.node W.condact c e.left e.right ≡ none) (h : EquationPlanned M gs vs W plan W.condact ids n c e p q) where
+module _ (w : Written) (W : Writer) (ids : Ids) (n p : ℕ) (c : Clock) (e : Equation) (q : ℕ) (same : ids.condact ≡ W.condact) (free : right_fault W.types W.nodes W.node W.condact c e.left e.right ≡ none)
+    (h : EquationPlanned w.index.now.source.names w.index.now.source.tags.now w.index.now.source.values.now W w.plan.now W.condact ids n c e p q) where
   abbrev inner : List Token
   inner = expr_tokens (yield W.types W.nodes W.node ids c n e.right).value
 
@@ -63,7 +66,7 @@ module _ (M : ℕ) (gs vs : List ℕ) (W : Writer) (plan : List ℕ) (ids : Ids)
   whole = expr_tokens (right_yield W.types W.nodes W.node ids c e.left n e.right).value
 
   -- its right side in the frame that its word says
-  framed : Framed W.types W.nodes W.node W.condact (frame_in W.flag_ids (length e.left) (get_or plan p 0)) e.left inner whole
+  framed : Framed W.types W.nodes W.node W.condact (frame_in W.flag_ids (length e.left) (get_or w.plan.now p 0)) e.left inner whole
   framed =
       rw h.framed (
       subst (λ (k : ℕ). Framed W.types W.nodes W.node k (frame_of (is_base c) k (ids.flag c) e.left (shape_after W.types W.nodes W.node k c e.right)) e.left inner whole)
@@ -71,21 +74,21 @@ module _ (M : ℕ) (gs vs : List ℕ) (W : Writer) (plan : List ℕ) (ids : Ids)
       (right-framed W.types W.nodes W.node ids c e.left n e.right (ap (λ (k : ℕ). right_fault W.types W.nodes W.node k c e.left e.right) same ∙ free))
       )
 
-  pub equation-written : (left : Span) → PartsAt M (tokens gs vs) p e left → (flag_ids : List ℕ) → W.flag_ids ≡ flag_ids → (condact : ℕ) → W.condact ≡ condact → (word : ℕ) → word ≡ get_or plan p 0 → (f : Frame) → f ≡ frame_in flag_ids left.count word →
-      (o o₁ o₂ o₃ o₄ : Out) (end : ℕ) → o₁ ≡ emits o (Token.Count (length e.left) ∷ name_tokens e.left) → o₂ ≡ emits o₁ (lead_in condact (two_more left.count) f) → WrittenAs gs vs W plan left.end 1 o₂ o₃ end →
+  pub equation-written : (left : Span) → PartsAt w.index.now.source.names (tokens_of w.index.now.source) p e left → WriterStands w W → (word : ℕ) → word ≡ get_or w.plan.now p 0 → (f : Frame) → f ≡ frame_in w.flag_ids.now left.count word →
+      (o o₁ o₂ o₃ o₄ : Output) (end : ℕ) → o₁ ≡ emits o (Token.Count (length e.left) ∷ name_tokens e.left) → o₂ ≡ emits o₁ (lead_in w.index.now.condact (two_more left.count) f) → WrittenAs w W left.end 1 o₂ o₃ end →
       ((ks : List Token) → LeadOut W.types W.nodes W.node f e.left ks → o₄ ≡ emits o₃ ks) →
       (o₄ ≡ emits o (equation_tokens (record { left = e.left; right = (right_yield W.types W.nodes W.node ids c e.left n e.right).value }))) × (end ≡ q)
   unfolding equation_tokens
-  equation-written left s flag_ids i condact j word u f v o o₁ o₂ o₃ o₄ end a b d g =
+  equation-written left s stands word u f v o o₁ o₂ o₃ o₄ end a b d g =
       let m = s.names.many in
-      let is : f ≡ frame_in W.flag_ids (length e.left) (get_or plan p 0) = v ∙ rw (i, m, u) in
-      let w = d.same q (map code_of inner) (subst (λ (x : ℕ). Writes gs vs W plan x 1 q (map code_of inner)) (sym s.right) h.written) in
+      let is : f ≡ frame_in W.flag_ids (length e.left) (get_or w.plan.now p 0) = v ∙ rw (stands.flags, m, u) in
+      let k = d.same q (map code_of inner) (subst (λ (x : ℕ). WritesIn w W x 1 q (map code_of inner)) (sym s.right) h.written) in
       let t : two_more left.count ≡ length e.left + 2 = omega (arith, m, s.few) in
-      let l : lead_in condact (two_more left.count) f ≡ lead_in W.condact (length e.left + 2) (frame_in W.flag_ids (length e.left) (get_or plan p 0)) = rw (t, j, is) in
-      let k = g framed.behind (subst (λ (x : Frame). LeadOut W.types W.nodes W.node x e.left framed.behind) (sym is) framed.leads-out) in
-      let z : o₃ ≡ emits o₂ inner = w.0 ∙ emits-codes o₂ (map code_of inner) inner refl in (
-        emits_then o o₁ o₄ (Token.Count (length e.left) ∷ name_tokens e.left) whole a
-            (emits_then o₁ o₂ o₄ (lead_in condact (two_more left.count) f) (inner ++ framed.behind) b (emits_then o₂ o₃ o₄ inner framed.behind z k)
+      let l : lead_in w.index.now.condact (two_more left.count) f ≡ lead_in W.condact (length e.left + 2) (frame_in W.flag_ids (length e.left) (get_or w.plan.now p 0)) = rw (t, stands.condact, is) in
+      let r = g framed.behind (subst (λ (x : Frame). LeadOut W.types W.nodes W.node x e.left framed.behind) (sym is) framed.leads-out) in
+      let z : o₃ ≡ emits o₂ inner = k.0 ∙ emits-codes o₂ (map code_of inner) inner refl in (
+        after o o₁ o₄ (Token.Count (length e.left) ∷ name_tokens e.left) whole a
+            (after o₁ o₂ o₄ (lead_in w.index.now.condact (two_more left.count) f) (inner ++ framed.behind) b (after o₂ o₃ o₄ inner framed.behind z r)
             ∙ ap (emits o₁) (ap (λ (x : List Token). x ++ (inner ++ framed.behind)) l ∙ sym framed.whole)),
-        w.1,
+        k.1,
       )

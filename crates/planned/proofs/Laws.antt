@@ -3,29 +3,25 @@
 use mathlib.Core.Path.{◌≡◌, refl, sym, ◌∙◌, ap, subst}
 use mathlib.Core.List.{List, [], ◌∷◌, ◌++◌, append_assoc, append-nil}
 use mathlib.Core.Option.{none, some}
-use Prim.Native.Nat.{ℕ, zero, suc, ◌+◌, ◌-◌, ◌≤◌, ◌<◌}
+use Prim.Native.Nat.{ℕ, zero, suc, ◌+◌, ◌≤◌, ◌<◌}
 use native.Mathlib.Omega.{arith}
 use lib.ListN.{length, get_or}
-use Rattle.definitions.specs.Tokens.{TagValue, tag_value}
+use Rattle.definitions.specs.Tokens.{TagValue}
 use Rattle.definitions.specs.Tree.{Declared}
 use Rattle.definitions.specs.Declock.{operator_outputs}
 use Rattle.stateless.specs.Faults.{outputs_fault}
 use Rattle.layout.specs.Owed.{Owed}
 use Rattle.layout.proofs.Owed.{owed-on}
-use Rattle.emit.specs.Out.{Out, puts}
+use Rattle.emit.specs.declared.output.Output.{Output}
+use Rattle.emit.specs.Out.{puts}
 use Rattle.emit.proofs.Laws.{puts-append}
 use Rattle.skeleton.specs.Lies.{code_at, parts_at}
 use Rattle.planned.specs.declared.Plan.{Plan}
 use Rattle.planned.specs.Writes.{Writer, plan_at, named, gate_codes, default_codes, Writes}
-use Rattle.planned.specs.Opening.{two_more}
 
 -- one list after another
-pub then : (o m r : Out) (a b l : List TagValue) → m ≡ puts o a → r ≡ puts m b → l ≡ a ++ b → r ≡ puts o l
-then o m r a b l i j e = j ∙ (ap (λ (z : Out). puts z b) i ∙ (puts-append o a b ∙ ap (puts o) (sym e)))
-
--- three tokens, one after the other
-pub gate-written : (condact count flag m : ℕ) (o a b r : Out) → m ≡ two_more count → a ≡ puts o (tag_value 60 condact ∷ []) → b ≡ puts a (tag_value 3 m ∷ []) → r ≡ puts b (tag_value 54 flag ∷ []) → r ≡ puts o (gate_codes condact (two_more count) flag [])
-gate-written condact count flag m o a b r i e f g = then o b r (tag_value 60 condact ∷ tag_value 3 m ∷ []) (tag_value 54 flag ∷ []) (gate_codes condact (two_more count) flag []) (then o a b (tag_value 60 condact ∷ []) (tag_value 3 m ∷ []) (tag_value 60 condact ∷ tag_value 3 m ∷ []) e f refl) g (rw i)
+pub then : (o m r : Output) (a b l : List TagValue) → m ≡ puts o a → r ≡ puts m b → l ≡ a ++ b → r ≡ puts o l
+then o m r a b l i j e = j ∙ (ap (λ (z : Output). puts z b) i ∙ (puts-append o a b ∙ ap (puts o) (sym e)))
 
 -- what stands behind two lists
 behind : (a d f b l : List TagValue) → l ≡ f ++ b → a ++ (d ++ l) ≡ (a ++ (d ++ f)) ++ b

@@ -1,6 +1,6 @@
 -- The equations of a node one after another: those written so far, and those left.
 -- Assumes nothing.
-use Prim.Native.Nat.{ℕ, suc, ◌-◌, ◌<◌}
+use Prim.Native.Nat.{ℕ, suc, ◌+◌, ◌-◌, ◌≤◌, ◌<◌}
 use mathlib.Core.Path.{◌≡◌, refl, sym, ◌∙◌, ap, subst}
 use mathlib.Core.List.{List, [], ◌∷◌, map}
 use mathlib.Core.Option.{Option, none, some}
@@ -14,7 +14,8 @@ use Rattle.definitions.specs.InferClocks.{Clocked, Fault}
 use Rattle.definitions.specs.Output.{equation_tokens}
 use Rattle.stateless.specs.Yield.{Ids, right_yield, old_yield}
 use Rattle.stateless.specs.Faults.{right_fault, at_equation, old_fault}
-use Rattle.emit.specs.Out.{Out, emits}
+use Rattle.emit.specs.declared.output.Output.{Output}
+use Rattle.emit.specs.Out.{emits}
 use Rattle.emit.proofs.Laws.{emits-append, emits_none}
 use Rattle.planned.specs.Writes.{Writer}
 use Rattle.planned.specs.Planned.{EquationPlanned, EquationsPlanned}
@@ -34,7 +35,7 @@ module _ (M : ℕ) (gs vs : List ℕ) (W : Writer) (plan : List ℕ) (ids : Ids)
   old n cs = join (map equation_tokens (old_yield W.types W.nodes W.node ids n cs).value)
 
   -- so many equations are left at this place, and the others are written
-  pub record Left (whole o : Out) (count place q : ℕ) : Type 0 where
+  pub record Left (whole o : Output) (count place q : ℕ) : Type 0 where
     pub rest : List Clocked
     pub holds : ℕ
     pub number : ℕ
@@ -43,27 +44,27 @@ module _ (M : ℕ) (gs vs : List ℕ) (W : Writer) (plan : List ℕ) (ids : Ids)
     pub faultless : old_fault W.types W.nodes W.node W.condact number rest ≡ none
     pub same : whole ≡ emits o (old holds rest)
 
-  pub left-all : (cs : List Clocked) (o : Out) (count place q : ℕ) → old_fault W.types W.nodes W.node W.condact 0 cs ≡ none → length cs ≡ count → EquationsPlanned M gs vs W plan W.condact ids 0 cs place q →
-      Left (emits o (old 0 cs)) o count place q
-  left-all cs o count place q f n h = record { rest = cs; holds = 0; number = 0; stand = h; many = n; faultless = f; same = refl }
+  pub left-all : (cs : List Clocked) (o : Output) (count place q : ℕ) → old_fault W.types W.nodes W.node W.condact 0 cs ≡ none → length cs ≡ count → EquationsPlanned M gs vs W plan W.condact ids 0 cs place q →
+      Left (emits o (old 0 cs)) o (count - 0) place q
+  left-all cs o count place q f n h = record { rest = cs; holds = 0; number = 0; stand = h; many = omega arith; faultless = f; same = refl }
 
-  pub left-none : (whole o : Out) (count place q : ℕ) → count ≡ 0 → Left whole o count place q → o ≡ whole
+  pub left-none : (whole o : Output) (count i place q : ℕ) → count ≤ i → Left whole o (count - i) place q → o ≡ whole
   unfolding old_yield
-  left-none whole o count place q z d = go d.rest d.many d.same
+  left-none whole o count i place q z d = go d.rest d.many d.same
     where
-      go : (cs : List Clocked) → length cs ≡ count → whole ≡ emits o (old d.holds cs) → o ≡ whole
+      go : (cs : List Clocked) → length cs ≡ count - i → whole ≡ emits o (old d.holds cs) → o ≡ whole
       go [] n e = sym (e ∙ emits_none o)
       go (c ∷ cs) n e = absurd (omega arith)
 
-  pub left-more : (whole o o₁ : Out) (count place q end : ℕ) → 0 < count → Left whole o count place q →
+  pub left-more : (whole o o₁ : Output) (count i place q end : ℕ) → i < count → Left whole o (count - i) place q →
       ((n : ℕ) (c : Clock) (e : Equation) (s : ℕ) → right_fault W.types W.nodes W.node W.condact c e.left e.right ≡ none → EquationPlanned M gs vs W plan W.condact ids n c e place s →
       (o₁ ≡ emits o (equation_tokens (record { left = e.left; right = (right_yield W.types W.nodes W.node ids c e.left n e.right).value }))) × (end ≡ s)) →
-      Left whole o₁ (count - 1) end q
+      Left whole o₁ (count - (i + 1)) end q
   unfolding old_yield EquationsPlanned
-  left-more whole o o₁ count place q end some_left d f = go d.rest d.stand d.many d.faultless d.same
+  left-more whole o o₁ count i place q end some_left d f = go d.rest d.stand d.many d.faultless d.same
     where
-      go : (cs : List Clocked) → EquationsPlanned M gs vs W plan W.condact ids d.holds cs place q → length cs ≡ count → old_fault W.types W.nodes W.node W.condact d.number cs ≡ none → whole ≡ emits o (old d.holds cs) →
-          Left whole o₁ (count - 1) end q
+      go : (cs : List Clocked) → EquationsPlanned M gs vs W plan W.condact ids d.holds cs place q → length cs ≡ count - i → old_fault W.types W.nodes W.node W.condact d.number cs ≡ none → whole ≡ emits o (old d.holds cs) →
+          Left whole o₁ (count - (i + 1)) end q
       go [] h n k e = absurd (omega arith)
       go (c ∷ cs) h n k e =
           let b = first-faultless W.types W.nodes W.node W.condact d.number c cs k in
@@ -76,5 +77,5 @@ module _ (M : ℕ) (gs vs : List ℕ) (W : Writer) (plan : List ℕ) (ids : Ids)
             stand = subst (λ (p : ℕ). EquationsPlanned M gs vs W plan W.condact ids a.after cs p q) (sym w.1) h.2;
             many = omega arith;
             faultless = b.1;
-            same = e ∙ (sym (emits-append o (equation_tokens (record { left = c.equation.left; right = a.value })) (old a.after cs)) ∙ ap (λ (x : Out). emits x (old a.after cs)) (sym w.0));
+            same = e ∙ (sym (emits-append o (equation_tokens (record { left = c.equation.left; right = a.value })) (old a.after cs)) ∙ ap (λ (x : Output). emits x (old a.after cs)) (sym w.0));
           }

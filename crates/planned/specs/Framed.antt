@@ -15,9 +15,13 @@ use Rattle.planned.specs.declared.Frame.{Frame}
 abbrev pub gate_tokens : ℕ → ℕ → ℕ → List Token
 gate_tokens condact n flag = e (ExprToken.Call condact) ∷ Token.Count n ∷ e (ExprToken.Var flag) ∷ []
 
+-- a token, and a name behind it
+abbrev pub named_tokens : ExprToken → ℕ → List Token
+named_tokens t x = e t ∷ e (ExprToken.Var x) ∷ []
+
 -- the first tokens of a choice by a name
 abbrev pub choice_tokens : ℕ → List Token
-choice_tokens x = e ExprToken.If ∷ e (ExprToken.Var x) ∷ []
+choice_tokens x = named_tokens ExprToken.If x
 
 -- by the ids of flags and an equation's word, 0 or the row of its flag and one more
 abbrev pub frame_in : List ℕ → ℕ → ℕ → Frame

@@ -1,17 +1,27 @@
 -- What a node is written with.
 use Rattle.std.specs.Prelude.{ℕ, List}
-use Rattle.definitions.specs.Bytes.{tokens}
+use Rattle.grammar.specs.Read.{tokens_of}
+use Rattle.definitions.specs.Tree.{TypeDef, Node}
 use Rattle.definitions.specs.Declock.{declared}
+use Rattle.layout.specs.Table.{Table}
 use Rattle.layout.specs.declared.NodeLayout.{NodeLayout}
 use Rattle.layout.specs.Laid.{LaidNode}
 use Rattle.typing.specs.Found.{Declares}
-use Rattle.planned.specs.declared.Sizes.{Sizes}
+use Rattle.planned.specs.declared.Written.{Written}
 use Rattle.planned.specs.Writes.{Writer}
 use Rattle.planned.specs.Opening.{WriterStands}
 
--- the writer stands where the arrays say, its node too, and the table has the declared types of the node's names
-pub record Grounds (gs vs places type_places types flag_ids first_ids hold_ids : List ℕ) (k : Sizes) (layout : NodeLayout) (W : Writer) : Type 0 where
-  pub stands : WriterStands gs vs places type_places flag_ids first_ids hold_ids k W
+-- the types of a sheet, and those of the names of a node
+pub record TypesKnown (w : Written) (types : List TypeDef) (node : Node) : Type 0 where
+  pub layout : NodeLayout
   pub end : ℕ
-  pub laid : LaidNode k.names (tokens gs vs) W.node end layout
-  pub declares : Declares k.names (tokens gs vs) types (declared W.node)
+  pub laid : LaidNode w.index.now.source.names (tokens_of w.index.now.source) node end layout
+  pub table : Table w.index.now.source.names (tokens_of w.index.now.source) w.index.now.types.at w.index.now.types.count types
+  pub declares : Declares w.index.now.source.names (tokens_of w.index.now.source) w.types.now (declared node)
+
+-- the writer stands, its node too, and the table has the declared types of the node's names
+pub record Grounds (w : Written) (layout : NodeLayout) (W : Writer) : Type 0 where
+  pub stands : WriterStands w W
+  pub end : ℕ
+  pub laid : LaidNode w.index.now.source.names (tokens_of w.index.now.source) W.node end layout
+  pub declares : Declares w.index.now.source.names (tokens_of w.index.now.source) w.types.now (declared W.node)

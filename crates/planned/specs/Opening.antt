@@ -1,45 +1,60 @@
 -- What is written before a token's parts, and with what.
-use Rattle.std.specs.Prelude.{ℕ, ◌+◌, ◌-◌, ◌≡◌, List, ◌++◌}
+use Rattle.std.specs.Prelude.{ℕ, ◌+◌, ◌≡◌, List, [], ◌++◌, min}
 use Rattle.std.proofs.Math.Option.{none}
+use Rattle.std.specs.declared.option.Option as code
+use Rattle.std.specs.declared.option.Option.TheVariants.{None, Some}
 use Rattle.definitions.specs.Tokens.{TagValue}
-use Rattle.definitions.specs.Bytes.{tokens}
+use Rattle.grammar.specs.Read.{tokens_of}
 use Rattle.definitions.specs.Tree.{Declared}
 use Rattle.definitions.specs.Reading.{got, times}
 use Rattle.definitions.specs.Grammar.{declaration}
 use Rattle.layout.specs.Table.{Table}
-use Rattle.index.specs.Callees.{NodesStand}
+use Rattle.index.specs.Indexed.{NodesIn}
 use Rattle.stateless.specs.Faults.{outputs_fault}
-use Rattle.emit.specs.Out.{Out, puts}
-use Rattle.planned.specs.declared.Sizes.{Sizes}
+use Rattle.emit.specs.declared.output.Output.{Output}
+use Rattle.emit.specs.Out.{puts}
+use Rattle.planned.specs.declared.Written.{Written}
+use Rattle.planned.specs.declared.Plan.{Plan}
 use Rattle.planned.specs.declared.Opened.{Opened}
-use Rattle.planned.specs.Writes.{Writer, Writes, default_codes}
+use Rattle.planned.specs.Writes.{Writer, plan_at, Writes, default_codes}
 
 -- two more, as far as a word goes
 abbrev pub two_more : ℕ → ℕ
-two_more n = 4294967295 - (4294967295 - (n + 2))
+two_more n = min (n + 2) 4294967295
 
--- the writer's nodes and types stand where the arrays say, and its ids are theirs
-pub record WriterStands (gs vs places type_places flag_ids first_ids hold_ids : List ℕ) (k : Sizes) (W : Writer) : Type 0 where
-  pub standing : NodesStand k.names gs vs places k.nodes W.nodes
-  pub table : Table k.names (tokens gs vs) type_places k.types W.types
-  pub condact : W.condact ≡ k.condact
-  pub flags : W.flag_ids ≡ flag_ids
-  pub firsts : W.first_ids ≡ first_ids
-  pub holds : W.hold_ids ≡ hold_ids
+-- what is written with: the writer's nodes and types stand where the index says, and its ids are those that are lent
+pub record WriterStands (w : Written) (W : Writer) : Type 0 where
+  pub standing : NodesIn w.index.now W.nodes
+  pub table : Table w.index.now.source.names (tokens_of w.index.now.source) w.index.now.types.at w.index.now.types.count W.types
+  pub condact : W.condact ≡ w.index.now.condact
+  pub flags : W.flag_ids ≡ w.flag_ids.now
+  pub firsts : W.first_ids ≡ w.first_ids.now
+  pub holds : W.hold_ids ≡ w.hold_ids.now
+
+-- what becomes of the token at p by the plan that is lent, and what this plan writes
+abbrev pub plan_in : Written → Writer → ℕ → Plan
+plan_in w W p = plan_at w.index.now.source.tags.now w.index.now.source.values.now W w.plan.now p
+
+abbrev pub WritesIn : Written → Writer → ℕ → ℕ → ℕ → List TagValue → Type 0
+WritesIn w W p n q l = Writes w.index.now.source.tags.now w.index.now.source.values.now W w.plan.now p n q l
+
+-- the outputs whose defaults stand behind the parts: where they are declared, and how many there are; or none are
+unfoldable pub Behind : ℕ → List TagValue → code.Option (ℕ × ℕ) → List Declared → Type 0
+Behind M ts None ds = ds ≡ []
+Behind M ts (Some o) ds = (q : ℕ) × (times o.1 (declaration M) ts o.0 ≡ got ds q)
 
 -- of the part that is written as l up to q, the first tokens are written; the parts behind them, and the outputs' defaults, are left
-pub record OpenedAs (M : ℕ) (gs vs : List ℕ) (W : Writer) (plan : List ℕ) (q : ℕ) (l : List TagValue) (r : Opened) (o o₁ : Out) : Type 0 where
+pub record OpenedAs (w : Written) (W : Writer) (q : ℕ) (l : List TagValue) (r : Opened) (o o₁ : Output) : Type 0 where
   pub head : List TagValue
   pub inner : List TagValue
   pub called : ℕ
   pub outputs : List Declared
-  pub end : ℕ
   pub put : o₁ ≡ puts o head
-  pub written : Writes gs vs W plan r.from r.many q inner
-  pub stand : times r.count (declaration M) (tokens gs vs) r.first ≡ got outputs end
+  pub written : WritesIn w W r.from r.many q inner
+  pub stand : Behind w.index.now.source.names (tokens_of w.index.now.source) r.outputs outputs
   pub faultless : outputs_fault W.types W.nodes W.node called outputs ≡ none
   pub whole : l ≡ head ++ (inner ++ default_codes W outputs)
 
 -- whatever the plan writes so many parts from p on as is written, and they end there
-pub record WrittenAs (gs vs : List ℕ) (W : Writer) (plan : List ℕ) (p n : ℕ) (o o₁ : Out) (end : ℕ) : Type 0 where
-  pub same : (q : ℕ) (l : List TagValue) → Writes gs vs W plan p n q l → (o₁ ≡ puts o l) × (end ≡ q)
+pub record WrittenAs (w : Written) (W : Writer) (p n : ℕ) (o o₁ : Output) (end : ℕ) : Type 0 where
+  pub same : (q : ℕ) (l : List TagValue) → WritesIn w W p n q l → (o₁ ≡ puts o l) × (end ≡ q)

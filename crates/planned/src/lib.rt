@@ -1,22 +1,22 @@
 // A planned node as tokens: its expressions, holds, left names, what stands around a right side, its equations.
 #![tactic(auto)]
 
-ghost use Rattle.std.specs.Prelude.{◌≡◌, List, [], ◌∷◌, map, ℕ, ◌+◌, ◌-◌, ◌≤◌, ◌<◌, ◌*◌, length, get_or};
+ghost use Rattle.std.specs.Prelude.{◌≡◌, List, [], ◌∷◌, map, ℕ, ◌+◌, ◌-◌, ◌≤◌, ◌<◌, ◌*◌, length, get_or, None};
 ghost use Rattle.std.proofs.Math.Option.{none, some};
-ghost use Rattle.definitions.specs.Bytes.{tokens};
+ghost use Rattle.grammar.specs.Read.{tokens_of};
 ghost use Rattle.definitions.specs.Lists.{join};
-ghost use Rattle.definitions.specs.Tokens.{TagValue, tag_value};
+ghost use Rattle.definitions.specs.Tokens.{TagValue};
 ghost use Rattle.definitions.specs.Tree.{Declared, TypeDef, Node, Ty, Expr, Equation};
 ghost use Rattle.definitions.specs.Reading.{got, times};
 ghost use Rattle.definitions.specs.Grammar.{declaration, ty, name};
 ghost use Rattle.definitions.specs.Output.{operand_tokens, ty_tokens, declared_tokens, equation_tokens, expr_tokens, name_tokens};
 ghost use Rattle.layout.specs.Table.{Table};
-ghost use Rattle.layout.specs.Owed.{parts, Owed};
+ghost use Rattle.layout.specs.Owed.{Owed};
 ghost use Rattle.stateless.specs.Yield.{output_trees, Ids, left_tree, left_trees, right_yield, old_yield};
 ghost use Rattle.stateless.specs.Faults.{outputs_fault, left_fault, lefts_fault, right_fault, old_fault};
-ghost use Rattle.emit.specs.Out.{out, puts, emits};
-ghost use Rattle.planned.specs.Writes.{Writer, plan_of, plan_at, gate_codes, Writes};
-ghost use Rattle.planned.specs.Opening.{two_more, WriterStands, OpenedAs, WrittenAs};
+ghost use Rattle.emit.specs.Out.{puts, emits};
+ghost use Rattle.planned.specs.Writes.{Writer, plan_of};
+ghost use Rattle.planned.specs.Opening.{two_more, Behind, plan_in, WritesIn, WriterStands, OpenedAs, WrittenAs};
 ghost use Rattle.definitions.specs.Declock.{Hold, declared, operand_type};
 ghost use Rattle.operands.specs.Spread.{tree};
 ghost use Rattle.typing.specs.Found.{IsFound, Declares};
@@ -25,34 +25,35 @@ ghost use Rattle.planned.specs.Shown.{hold_equations, hold_declarations, hold_to
 ghost use Rattle.definitions.specs.declared.Token.{Token};
 ghost use Rattle.layout.specs.Spans.{Spans};
 ghost use Rattle.layout.specs.declared.NodeLayout.{NodeLayout};
-ghost use Rattle.layout.specs.Laid.{LaidNode};
-ghost use Rattle.planned.specs.Framed.{frame_in, lead_in, DefaultThenHeld, LeadOut};
+ghost use Rattle.planned.specs.Framed.{gate_tokens, named_tokens, frame_in, lead_in, DefaultThenHeld, LeadOut};
 ghost use Rattle.definitions.specs.Clock.{Clock};
 ghost use Rattle.definitions.specs.InferClocks.{Clocked};
 ghost use Rattle.planned.specs.Planned.{EquationPlanned, EquationsPlanned};
-ghost use Rattle.planned.specs.Grounds.{Grounds};
+ghost use Rattle.planned.specs.Grounds.{TypesKnown, Grounds};
 
-use definitions::{
-    ARRAY_LEVELS, ExprToken, MOST_NODES, MOST_TYPES, Token, TypeToken, WORKING_TOKENS,
-};
-use grammar::{Read, TypeHead};
-use index::Callee;
-use layout::Span;
+use definitions::{ExprToken, MOST_TYPES, Token, TypeToken};
+use emit::Output;
+use grammar::Source;
+use index::Index;
+use layout::{PartsTable, PlaceTable, Span};
 use typing::TypeFound;
 
 // ---- Writing an expression of an accepted sheet by its plan: an array that has a word for each token. Of a `pre` the word is 0, or the
 // number of its hold and one more; of a `->` 0, or the row of its first-tick flag and one more; of a call 0, or the row of its activation
-// flag and one more; of a when and a merge, and of all else, the tag says what becomes of it. `table` is the table of parts; `flag_ids`,
-// `first_ids` and `hold_ids` have the ids of new names by row and by number; `otags` and `ovalues` are the output's tokens, of which w are
-// written.
+// flag and one more; of a when and a merge, and of all else, the tag says what becomes of it. `output` is what is written so far.
 
-// How many names, nodes and type definitions there are; the id of `condact`.
+// What writing a node's equations reads: the sheet's index, the plan, the table of parts, the ids of new names by row and by number, the
+// holds, two words each (where its operand stands, and the row of its flag), and the declared types of the node's names.
 #[derive(Clone, Copy)]
-pub struct Sizes {
-    pub names: u32,
-    pub nodes: usize,
-    pub types: usize,
-    pub condact: u32,
+pub struct Written<'a> {
+    pub index: &'a Index<'a>,
+    pub plan: &'a [u32],
+    pub parts: &'a PartsTable,
+    pub flag_ids: &'a [u32],
+    pub first_ids: &'a [u32],
+    pub hold_ids: &'a [u32],
+    pub holds: &'a [u32],
+    pub types: &'a [u32],
 }
 
 // What becomes of a token and its parts: it stays; its part alone does; a choice by a name between its two parts; the `pre` of a name,
@@ -66,754 +67,336 @@ pub enum Plan {
     Gate(u32),
 }
 
-// Where the next token goes, and where what was walked ends.
-#[derive(Clone, Copy)]
-pub struct Walked {
-    pub next: usize,
-    pub end: usize,
-}
-
-// Where the next token goes, how many parts are to be written and from where on, and where the outputs are declared whose defaults stand
-// behind them, and how many.
+// How many parts are to be written and from where on, and where the outputs are declared whose defaults stand behind them, and how many.
 #[derive(Clone, Copy)]
 pub struct Opened {
-    pub next: usize,
     pub many: u32,
     pub from: usize,
-    pub first: usize,
-    pub count: u32,
+    pub outputs: Option<(usize, u32)>,
+}
+
+// So many parts from a place on, without defaults behind them.
+fn bare(many: u32, from: usize) -> Opened
+    ensures { result ≡ record { many = many; from = from; outputs = None } }
+{
+    Opened {
+        many,
+        from,
+        outputs: None,
+    }
 }
 
 // The id of a row or a number, one less than the word.
 fn id_of(ids: &[u32], word: u32) -> u32
     ensures { result ≡ get_or ids.now (word - 1) 0 }
 {
-    if word == 0 {
-        return clock_tables::word_at(ids, 0);
-    }
-    clock_tables::word_at(ids, (word - 1) as usize)
+    clock_tables::word_at(ids, word.saturating_sub(1) as usize)
 }
 
 // What becomes of a token with this tag, value and word.
-fn plan_of(
-    flag_ids: &[u32],
-    first_ids: &[u32],
-    hold_ids: &[u32],
-    tag: u8,
-    value: u32,
-    word: u32,
-) -> Plan
-    ensures { result ≡ plan_of flag_ids.now first_ids.now hold_ids.now tag value word }
+fn plan_of(written: &Written<'_>, tag: u8, value: u32, word: u32) -> Plan
+    ensures { result ≡ plan_of written.now.flag_ids.now written.now.first_ids.now written.now.hold_ids.now tag value word }
 {
     match tag {
-        58 => if word == 0 {
-            Plan::Stay
-        } else {
-            Plan::Hold(id_of(hold_ids, word))
-        },
-        59 => if word == 0 {
-            Plan::Stay
-        } else {
-            Plan::Choose(id_of(first_ids, word))
-        },
-        60 => if word == 0 {
-            Plan::Stay
-        } else {
-            Plan::Gate(id_of(flag_ids, word))
-        },
         67 => Plan::Drop,
         68 => Plan::Drop,
         69 => Plan::Choose(value),
+        _ if word == 0 => Plan::Stay,
+        58 => Plan::Hold(id_of(written.hold_ids, word)),
+        59 => Plan::Choose(id_of(written.first_ids, word)),
+        60 => Plan::Gate(id_of(written.flag_ids, word)),
         _ => Plan::Stay,
     }
 }
 
-// Two tokens, the second a name.
-fn put_named(
-    otags: &mut [u8; WORKING_TOKENS],
-    ovalues: &mut [u32; WORKING_TOKENS],
-    w: usize,
-    tag: u8,
-    x: u32,
-) -> usize
-    ensures { out otags.new ovalues.new result ≡ puts (out otags.old ovalues.old w) (tag_value tag 0 ∷ tag_value 54 x ∷ []) }
+// A token, and a name behind it.
+fn put_named(output: &mut Output, first: ExprToken, x: u32)
+    ensures { output.new ≡ emits output.old (named_tokens first x) }
 {
-    let next = emit::put(otags, ovalues, w, tag, 0);
-    emit::put(otags, ovalues, next, 54, x)
-}
-
-// Two more, as far as a word goes.
-fn two_more(n: u32) -> u32
-    ensures { result ≡ two_more n }
-{
-    if n < 4294967293 { n + 2 } else { 4294967295 }
+    output.emit_all(&[
+        Token::Expression(first),
+        Token::Expression(ExprToken::Var(x)),
+    ]);
 }
 
 // The first tokens of a gated call with n outputs.
-fn put_gate(
-    otags: &mut [u8; WORKING_TOKENS],
-    ovalues: &mut [u32; WORKING_TOKENS],
-    w: usize,
-    condact: u32,
-    n: u32,
-    flag: u32,
-) -> usize
-    ensures { out otags.new ovalues.new result ≡ puts (out otags.old ovalues.old w) (gate_codes condact (two_more n) flag []) }
+fn put_gate(output: &mut Output, condact: u32, n: u32, flag: u32)
+    ensures { output.new ≡ emits output.old (gate_tokens condact (two_more n) flag) }
 {
-    let m = two_more(n);
-    let a = emit::put(otags, ovalues, w, 60, condact);
-    let b = emit::put(otags, ovalues, a, 3, m);
-    emit::put(otags, ovalues, b, 54, flag)
+    output.emit_all(&[
+        Token::Expression(ExprToken::Call(condact)),
+        Token::Count(n.saturating_add(2)),
+        Token::Expression(ExprToken::Var(flag)),
+    ]);
 }
 
-// The defaults of so many outputs, one after another.
+// The defaults of a gated call's outputs, one after another.
 fn put_defaults(
-    tags: &[u8],
-    values: &[u32],
-    names: u32,
-    places: &[usize; MOST_TYPES],
-    types: usize,
-    count: u32,
-    at: usize,
-    otags: &mut [u8; WORKING_TOKENS],
-    ovalues: &mut [u32; WORKING_TOKENS],
-    w: usize,
-) -> usize
-    requires values_len { length values.now ≡ length tags.now }
-    requires types_bound { types ≤ 32 }
-    ensures { (ts : List TypeDef) (l : List Node) (n : Node) (f : ℕ) (ds : List Declared) (q : ℕ) → Table names (tokens tags.now values.now) places.now types ts → times count (declaration names) (tokens tags.now values.now) at ≡ got ds q → outputs_fault ts l n f ds ≡ none → out otags.new ovalues.new result ≡ emits (out otags.old ovalues.old w) (join (operand_tokens (output_trees ts l n ds))) }
+    source: &Source<'_>,
+    types: &PlaceTable<MOST_TYPES>,
+    outputs: Option<(usize, u32)>,
+    output: &mut Output,
+)
+    ensures { (ts : List TypeDef) (l : List Node) (n : Node) (f : ℕ) (ds : List Declared) → Table source.now.names (tokens_of source.now) types.now.at types.now.count ts → Behind source.now.names (tokens_of source.now) outputs ds → outputs_fault ts l n f ds ≡ none → output.new ≡ emits output.old (join (operand_tokens (output_trees ts l n ds))) }
 {
-    if count == 0 {
-        return w;
+    let Some((at, count)) = outputs else {
+        return;
+    };
+    let mut place = at;
+    for _ in 0..count {
+        let Ok(next) = grammar::read_declaration(source, place) else {
+            return;
+        };
+        let first = layout::behind(source.tags, place);
+        defaults::emit_default(source, types, first, output);
+        place = next;
     }
-    let label = grammar::read_name(tags, values, names, at);
-    let Read::Next(first) = label else {
-        return w;
-    };
-    let read = grammar::read_type(tags, values, names, ARRAY_LEVELS, first);
-    let Read::Next(next) = read else {
-        return w;
-    };
-    let a = defaults::emit_default(tags, values, names, places, types, first, otags, ovalues, w);
-    put_defaults(
-        tags,
-        values,
-        names,
-        places,
-        types,
-        count - 1,
-        next,
-        otags,
-        ovalues,
-        a,
-    )
 }
 
 // The end of the part behind a token.
-fn part_end(tags: &[u8], values: &[u32], at: usize) -> usize
-    requires values_len { length values.now ≡ length tags.now }
-    requires at_in_bounds { at < length tags.now }
+fn part_end(source: &Source<'_>, at: usize) -> usize
+    requires at_in_bounds { at < length source.now.tags.now }
     ensures lower_bound { at < result }
-    ensures by_index { (q : ℕ) → Owed tags.now values.now (at + 1) 1 q → result ≡ q }
+    ensures by_index { (q : ℕ) → Owed source.now.tags.now source.now.values.now (at + 1) 1 q → result ≡ q }
 {
-    let end = layout::past(tags, values, 1, at + 1);
+    let end = layout::past(source, 1, at + 1);
     if end <= at { at + 1 } else { end }
 }
 
 // What is written before the parts of a call that is gated under this flag.
-fn open_gate(
-    tags: &[u8],
-    values: &[u32],
-    places: &[usize; MOST_NODES],
-    otags: &mut [u8; WORKING_TOKENS],
-    ovalues: &mut [u32; WORKING_TOKENS],
-    k: Sizes,
-    w: usize,
-    at: usize,
-    flag: u32,
-) -> Opened
-    requires values_len { length values.now ≡ length tags.now }
-    requires at_in_bounds { at < length tags.now }
-    requires nodes_bound { k.nodes ≤ 16 }
-    ensures from_value { (result.from ≡ at + 1) × (result.many ≡ 0 → result.count ≡ 0) }
-    ensures opened_as { (type_places flag_ids first_ids hold_ids plan : List ℕ) (W : Writer) (q : ℕ) (l : List TagValue) → WriterStands tags.now values.now places.now type_places flag_ids first_ids hold_ids k W → plan_at tags.now values.now W plan at ≡ Plan.Gate flag → Writes tags.now values.now W plan at 1 q l → OpenedAs k.names tags.now values.now W plan q l result (out otags.old ovalues.old w) (out otags.new ovalues.new result.next) }
+fn open_gate(written: &Written<'_>, at: usize, flag: u32, output: &mut Output) -> Opened
+    requires at_in_bounds { at < length written.now.index.now.source.tags.now }
+    ensures from_value { (result.from ≡ at + 1) × (result.many ≡ 0 → result.outputs ≡ None) }
+    ensures opened_as { (W : Writer) (q : ℕ) (l : List TagValue) → WriterStands written.now W → plan_in written.now W at ≡ Plan.Gate flag → WritesIn written.now W at 1 q l → OpenedAs written.now W q l result output.old output.new }
 {
-    let tag = tags[at];
+    let index = written.index;
+    let tags = index.source.tags;
+    let values = index.source.values;
     let value = values[at];
-    let found = index::operator_of(tags, values, k.names, places, k.nodes, value);
-    match found {
-        Callee::Other => Opened {
-            next: w,
-            many: 0,
-            from: at + 1,
-            first: at,
-            count: 0,
-        },
-        Callee::Operator(first, count) => {
-            let a = put_gate(otags, ovalues, w, k.condact, count, flag);
-            let b = emit::put(otags, ovalues, a, tag, value);
-            Opened {
-                next: b,
-                many: 1,
-                from: at + 1,
-                first: first,
-                count: count,
-            }
-        }
+    let Some((first, count)) = index.operator_of(value) else {
+        return bare(0, at + 1);
+    };
+    put_gate(output, index.condact, count, flag);
+    output.put(tags[at], value);
+    Opened {
+        many: 1,
+        from: at + 1,
+        outputs: Some((first, count)),
     }
 }
 
 // What is written before the parts of a token, by what becomes of it.
-fn opening(
-    tags: &[u8],
-    values: &[u32],
-    places: &[usize; MOST_NODES],
-    table: &[u8; 72],
-    otags: &mut [u8; WORKING_TOKENS],
-    ovalues: &mut [u32; WORKING_TOKENS],
-    k: Sizes,
-    w: usize,
-    at: usize,
-    p: Plan,
-) -> Opened
-    requires values_len { length values.now ≡ length tags.now }
-    requires table_value { table.now ≡ parts }
-    requires at_in_bounds { at < length tags.now }
-    requires nodes_bound { k.nodes ≤ 16 }
-    ensures at_lt_from { (at < result.from) × (result.many ≡ 0 → result.count ≡ 0) }
-    ensures opened_as { (type_places flag_ids first_ids hold_ids plan : List ℕ) (W : Writer) (q : ℕ) (l : List TagValue) → WriterStands tags.now values.now places.now type_places flag_ids first_ids hold_ids k W → plan_at tags.now values.now W plan at ≡ p → Writes tags.now values.now W plan at 1 q l → OpenedAs k.names tags.now values.now W plan q l result (out otags.old ovalues.old w) (out otags.new ovalues.new result.next) }
+fn opening(written: &Written<'_>, at: usize, p: Plan, output: &mut Output) -> Opened
+    requires at_in_bounds { at < length written.now.index.now.source.tags.now }
+    ensures at_lt_from { (at < result.from) × (result.many ≡ 0 → result.outputs ≡ None) }
+    ensures opened_as { (W : Writer) (q : ℕ) (l : List TagValue) → WriterStands written.now W → plan_in written.now W at ≡ p → WritesIn written.now W at 1 q l → OpenedAs written.now W q l result output.old output.new }
 {
+    let source = &written.index.source;
+    let tags = source.tags;
+    let values = source.values;
     match p {
         Plan::Stay => {
             let tag = tags[at];
             let value = values[at];
-            let a = emit::put(otags, ovalues, w, tag, value);
-            let many = layout::follow(table, tag, value);
-            Opened {
-                next: a,
-                many: many,
-                from: at + 1,
-                first: at,
-                count: 0,
-            }
+            output.put(tag, value);
+            let many = written.parts.follow(tag, value);
+            bare(many, at + 1)
         }
-        Plan::Drop => Opened {
-            next: w,
-            many: 1,
-            from: at + 1,
-            first: at,
-            count: 0,
-        },
+        Plan::Drop => bare(1, at + 1),
         Plan::Choose(x) => {
-            let a = put_named(otags, ovalues, w, 57, x);
-            Opened {
-                next: a,
-                many: 2,
-                from: at + 1,
-                first: at,
-                count: 0,
-            }
+            put_named(output, ExprToken::If, x);
+            bare(2, at + 1)
         }
         Plan::Hold(x) => {
-            let a = put_named(otags, ovalues, w, 58, x);
-            let end = part_end(tags, values, at);
-            Opened {
-                next: a,
-                many: 0,
-                from: end,
-                first: at,
-                count: 0,
-            }
+            put_named(output, ExprToken::Pre, x);
+            let end = part_end(source, at);
+            bare(0, end)
         }
-        Plan::Gate(x) => open_gate(tags, values, places, otags, ovalues, k, w, at, x),
+        Plan::Gate(x) => open_gate(written, at, x, output),
     }
 }
 
-// The part that stands there.
+// The part that stands there, and where it ends.
 #[cycle(walk)]
-fn expr(
-    tags: &[u8],
-    values: &[u32],
-    places: &[usize; MOST_NODES],
-    type_places: &[usize; MOST_TYPES],
-    plan: &[u32],
-    table: &[u8; 72],
-    flag_ids: &[u32],
-    first_ids: &[u32],
-    hold_ids: &[u32],
-    otags: &mut [u8; WORKING_TOKENS],
-    ovalues: &mut [u32; WORKING_TOKENS],
-    k: Sizes,
-    w: usize,
-    at: usize,
-) -> Walked
-    requires values_len { length values.now ≡ length tags.now }
-    requires table_value { table.now ≡ parts }
-    requires nodes_bound { (k.nodes ≤ 16) × (k.types ≤ 32) }
-    ensures { (W : Writer) → WriterStands tags.now values.now places.now type_places.now flag_ids.now first_ids.now hold_ids.now k W → WrittenAs tags.now values.now W plan.now at 1 (out otags.old ovalues.old w) (out otags.new ovalues.new result.next) result.end }
+fn expr(written: &Written<'_>, at: usize, output: &mut Output) -> usize
+    ensures { (W : Writer) → WriterStands written.now W → WrittenAs written.now W at 1 output.old output.new result }
 {
+    let source = &written.index.source;
+    let tags = source.tags;
+    let values = source.values;
     if tags.len() <= at {
-        return Walked { next: w, end: at };
+        return at;
     }
-    let word = clock_tables::word_at(plan, at);
-    let p = plan_of(flag_ids, first_ids, hold_ids, tags[at], values[at], word);
-    let o = opening(tags, values, places, table, otags, ovalues, k, w, at, p);
+    let word = clock_tables::word_at(written.plan, at);
+    let p = plan_of(written, tags[at], values[at], word);
+    let o = opening(written, at, p, output);
     if o.many == 0 {
-        return Walked {
-            next: o.next,
-            end: o.from,
-        };
+        return o.from;
     }
-    let r = exprs(
-        tags,
-        values,
-        places,
-        type_places,
-        plan,
-        table,
-        flag_ids,
-        first_ids,
-        hold_ids,
-        otags,
-        ovalues,
-        k,
-        o.next,
-        o.many,
-        o.from,
-    );
-    if o.count == 0 {
-        return r;
-    }
-    let end = put_defaults(
-        tags,
-        values,
-        k.names,
-        type_places,
-        k.types,
-        o.count,
-        o.first,
-        otags,
-        ovalues,
-        r.next,
-    );
-    Walked {
-        next: end,
-        end: r.end,
-    }
+    let end = exprs(written, o.many, o.from, output);
+    put_defaults(source, &written.index.types, o.outputs, output);
+    end
 }
 
-// So many parts that stand from a place on.
+// So many parts that stand from a place on, and where they end.
 #[cycle(walk)]
-fn exprs(
-    tags: &[u8],
-    values: &[u32],
-    places: &[usize; MOST_NODES],
-    type_places: &[usize; MOST_TYPES],
-    plan: &[u32],
-    table: &[u8; 72],
-    flag_ids: &[u32],
-    first_ids: &[u32],
-    hold_ids: &[u32],
-    otags: &mut [u8; WORKING_TOKENS],
-    ovalues: &mut [u32; WORKING_TOKENS],
-    k: Sizes,
-    w: usize,
-    many: u32,
-    at: usize,
-) -> Walked
-    requires values_len { length values.now ≡ length tags.now }
-    requires table_value { table.now ≡ parts }
-    requires nodes_bound { (k.nodes ≤ 16) × (k.types ≤ 32) }
-    ensures { (W : Writer) → WriterStands tags.now values.now places.now type_places.now flag_ids.now first_ids.now hold_ids.now k W → WrittenAs tags.now values.now W plan.now at many (out otags.old ovalues.old w) (out otags.new ovalues.new result.next) result.end }
+fn exprs(written: &Written<'_>, many: u32, at: usize, output: &mut Output) -> usize
+    ensures { (W : Writer) → WriterStands written.now W → WrittenAs written.now W at many output.old output.new result }
 {
-    let mut left = many;
     let mut from = at;
-    let mut to = w;
-    while 0 < left {
-        let r = expr(
-            tags,
-            values,
-            places,
-            type_places,
-            plan,
-            table,
-            flag_ids,
-            first_ids,
-            hold_ids,
-            otags,
-            ovalues,
-            k,
-            to,
-            from,
-        );
-        let end = r.end;
-        to = r.next;
+    for _ in 0..many {
+        let end = expr(written, from, output);
         if end <= from {
-            return Walked {
-                next: to,
-                end: from,
-            };
+            return from;
         }
         from = end;
-        left -= 1;
     }
-    Walked {
-        next: to,
-        end: from,
-    }
+    from
 }
 
-// ---- The holds of a rewritten node, by number: their declarations, and their equations. `holds` has two words a hold: where its operand stands,
-// and the row of its flag. `types` has the declared types of names; all else is as in crate `planned`.
+// ---- The holds of a rewritten node, by number: their declarations, and their equations.
 
 // The tokens of the type at a place.
-fn put_type_at(
-    tags: &[u8],
-    values: &[u32],
-    names: u32,
-    at: usize,
-    otags: &mut [u8; WORKING_TOKENS],
-    ovalues: &mut [u32; WORKING_TOKENS],
-    w: usize,
-) -> usize
-    requires { length values.now ≡ length tags.now }
-    ensures { (d : ℕ) (a : Ty) (q : ℕ) → ty names d (tokens tags.now values.now) at ≡ got a q → out otags.new ovalues.new result ≡ emits (out otags.old ovalues.old w) (ty_tokens a) }
+fn put_type_at(source: &Source<'_>, at: usize, output: &mut Output)
+    ensures { (d : ℕ) (a : Ty) (q : ℕ) → ty source.now.names d (tokens_of source.now) at ≡ got a q → output.new ≡ emits output.old (ty_tokens a) }
 {
-    let head = grammar::type_head(tags, values, names, at);
-    match head {
-        TypeHead::Refused(_) => w,
-        TypeHead::Token(t, next) => {
-            let a = emit::emit(otags, ovalues, w, Token::Type(t));
-            match t {
-                TypeToken::Basic(_) => a,
-                TypeToken::Named(_) => a,
-                TypeToken::Array(_) => {
-                    if next <= at {
-                        return a;
-                    }
-                    put_type_at(tags, values, names, next, otags, ovalues, a)
-                }
+    let Ok((t, next)) = grammar::type_head(source, at) else {
+        return;
+    };
+    output.emit(Token::Type(t));
+    match t {
+        TypeToken::Basic(_) => {}
+        TypeToken::Named(_) => {}
+        TypeToken::Array(_) => {
+            if next <= at {
+                return;
             }
+            put_type_at(source, next, output);
         }
     }
 }
 
 // The tokens of a type that was found.
-fn put_type(
-    tags: &[u8],
-    values: &[u32],
-    names: u32,
-    found: TypeFound,
-    otags: &mut [u8; WORKING_TOKENS],
-    ovalues: &mut [u32; WORKING_TOKENS],
-    w: usize,
-) -> usize
-    requires { length values.now ≡ length tags.now }
-    ensures { (a : Ty) → IsFound names (tokens tags.now values.now) (some a) found → out otags.new ovalues.new result ≡ emits (out otags.old ovalues.old w) (ty_tokens a) }
+fn put_type(source: &Source<'_>, found: Option<TypeFound>, output: &mut Output)
+    ensures { (a : Ty) → IsFound source.now.names (tokens_of source.now) (some a) found → output.new ≡ emits output.old (ty_tokens a) }
 {
-    match found {
-        TypeFound::At(p) => put_type_at(tags, values, names, p, otags, ovalues, w),
-        TypeFound::Basic(b) => emit::emit(otags, ovalues, w, Token::Type(TypeToken::Basic(b))),
-        TypeFound::Unknown => w,
+    let Some(f) = found else {
+        return;
+    };
+    match f {
+        TypeFound::At(p) => put_type_at(source, p, output),
+        TypeFound::Basic(b) => output.emit(Token::Type(TypeToken::Basic(b))),
     }
 }
 
 // A hold's declaration: its name, and the type of the operand that stands there.
-fn put_declaration(
-    tags: &[u8],
-    values: &[u32],
-    names: u32,
-    types: &[u32],
-    at: usize,
-    otags: &mut [u8; WORKING_TOKENS],
-    ovalues: &mut [u32; WORKING_TOKENS],
-    w: usize,
-    x: u32,
-) -> usize
-    requires { length values.now ≡ length tags.now }
-    ensures { (e : Expr) (q : ℕ) (ds : List Declared) (a : Ty) → tree names (tokens tags.now values.now) at ≡ got e q → Declares names (tokens tags.now values.now) types.now ds → operand_type ds e ≡ some a → out otags.new ovalues.new result ≡ emits (out otags.old ovalues.old w) (declared_tokens (record { name = x; type = a })) }
+fn put_declaration(source: &Source<'_>, types: &[u32], at: usize, x: u32, output: &mut Output)
+    ensures { (e : Expr) (q : ℕ) (ds : List Declared) (a : Ty) → tree source.now.names (tokens_of source.now) at ≡ got e q → Declares source.now.names (tokens_of source.now) types.now ds → operand_type ds e ≡ some a → output.new ≡ emits output.old (declared_tokens (record { name = x; type = a })) }
 {
-    let found = typing::type_of(tags, values, names, types, at);
-    let next = emit::emit(otags, ovalues, w, Token::Name(x));
-    put_type(tags, values, names, found, otags, ovalues, next)
+    let found = typing::type_of(source, types, at);
+    output.emit(Token::Name(x));
+    put_type(source, found, output);
 }
 
 // A word of hold j: its place, or behind it the row of its flag.
 fn hold_word(holds: &[u32], j: usize, more: u8) -> usize
     ensures { result ≡ get_or holds.now (2 * j + more) 0 }
 {
-    if j < holds.len() {
-        return clock_tables::word_at(holds, 2 * j + (more as usize)) as usize;
-    }
-    0
+    let at = j.saturating_mul(2).saturating_add(more as usize);
+    clock_tables::word_at(holds, at) as usize
 }
 
 // The declarations of so many holds.
-pub fn put_hold_declarations(
-    tags: &[u8],
-    values: &[u32],
-    names: u32,
-    types: &[u32],
-    holds: &[u32],
-    hold_ids: &[u32],
-    otags: &mut [u8; WORKING_TOKENS],
-    ovalues: &mut [u32; WORKING_TOKENS],
-    count: usize,
-    w: usize,
-) -> usize
-    requires { length values.now ≡ length tags.now }
-    ensures { (W : Writer) (plan : List ℕ) (hs : List Hold) (ids : Ids) → length hs ≡ count → HeldFrom names tags.now values.now W plan holds.now 0 hs → Declares names (tokens tags.now values.now) types.now (declared W.node) → ((j : ℕ) → ids.hold j ≡ get_or hold_ids.now j 0) → out otags.new ovalues.new result ≡ emits (out otags.old ovalues.old w) (hold_declarations ids 0 hs) }
+pub fn put_hold_declarations(written: &Written<'_>, count: usize, output: &mut Output)
+    ensures { let s = written.now.index.now.source in (W : Writer) (plan : List ℕ) (hs : List Hold) (ids : Ids) → length hs ≡ count → HeldFrom s.names s.tags.now s.values.now W plan written.now.holds.now 0 hs → Declares s.names (tokens_of s) written.now.types.now (declared W.node) → ((j : ℕ) → ids.hold j ≡ get_or written.now.hold_ids.now j 0) → output.new ≡ emits output.old (hold_declarations ids 0 hs) }
 {
-    let mut j: usize = 0;
-    let mut to = w;
-    while j < count {
-        let x = clock_tables::word_at(hold_ids, j);
-        let at = hold_word(holds, j, 0);
-        to = put_declaration(tags, values, names, types, at, otags, ovalues, to, x);
-        j += 1;
+    for j in 0..count {
+        let x = clock_tables::word_at(written.hold_ids, j);
+        let at = hold_word(written.holds, j, 0);
+        put_declaration(&written.index.source, written.types, at, x, output);
     }
-    to
 }
 
 // The first tokens of a hold's equation: one left name, and a choice by a flag.
-fn put_hold(
-    otags: &mut [u8; WORKING_TOKENS],
-    ovalues: &mut [u32; WORKING_TOKENS],
-    w: usize,
-    x: u32,
-    flag: u32,
-) -> usize
-    ensures { out otags.new ovalues.new result ≡ emits (out otags.old ovalues.old w) (hold_tokens x flag) }
+fn put_hold(output: &mut Output, x: u32, flag: u32)
+    ensures { output.new ≡ emits output.old (hold_tokens x flag) }
 {
-    let next = defaults::emit_two(otags, ovalues, w, Token::Count(1), Token::Name(x));
-    defaults::emit_two(
-        otags,
-        ovalues,
-        next,
+    output.emit_all(&[
+        Token::Count(1),
+        Token::Name(x),
         Token::Expression(ExprToken::If),
         Token::Expression(ExprToken::Var(flag)),
-    )
+    ]);
 }
 
 // The equation of hold j: its operand where its flag is true, else the value before.
-fn put_equation(
-    tags: &[u8],
-    values: &[u32],
-    places: &[usize; MOST_NODES],
-    type_places: &[usize; MOST_TYPES],
-    plan: &[u32],
-    table: &[u8; 72],
-    flag_ids: &[u32],
-    first_ids: &[u32],
-    hold_ids: &[u32],
-    holds: &[u32],
-    otags: &mut [u8; WORKING_TOKENS],
-    ovalues: &mut [u32; WORKING_TOKENS],
-    k: Sizes,
-    j: usize,
-    w: usize,
-) -> usize
-    requires values_len { length values.now ≡ length tags.now }
-    requires table_value { table.now ≡ parts }
-    requires nodes_bound { (k.nodes ≤ 16) × (k.types ≤ 32) }
-    ensures { (W : Writer) (h : Hold) → WriterStands tags.now values.now places.now type_places.now flag_ids.now first_ids.now hold_ids.now k W → HeldAt k.names tags.now values.now W plan.now holds.now j h → out otags.new ovalues.new result ≡ emits (out otags.old ovalues.old w) (equation_tokens (record { left = get_or hold_ids.now j 0 ∷ []; right = h.right })) }
+fn put_equation(written: &Written<'_>, j: usize, output: &mut Output)
+    ensures { let s = written.now.index.now.source in (W : Writer) (h : Hold) → WriterStands written.now W → HeldAt s.names s.tags.now s.values.now W written.now.plan.now written.now.holds.now j h → output.new ≡ emits output.old (equation_tokens (record { left = get_or written.now.hold_ids.now j 0 ∷ []; right = h.right })) }
 {
-    let x = clock_tables::word_at(hold_ids, j);
-    let row = hold_word(holds, j, 1);
-    let flag = clock_tables::word_at(flag_ids, row);
-    let at = hold_word(holds, j, 0);
-    let a = put_hold(otags, ovalues, w, x, flag);
-    let r = expr(
-        tags,
-        values,
-        places,
-        type_places,
-        plan,
-        table,
-        flag_ids,
-        first_ids,
-        hold_ids,
-        otags,
-        ovalues,
-        k,
-        a,
-        at,
-    );
-    defaults::emit_two(
-        otags,
-        ovalues,
-        r.next,
-        Token::Expression(ExprToken::Pre),
-        Token::Expression(ExprToken::Var(x)),
-    )
+    let x = clock_tables::word_at(written.hold_ids, j);
+    let row = hold_word(written.holds, j, 1);
+    let flag = clock_tables::word_at(written.flag_ids, row);
+    let at = hold_word(written.holds, j, 0);
+    put_hold(output, x, flag);
+    expr(written, at, output);
+    put_named(output, ExprToken::Pre, x);
 }
 
 // The equations of so many holds.
-pub fn put_hold_equations(
-    tags: &[u8],
-    values: &[u32],
-    places: &[usize; MOST_NODES],
-    type_places: &[usize; MOST_TYPES],
-    plan: &[u32],
-    flag_ids: &[u32],
-    first_ids: &[u32],
-    hold_ids: &[u32],
-    holds: &[u32],
-    otags: &mut [u8; WORKING_TOKENS],
-    ovalues: &mut [u32; WORKING_TOKENS],
-    k: Sizes,
-    count: usize,
-    w: usize,
-) -> usize
-    requires values_len { length values.now ≡ length tags.now }
-    requires nodes_bound { (k.nodes ≤ 16) × (k.types ≤ 32) }
-    ensures { (W : Writer) (hs : List Hold) (ids : Ids) → length hs ≡ count → WriterStands tags.now values.now places.now type_places.now flag_ids.now first_ids.now hold_ids.now k W → HeldFrom k.names tags.now values.now W plan.now holds.now 0 hs → ((j : ℕ) → ids.hold j ≡ get_or hold_ids.now j 0) → out otags.new ovalues.new result ≡ emits (out otags.old ovalues.old w) (hold_equations ids 0 hs) }
+pub fn put_hold_equations(written: &Written<'_>, count: usize, output: &mut Output)
+    ensures { let s = written.now.index.now.source in (W : Writer) (hs : List Hold) (ids : Ids) → length hs ≡ count → WriterStands written.now W → HeldFrom s.names s.tags.now s.values.now W written.now.plan.now written.now.holds.now 0 hs → ((j : ℕ) → ids.hold j ≡ get_or written.now.hold_ids.now j 0) → output.new ≡ emits output.old (hold_equations ids 0 hs) }
 {
-    let table = layout::parts_table();
-    let mut j: usize = 0;
-    let mut to = w;
-    while j < count {
-        to = put_equation(
-            tags,
-            values,
-            places,
-            type_places,
-            plan,
-            &table,
-            flag_ids,
-            first_ids,
-            hold_ids,
-            holds,
-            otags,
-            ovalues,
-            k,
-            j,
-            to,
-        );
-        j += 1;
+    for j in 0..count {
+        put_equation(written, j, output);
     }
-    to
 }
 
 // ---- The left names of an equation of an accepted sheet, and their defaults, written into the output's tokens.
-// `tags` and `values` are the sheet's tokens, `names` is the number of its names; `places` are those of its types' definitions,
-// of which there are `defined`; `types` has the declared types of the node's names. `otags` and `ovalues` are the output's tokens, of which w are written.
 
 // The default of a left name: of its last declaration's type.
-fn put_left_default(
-    tags: &[u8],
-    values: &[u32],
-    names: u32,
-    places: &[usize; MOST_TYPES],
-    defined: usize,
-    types: &[u32],
-    x: u32,
-    otags: &mut [u8; WORKING_TOKENS],
-    ovalues: &mut [u32; WORKING_TOKENS],
-    w: usize,
-) -> usize
-    requires values_len { length values.now ≡ length tags.now }
-    requires defined_bound { defined ≤ 32 }
-    ensures { (ts : List TypeDef) (l : List Node) (n : Node) (u : ℕ) (layout : NodeLayout) → Table names (tokens tags.now values.now) places.now defined ts → LaidNode names (tokens tags.now values.now) n u layout → Declares names (tokens tags.now values.now) types.now (declared n) → x < names → left_fault ts l n x ≡ none → out otags.new ovalues.new result ≡ emits (out otags.old ovalues.old w) (expr_tokens (left_tree ts l n x)) }
+fn put_left_default(written: &Written<'_>, x: u32, output: &mut Output)
+    ensures { (ts : List TypeDef) (l : List Node) (n : Node) → TypesKnown written.now ts n → x < written.now.index.now.source.names → left_fault ts l n x ≡ none → output.new ≡ emits output.old (expr_tokens (left_tree ts l n x)) }
 {
-    let found = typing::last_type(types, x);
-    match found {
-        TypeFound::At(p) => defaults::emit_default(
-            tags, values, names, places, defined, p, otags, ovalues, w,
-        ),
-        TypeFound::Basic(k) => {
-            let zero = defaults::default_literal(k);
-            defaults::emit_literal(otags, ovalues, w, zero)
-        }
-        TypeFound::Unknown => w,
-    }
+    let Some(at) = typing::last_type(written.types, x) else {
+        return;
+    };
+    defaults::emit_default(&written.index.source, &written.index.types, at, output);
 }
 
 // The defaults of so many left names, one after another.
-fn put_left_defaults(
-    tags: &[u8],
-    values: &[u32],
-    names: u32,
-    places: &[usize; MOST_TYPES],
-    defined: usize,
-    types: &[u32],
-    count: u32,
-    at: usize,
-    otags: &mut [u8; WORKING_TOKENS],
-    ovalues: &mut [u32; WORKING_TOKENS],
-    w: usize,
-) -> usize
-    requires values_len { length values.now ≡ length tags.now }
-    requires defined_bound { defined ≤ 32 }
-    ensures { (ts : List TypeDef) (l : List Node) (n : Node) (u : ℕ) (layout : NodeLayout) (xs : List ℕ) (q : ℕ) → Table names (tokens tags.now values.now) places.now defined ts → LaidNode names (tokens tags.now values.now) n u layout → Declares names (tokens tags.now values.now) types.now (declared n) → times count (name names) (tokens tags.now values.now) at ≡ got xs q → lefts_fault ts l n xs ≡ none → out otags.new ovalues.new result ≡ emits (out otags.old ovalues.old w) (join (operand_tokens (left_trees ts l n xs))) }
+fn put_left_defaults(written: &Written<'_>, count: u32, at: usize, output: &mut Output)
+    ensures { let s = written.now.index.now.source in (ts : List TypeDef) (l : List Node) (n : Node) (xs : List ℕ) (q : ℕ) → TypesKnown written.now ts n → times count (name s.names) (tokens_of s) at ≡ got xs q → lefts_fault ts l n xs ≡ none → output.new ≡ emits output.old (join (operand_tokens (left_trees ts l n xs))) }
 {
-    if count == 0 {
-        return w;
+    let source = &written.index.source;
+    let mut place = at;
+    for _ in 0..count {
+        let x = layout::value_at(source.values, place);
+        put_left_default(written, x, output);
+        place = layout::behind(source.tags, place);
     }
-    let x = layout::value_at(values, at);
-    let next = layout::behind(tags, at);
-    let v = put_left_default(
-        tags, values, names, places, defined, types, x, otags, ovalues, w,
-    );
-    put_left_defaults(
-        tags,
-        values,
-        names,
-        places,
-        defined,
-        types,
-        count - 1,
-        next,
-        otags,
-        ovalues,
-        v,
-    )
 }
 
 // So many names, one after another.
-fn put_names(
-    tags: &[u8],
-    values: &[u32],
-    names: u32,
-    count: u32,
-    at: usize,
-    otags: &mut [u8; WORKING_TOKENS],
-    ovalues: &mut [u32; WORKING_TOKENS],
-    w: usize,
-) -> usize
-    requires { length values.now ≡ length tags.now }
-    ensures { (xs : List ℕ) (q : ℕ) → times count (name names) (tokens tags.now values.now) at ≡ got xs q → out otags.new ovalues.new result ≡ emits (out otags.old ovalues.old w) (name_tokens xs) }
+fn put_names(source: &Source<'_>, count: u32, at: usize, output: &mut Output)
+    ensures { (xs : List ℕ) (q : ℕ) → times count (name source.now.names) (tokens_of source.now) at ≡ got xs q → output.new ≡ emits output.old (name_tokens xs) }
 {
-    if count == 0 {
-        return w;
+    let mut place = at;
+    for _ in 0..count {
+        let id = layout::value_at(source.values, place);
+        output.emit(Token::Name(id));
+        place = layout::behind(source.tags, place);
     }
-    let id = layout::value_at(values, at);
-    let next = layout::behind(tags, at);
-    let v = emit::emit(otags, ovalues, w, Token::Name(id));
-    put_names(tags, values, names, count - 1, next, otags, ovalues, v)
 }
 
 // The left names of an equation behind their count.
-fn put_left(
-    tags: &[u8],
-    values: &[u32],
-    names: u32,
-    left: Span,
-    otags: &mut [u8; WORKING_TOKENS],
-    ovalues: &mut [u32; WORKING_TOKENS],
-    w: usize,
-) -> usize
-    requires { length values.now ≡ length tags.now }
-    ensures { (xs : List ℕ) → Spans (name names) (tokens tags.now values.now) xs left → out otags.new ovalues.new result ≡ emits (out otags.old ovalues.old w) (Token.Count (length xs) ∷ name_tokens xs) }
+fn put_left(source: &Source<'_>, left: Span, output: &mut Output)
+    ensures { (xs : List ℕ) → Spans (name source.now.names) (tokens_of source.now) xs left → output.new ≡ emits output.old (Token.Count (length xs) ∷ name_tokens xs) }
 {
-    let count = left.count;
-    let next = emit::emit(otags, ovalues, w, Token::Count(count));
-    put_names(tags, values, names, count, left.at, otags, ovalues, next)
+    output.emit(Token::Count(left.count));
+    put_names(source, left.count, left.at, output);
 }
 
 // ---- What is written around a right side of an accepted sheet under the flag of its clock.
-// `tags` and `values` are the sheet's tokens, `type_places` are those of its type definitions; `types` has the declared types of the node's
-// names; `flag_ids` has the ids of flags by row. `otags` and `ovalues` are the output's tokens, of which w are written.
 
 // What stands around a right side: nothing; a choice by this flag between it and the left name's last value; a gate under this flag.
 #[derive(Clone, Copy)]
@@ -830,7 +413,7 @@ fn frame_by(word: u32, count: u32, flag_ids: &[u32]) -> Frame
     if word == 0 {
         return Frame::Plain;
     }
-    let flag = clock_tables::word_at(flag_ids, (word - 1) as usize);
+    let flag = id_of(flag_ids, word);
     if count == 1 {
         return Frame::Choose(flag);
     }
@@ -838,216 +421,61 @@ fn frame_by(word: u32, count: u32, flag_ids: &[u32]) -> Frame
 }
 
 // What is written before the right side of n left names.
-fn put_before(
-    otags: &mut [u8; WORKING_TOKENS],
-    ovalues: &mut [u32; WORKING_TOKENS],
-    w: usize,
-    f: Frame,
-    condact: u32,
-    n: u32,
-) -> usize
-    ensures { out otags.new ovalues.new result ≡ emits (out otags.old ovalues.old w) (lead_in condact (two_more n) f) }
+fn put_before(output: &mut Output, f: Frame, condact: u32, n: u32)
+    ensures { output.new ≡ emits output.old (lead_in condact (two_more n) f) }
 {
     match f {
-        Frame::Plain => w,
-        Frame::Choose(flag) => defaults::emit_two(
-            otags,
-            ovalues,
-            w,
-            Token::Expression(ExprToken::If),
-            Token::Expression(ExprToken::Var(flag)),
-        ),
-        Frame::Gate(flag) => put_gate(otags, ovalues, w, condact, n, flag),
+        Frame::Plain => {}
+        Frame::Choose(flag) => put_named(output, ExprToken::If, flag),
+        Frame::Gate(flag) => put_gate(output, condact, n, flag),
     }
 }
 
 // A left name's default, and then its value one tick before.
-fn put_kept(
-    tags: &[u8],
-    values: &[u32],
-    type_places: &[usize; MOST_TYPES],
-    types: &[u32],
-    otags: &mut [u8; WORKING_TOKENS],
-    ovalues: &mut [u32; WORKING_TOKENS],
-    k: Sizes,
-    left: Span,
-    w: usize,
-) -> usize
-    requires values_len { length values.now ≡ length tags.now }
-    requires types_bound { k.types ≤ 32 }
-    ensures { (ts : List TypeDef) (l : List Node) (n : Node) (u : ℕ) (layout : NodeLayout) (xs : List ℕ) (ks : List Token) → Table k.names (tokens tags.now values.now) type_places.now k.types ts → LaidNode k.names (tokens tags.now values.now) n u layout → Declares k.names (tokens tags.now values.now) types.now (declared n) → Spans (name k.names) (tokens tags.now values.now) xs left → DefaultThenHeld ts l n xs ks → out otags.new ovalues.new result ≡ emits (out otags.old ovalues.old w) ks }
+fn put_kept(written: &Written<'_>, left: Span, output: &mut Output)
+    ensures { let s = written.now.index.now.source in (ts : List TypeDef) (l : List Node) (n : Node) (xs : List ℕ) (ks : List Token) → TypesKnown written.now ts n → Spans (name s.names) (tokens_of s) xs left → DefaultThenHeld ts l n xs ks → output.new ≡ emits output.old ks }
 {
-    let x = layout::value_at(values, left.at);
-    let a = emit::emit(otags, ovalues, w, Token::Expression(ExprToken::Arrow));
-    let b = put_left_default(
-        tags,
-        values,
-        k.names,
-        type_places,
-        k.types,
-        types,
-        x,
-        otags,
-        ovalues,
-        a,
-    );
-    defaults::emit_two(
-        otags,
-        ovalues,
-        b,
-        Token::Expression(ExprToken::Pre),
-        Token::Expression(ExprToken::Var(x)),
-    )
+    let source = &written.index.source;
+    let x = layout::value_at(source.values, left.at);
+    output.emit(Token::Expression(ExprToken::Arrow));
+    put_left_default(written, x, output);
+    put_named(output, ExprToken::Pre, x);
 }
 
 // What is written behind the right side of these left names.
-fn put_behind(
-    tags: &[u8],
-    values: &[u32],
-    type_places: &[usize; MOST_TYPES],
-    types: &[u32],
-    otags: &mut [u8; WORKING_TOKENS],
-    ovalues: &mut [u32; WORKING_TOKENS],
-    k: Sizes,
-    left: Span,
-    f: Frame,
-    w: usize,
-) -> usize
-    requires values_len { length values.now ≡ length tags.now }
-    requires types_bound { k.types ≤ 32 }
-    ensures { (ts : List TypeDef) (l : List Node) (n : Node) (u : ℕ) (layout : NodeLayout) (xs : List ℕ) (ks : List Token) → Table k.names (tokens tags.now values.now) type_places.now k.types ts → LaidNode k.names (tokens tags.now values.now) n u layout → Declares k.names (tokens tags.now values.now) types.now (declared n) → Spans (name k.names) (tokens tags.now values.now) xs left → LeadOut ts l n f xs ks → out otags.new ovalues.new result ≡ emits (out otags.old ovalues.old w) ks }
+fn put_behind(written: &Written<'_>, left: Span, f: Frame, output: &mut Output)
+    ensures { let s = written.now.index.now.source in (ts : List TypeDef) (l : List Node) (n : Node) (xs : List ℕ) (ks : List Token) → TypesKnown written.now ts n → Spans (name s.names) (tokens_of s) xs left → LeadOut ts l n f xs ks → output.new ≡ emits output.old ks }
 {
     match f {
-        Frame::Plain => w,
-        Frame::Choose(_) => put_kept(tags, values, type_places, types, otags, ovalues, k, left, w),
-        Frame::Gate(_) => put_left_defaults(
-            tags,
-            values,
-            k.names,
-            type_places,
-            k.types,
-            types,
-            left.count,
-            left.at,
-            otags,
-            ovalues,
-            w,
-        ),
+        Frame::Plain => {}
+        Frame::Choose(_) => put_kept(written, left, output),
+        Frame::Gate(_) => put_left_defaults(written, left.count, left.at, output),
     }
 }
 
-// ---- The equations of a node of an accepted sheet rewritten onto the base clock, by their plan. `tags` and `values` are the sheet's tokens,
-// `places` and `type_places` those of its nodes and type definitions; `plan` has a word for each token, that of an equation's count being 0,
-// or the row of its flag and one more; `types` has the declared types of the node's names; `flag_ids`, `first_ids` and `hold_ids` have the
-// ids of new names by row and by number. `otags` and `ovalues` are the output's tokens, of which w are written.
+// ---- The equations of a node of an accepted sheet rewritten onto the base clock, by their plan: the word of an equation's count is 0, or
+// the row of its flag and one more.
 
-// The equation that stands there: its left names behind their count, and its right side in its frame.
-fn one_equation(
-    tags: &[u8],
-    values: &[u32],
-    places: &[usize; MOST_NODES],
-    type_places: &[usize; MOST_TYPES],
-    plan: &[u32],
-    table: &[u8; 72],
-    types: &[u32],
-    flag_ids: &[u32],
-    first_ids: &[u32],
-    hold_ids: &[u32],
-    otags: &mut [u8; WORKING_TOKENS],
-    ovalues: &mut [u32; WORKING_TOKENS],
-    k: Sizes,
-    w: usize,
-    at: usize,
-) -> Walked
-    requires values_len { length values.now ≡ length tags.now }
-    requires table_value { table.now ≡ parts }
-    requires nodes_bound { (k.nodes ≤ 16) × (k.types ≤ 32) }
-    ensures { (W : Writer) (ids : Ids) (layout : NodeLayout) (n : ℕ) (c : Clock) (e : Equation) (q : ℕ) → Grounds tags.now values.now places.now type_places.now types.now flag_ids.now first_ids.now hold_ids.now k layout W → ids.condact ≡ W.condact → right_fault W.types W.nodes W.node W.condact c e.left e.right ≡ none → EquationPlanned k.names tags.now values.now W plan.now W.condact ids n c e at q → (out otags.new ovalues.new result.next ≡ emits (out otags.old ovalues.old w) (equation_tokens (record { left = e.left; right = (right_yield W.types W.nodes W.node ids c e.left n e.right).value }))) × (result.end ≡ q) }
+// The equation that stands there: its left names behind their count, and its right side in its frame. Where it ends.
+fn one_equation(written: &Written<'_>, at: usize, output: &mut Output) -> usize
+    ensures { let s = written.now.index.now.source in (W : Writer) (ids : Ids) (layout : NodeLayout) (n : ℕ) (c : Clock) (e : Equation) (q : ℕ) → Grounds written.now layout W → ids.condact ≡ W.condact → right_fault W.types W.nodes W.node W.condact c e.left e.right ≡ none → EquationPlanned s.names s.tags.now s.values.now W written.now.plan.now W.condact ids n c e at q → (output.new ≡ emits output.old (equation_tokens (record { left = e.left; right = (right_yield W.types W.nodes W.node ids c e.left n e.right).value }))) × (result ≡ q) }
 {
-    let left = layout::names_at(tags, values, k.names, at);
-    let count = left.count;
-    let word = clock_tables::word_at(plan, at);
-    let f = frame_by(word, count, flag_ids);
-    let a = put_left(tags, values, k.names, left, otags, ovalues, w);
-    let b = put_before(otags, ovalues, a, f, k.condact, count);
-    let r = expr(
-        tags,
-        values,
-        places,
-        type_places,
-        plan,
-        table,
-        flag_ids,
-        first_ids,
-        hold_ids,
-        otags,
-        ovalues,
-        k,
-        b,
-        left.end,
-    );
-    let next = put_behind(
-        tags,
-        values,
-        type_places,
-        types,
-        otags,
-        ovalues,
-        k,
-        left,
-        f,
-        r.next,
-    );
-    Walked { next, end: r.end }
+    let left = layout::names_at(&written.index.source, at);
+    let word = clock_tables::word_at(written.plan, at);
+    let f = frame_by(word, left.count, written.flag_ids);
+    put_left(&written.index.source, left, output);
+    put_before(output, f, written.index.condact, left.count);
+    let end = expr(written, left.end, output);
+    put_behind(written, left, f, output);
+    end
 }
 
 // So many equations of the node, which stand there, in order.
-pub fn old_equations(
-    tags: &[u8],
-    values: &[u32],
-    places: &[usize; MOST_NODES],
-    type_places: &[usize; MOST_TYPES],
-    plan: &[u32],
-    types: &[u32],
-    flag_ids: &[u32],
-    first_ids: &[u32],
-    hold_ids: &[u32],
-    otags: &mut [u8; WORKING_TOKENS],
-    ovalues: &mut [u32; WORKING_TOKENS],
-    k: Sizes,
-    count: u32,
-    at: usize,
-    w: usize,
-) -> usize
-    requires values_len { length values.now ≡ length tags.now }
-    requires nodes_bound { (k.nodes ≤ 16) × (k.types ≤ 32) }
-    ensures { (W : Writer) (ids : Ids) (layout : NodeLayout) (cs : List Clocked) (end : ℕ) → Grounds tags.now values.now places.now type_places.now types.now flag_ids.now first_ids.now hold_ids.now k layout W → ids.condact ≡ W.condact → old_fault W.types W.nodes W.node W.condact 0 cs ≡ none → length cs ≡ count → EquationsPlanned k.names tags.now values.now W plan.now W.condact ids 0 cs at end → out otags.new ovalues.new result ≡ emits (out otags.old ovalues.old w) (join (map equation_tokens (old_yield W.types W.nodes W.node ids 0 cs).value)) }
+pub fn old_equations(written: &Written<'_>, count: u32, at: usize, output: &mut Output)
+    ensures { let s = written.now.index.now.source in (W : Writer) (ids : Ids) (layout : NodeLayout) (cs : List Clocked) (end : ℕ) → Grounds written.now layout W → ids.condact ≡ W.condact → old_fault W.types W.nodes W.node W.condact 0 cs ≡ none → length cs ≡ count → EquationsPlanned s.names s.tags.now s.values.now W written.now.plan.now W.condact ids 0 cs at end → output.new ≡ emits output.old (join (map equation_tokens (old_yield W.types W.nodes W.node ids 0 cs).value)) }
 {
-    let table = layout::parts_table();
-    let mut left = count;
     let mut place = at;
-    let mut to = w;
-    while 0 < left {
-        let r = one_equation(
-            tags,
-            values,
-            places,
-            type_places,
-            plan,
-            &table,
-            types,
-            flag_ids,
-            first_ids,
-            hold_ids,
-            otags,
-            ovalues,
-            k,
-            to,
-            place,
-        );
-        to = r.next;
-        place = r.end;
-        left -= 1;
+    for _ in 0..count {
+        place = one_equation(written, place, output);
     }
-    to
 }

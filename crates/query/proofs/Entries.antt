@@ -15,7 +15,7 @@ use Rattle.definitions.specs.Tree.{Equation}
 use Rattle.definitions.specs.Reading.{got}
 use Rattle.definitions.specs.Grammar.{equation}
 use Rattle.definitions.specs.Clock.{Clock, base}
-use Rattle.definitions.specs.InferClocks.{Clocked, Finding, NodeFault, fault_number, chains, clock_faults}
+use Rattle.definitions.specs.InferClocks.{Clocked, Finding, found, NodeFault, fault_number, chains, clock_faults}
 use Rattle.definitions.specs.Output.{ClockedNode}
 use Rattle.definitions.specs.Answer.{node_clocks}
 use Rattle.lines.specs.declared.Told.{Told}
@@ -24,7 +24,7 @@ use Rattle.query.specs.declared.NodeCounts.{NodeCounts}
 use Rattle.query.specs.Standing.{NodeWithClocks}
 use Rattle.clock_tables.specs.Flat.{clock_in}
 use Rattle.skeleton.specs.Sites.{EquationsOn}
-use Rattle.findings.specs.Findings.{fault_in, finding_in, findings_in}
+use Rattle.findings.specs.Findings.{finding_in, findings_in}
 use Rattle.findings.proofs.Laws.{none_yet, count-more, faults-one, faults-no}
 use Rattle.chain_order.specs.Order.{row_of, picked}
 use Rattle.spelling.specs.Writing.{over_at}
@@ -215,24 +215,18 @@ module _ (node : ℕ) (t lent : List ℕ) where
       none (suc k) = refl
 
   module _ (i m : ℕ) (now : List ℕ) (z : Faults node t lent i m now) where
-    pub faults-length : length now ≡ length lent
-    faults-length = ap length z.written ∙ entries-length 3 (map (fault_words node) (clock_faults (findings_in t i))) lent
-
-    pub faults-all : (n : ℕ) → i ≤ n → n ≤ i → Faults node t lent n m now
-    faults-all n a b = let e : i ≡ n = omega arith in rw (sym e) z
-
-    module _ (x : Bool) (h : clock_faults (finding_in t (38 * i) ∷ []) ≡ choose x (fault_in t (38 * i) ∷ []) []) where
-      pub fault-written : (g : NodeFault) (number : ℕ) (after : List ℕ) → x ≡ true → g ≡ fault_in t (38 * i) → number ≡ fault_number g.fault → after ≡ choose (ltb m (length now / 3)) (over_at (3 * m) (node ∷ number ∷ g.equation ∷ []) now) now → Faults node t lent (i + 1) (m + 1) after
-      fault-written g number after e f k a =
+    module _ (f : Finding) (e : f ≡ finding_in t (38 * i)) where
+      pub fault-written : (g : NodeFault) (number : ℕ) (after : List ℕ) → f ≡ found g → number ≡ fault_number g.fault → after ≡ choose (ltb m (length now / 3)) (over_at (3 * m) (node ∷ number ∷ g.equation ∷ []) now) now → Faults node t lent (i + 1) (m + 1) after
+      fault-written g number after h k a =
           let w : after ≡ choose (ltb m (length now / 3)) (over_at (3 * m) (fault_words node g) now) now = a ∙ ap (λ (j : ℕ). choose (ltb m (length now / 3)) (over_at (3 * m) (node ∷ j ∷ g.equation ∷ []) now) now) k in
-          let s : clock_faults (findings_in t (i + 1)) ≡ clock_faults (findings_in t i) ++ (g ∷ []) = faults-one t i x h e ∙ ap (λ (y : NodeFault). clock_faults (findings_in t i) ++ (y ∷ [])) (sym f) in
+          let s : clock_faults (findings_in t (i + 1)) ≡ clock_faults (findings_in t i) ++ (g ∷ []) = faults-one t i f e h in
           record {
             count = rw s (count-more (clock_faults (findings_in t i)) g m z.count);
             written = rw s (fault-next node (clock_faults (findings_in t i)) g lent m now after z.count z.written w);
           }
 
-      pub fault-passed : x ≡ false → Faults node t lent (i + 1) m now
-      fault-passed e = let s = faults-no t i x h e in record { count = rw s z.count; written = rw s z.written }
+      pub fault-passed : clock_faults (f ∷ []) ≡ [] → Faults node t lent (i + 1) m now
+      fault-passed h = let s = faults-no t i f e h in record { count = rw s z.count; written = rw s z.written }
 
 -- ---- a node
 counts_same : (a a' b b' c c' d d' e e' : ℕ) → a ≡ a' → b ≡ b' → c ≡ c' → d ≡ d' → e ≡ e'

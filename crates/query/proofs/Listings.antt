@@ -5,6 +5,7 @@ use Prim.Native.Nat.{ℕ, zero, suc, ◌+◌, ◌-◌, ◌*◌, ◌≤◌, ◌<�
 use native.Mathlib.Omega.{arith}
 use native.Mathlib.Numerals.{add-one}
 use lib.ListN.{length, take, drop, length-append, take-append-drop}
+use Rattle.std.proofs.Common.{Ok, Err}
 use Rattle.definitions.specs.Lists.{join, numbered, over, Letters}
 use Rattle.definitions.specs.Tokens.{TagValue}
 use Rattle.definitions.specs.Bytes.{tokens}
@@ -12,20 +13,19 @@ use Rattle.definitions.specs.Tree.{Node}
 use Rattle.definitions.specs.Reading.{got, times}
 use Rattle.definitions.specs.Grammar.{node}
 use Rattle.definitions.specs.Refusals.{Answer, accepted, refused, faulty, ◌>>=◌}
-use Rattle.definitions.specs.InferClocks.{deep, formed, Clocking, clocking}
 use Rattle.definitions.specs.Output.{ClockedNode}
 use Rattle.definitions.specs.Answer.{clockings, node_listing}
 use Rattle.grammar.proofs.Got.{times-nil, times-cons}
 use Rattle.layout.specs.declared.NodeLayout.{NodeLayout}
 use Rattle.layout.specs.Laid.{LaidNode}
 use Rattle.definitions.specs.declared.Refusal.{Refusal}
-use Rattle.query.specs.declared.NodeAnswer.{NodeAnswer}
-use Rattle.query.specs.declared.ListingsPut.{ListingsPut}
 use Rattle.lines.specs.declared.Told.{Told}
+use Rattle.lines.specs.declared.ListedNode.{ListedNode}
+use Rattle.lines.specs.Listed.{Lists}
 use Rattle.spelling.specs.Writing.{over_at, Put, farthest}
 use Rattle.spelling.proofs.Writing.{put-over, put-measure, over-past, over-then, over_nothing}
 use Rattle.lines.proofs.Pieces.{numbered-last}
-use Rattle.query.specs.Standing.{Roomy, Ample, NodeWithClocks, ClockedAs}
+use Rattle.query.specs.Standing.{NodeWithClocks, ClockedAs}
 use Rattle.query.specs.Listed.{ListingsStand}
 use Rattle.query.specs.Words.{PutText}
 use Rattle.query.proofs.Nodes.{all_left, node-formed, node-deep}
@@ -57,18 +57,13 @@ module _ (text : Letters) (lent : List ℕ) (at m : ℕ) where
       record { long = put-measure few v; bytes = ap (λ (r : List ℕ). take at lent ++ (r ++ drop (at + w - at) (drop at lent))) (put-over v) ∙ over-part text lent at (at + w - at) l f }
 
 -- ---- a node clocked
-module _ (M : ℕ) (gs vs t sites : List ℕ) (k : ℕ) (n : Node) (a : NodeAnswer) (h : ClockedAs M gs vs t sites k n a) where
-  pub clocked-turned : (r : Refusal) → a ≡ NodeAnswer.Refused r → (clocking n ≡ deep) × (r ≡ Refusal.Deep k)
-  unfolding ClockedAs
-  clocked-turned r e = let x : ClockedAs M gs vs t sites k n (NodeAnswer.Refused r) = rw e at h in x
-
-  pub clocked-as : (told : Told) → a ≡ NodeAnswer.Node told → (c : Clocking) × (clocking n ≡ formed c) × NodeWithClocks M gs vs t sites k told (record { node = n; clocking = c })
-  unfolding ClockedAs
-  clocked-as told e = let x : ClockedAs M gs vs t sites k n (NodeAnswer.Node told) = rw e at h in x
-
 -- by the number that the node was told under
 pub told-own : (M : ℕ) (gs vs t sites : List ℕ) (k : ℕ) (told : Told) (n : ClockedNode) → NodeWithClocks M gs vs t sites k told n → NodeWithClocks told.names gs vs t sites told.number told n
 told-own M gs vs t sites k told n z = subst (λ (x : ℕ). NodeWithClocks x gs vs t sites told.number told n) (sym z.names) (subst (λ (y : ℕ). NodeWithClocks M gs vs t sites y told n) (sym z.number) z)
+
+-- it is the node that is listed
+pub lists : (l : ListedNode) (n : ClockedNode) → NodeWithClocks l.told.names l.source.tags.now l.source.values.now l.table.now l.sites.now l.told.number l.told n → Lists l n
+lists l n z = record { end = z.end; laid = z.laid; formed = z.formed; tells = z.tells }
 
 -- a text behind another
 text-then : {a b : Letters} {lent : List ℕ} {at size next : ℕ} {now after : List ℕ} → PutText a 0 lent at now → PutText b at now size after → next ≡ at + size → PutText (a ++ b) 0 lent next after
@@ -110,20 +105,19 @@ module _ (M : ℕ) (gs vs : List ℕ) (letters : ℕ → Letters) (lent : List �
         let w : n - (i + 1) ≡ n - i - 1 = omega arith in
         (c.0, c.1, c.2, d, rw (d.ends, w) c.4, c.5)
 
-    module _ (k : ℕ) (e : k ≡ i) (t sites : List ℕ) (a : NodeAnswer) (C : (x : Node) (s : ℕ) → LaidNode M (tokens gs vs) x s l → ClockedAs M gs vs t sites k x a) where
-      here-clocked : ClockedAs M gs vs t sites k node-here.0 a
-      here-clocked = C node-here.0 node-here.1 node-here.3
-
-      pub putting-deep : (r : Refusal) → a ≡ NodeAnswer.Refused r → v ≡ refused (Refusal.Deep k)
-      putting-deep r u =
-          let d = clocked-turned M gs vs t sites k node-here.0 a here-clocked r u in
+    module _ (k : ℕ) (e : k ≡ i) (t sites : List ℕ) where
+      pub putting-deep : (r : Refusal) → ((x : Node) (s : ℕ) → LaidNode M (tokens gs vs) x s l → ClockedAs M gs vs t sites k x (Err r)) → v ≡ refused r
+      unfolding ClockedAs
+      putting-deep r C =
+          let d = C node-here.0 node-here.1 node-here.3 in
           let w : clockings i h.rest ≡ refused (Refusal.Deep i) = ap (clockings i) node-here.5 ∙ node-deep i node-here.0 node-here.2 d.0 in
-          h.whole ∙ (ap (λ (y : Answer (List ClockedNode)). y >>= λ l. accepted (h.so_far ++ l)) w ∙ ap (λ (j : ℕ). refused (Refusal.Deep j)) (sym e))
+          h.whole ∙ (ap (λ (y : Answer (List ClockedNode)). y >>= λ l. accepted (h.so_far ++ l)) w ∙ (ap (λ (j : ℕ). refused (Refusal.Deep j)) (sym e) ∙ ap refused (sym d.1)))
 
-      pub putting-more : (told : Told) (size next : ℕ) (after : List ℕ) → a ≡ NodeAnswer.Node told → ((y : ClockedNode) → NodeWithClocks told.names gs vs t sites told.number told y → PutText (node_listing letters told.number y) at now size after) → next ≡ at + size
+      pub putting-more : (told : Told) (size next : ℕ) (after : List ℕ) → ((x : Node) (s : ℕ) → LaidNode M (tokens gs vs) x s l → ClockedAs M gs vs t sites k x (Ok told)) → ((y : ClockedNode) → NodeWithClocks told.names gs vs t sites told.number told y → PutText (node_listing letters told.number y) at now size after) → next ≡ at + size
           → Putting M (tokens gs vs) letters (n - (i + 1)) (i + 1) l.end q lent next after v
-      putting-more told size next after u P j =
-          let d = clocked-as M gs vs t sites k node-here.0 a here-clocked told u in
+      unfolding ClockedAs
+      putting-more told size next after C P j =
+          let d = C node-here.0 node-here.1 node-here.3 in
           let y : ClockedNode = record { node = node-here.0; clocking = d.0 } in
           let w : clockings i h.rest ≡ (clockings (suc i) node-here.2 >>= λ l. accepted (y ∷ l)) = ap (clockings i) node-here.5 ∙ node-formed i node-here.0 node-here.2 d.0 d.1 in
           let b : v ≡ (clockings (suc i) node-here.2 >>= λ l. accepted ((h.so_far ++ (y ∷ [])) ++ l)) =
@@ -141,7 +135,7 @@ module _ (M : ℕ) (gs vs : List ℕ) (letters : ℕ → Letters) (lent : List �
             put = subst (λ (x : Letters). PutText x 0 lent next after) f (text-then h.put g j);
           }
 
-  pub putting-all : (ns : List Node) (left i place q at : ℕ) (now : List ℕ) → left ≡ 0 → Putting M (tokens gs vs) letters left i place q lent at now (clockings 0 ns) → ListingsStand letters ns lent now (ListingsPut.Size at)
+  pub putting-all : (ns : List Node) (left i place q at : ℕ) (now : List ℕ) → left ≡ 0 → Putting M (tokens gs vs) letters left i place q lent at now (clockings 0 ns) → ListingsStand letters ns lent now (Ok at)
   unfolding ListingsStand clockings
   putting-all ns left i place q at now z h =
       let e = times-nil (node M) (tokens gs vs) left place h.rest q z h.items in
@@ -149,26 +143,6 @@ module _ (M : ℕ) (gs vs : List ℕ) (letters : ℕ → Letters) (lent : List �
       (h.so_far, w, h.put)
 
 -- refusal 9
-pub stands-deep : (letters : ℕ → Letters) (ns : List Node) (lent now : List ℕ) (k : ℕ) → clockings 0 ns ≡ refused (Refusal.Deep k) → ListingsStand letters ns lent now (ListingsPut.Deep k)
+pub stands-deep : (letters : ℕ → Letters) (ns : List Node) (lent now : List ℕ) (r : Refusal) → clockings 0 ns ≡ refused r → ListingsStand letters ns lent now (Err r)
 unfolding ListingsStand
-stands-deep letters ns lent now k h = h
-
--- ---- working tables
-module _ (table rows chain : List ℕ) (r : Ample table rows chain) where
-  -- a place for each chain of m findings in a table as long as this one
-  pub ample-room : (m t : ℕ) → t ≡ length table → 38 * m ≤ t → (17 * m ≤ length rows) × (m ≤ length chain) × (m ≤ 4096)
-  ample-room m t e h = (omega (arith, r.few, r.chained, r.ordered), omega (arith, r.few, r.chained, r.ordered), omega (arith, r.few, r.chained, r.ordered))
-
-  -- tables as long as these
-  pub ample-kept : (table' rows' chain' : List ℕ) → length table' ≡ length table → length rows' ≡ length rows → length chain' ≡ length chain → Ample table' rows' chain'
-  ample-kept table' rows' chain' a b c = record { few = omega (arith, r.few); chained = omega (arith, r.chained); ordered = omega (arith, r.ordered) }
-
-pub roomy-kept : (M many : ℕ) (env table sites env' table' sites' : List ℕ) → Roomy M many env table sites → length env' ≡ length env → length table' ≡ length table → length sites' ≡ length sites → Roomy M many env' table' sites'
-roomy-kept M many env table sites env' table' sites' r a b c = record { few = r.few; clocks = omega (arith, r.clocks, a); found = omega (arith, r.found, b); sited = omega (arith, r.sited, c) }
-
--- tables for so many names and k tokens are large enough
-pub roomy_of : (names k M many : ℕ) (env table sites : List ℕ) → names ≤ 1024 → M ≤ names → many ≤ k → length env ≡ 17 * names → length table ≡ 38 * k → length sites ≡ 17 * k → Roomy M many env table sites
-roomy_of names k M many env table sites a b c d e f = record { few = omega arith; clocks = omega arith; found = omega arith; sited = omega arith }
-
-pub ample-of : (k : ℕ) (table rows chain : List ℕ) → k ≤ 4096 → length table ≡ 38 * k → length rows ≡ 17 * k → length chain ≡ k → Ample table rows chain
-ample-of k table rows chain a b c d = record { few = omega arith; chained = omega arith; ordered = omega arith }
+stands-deep letters ns lent now r h = h

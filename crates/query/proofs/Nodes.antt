@@ -1,11 +1,13 @@
 -- A node found, laid out and clocked. Assumes nothing.
 use mathlib.Core.Path.{◌≡◌, refl, sym, ◌∙◌, ap}
+use mathlib.Core.Bool.{Bool}
 use mathlib.Core.List.{List, [], ◌∷◌, ◌++◌}
 use mathlib.Core.Logic.{◌⊎◌, inl, inr}
 use Prim.Native.Nat.{ℕ, zero, suc, ◌+◌, ◌-◌, ◌≤◌, ◌<◌, min}
 use native.Mathlib.Omega.{arith}
 use lib.ListN.{length, take}
 use lib.Seq.{length-take-le}
+use Rattle.std.proofs.Common.{Result, Ok, Err}
 use Rattle.definitions.specs.declared.Refusal.{Refusal}
 use Rattle.definitions.specs.Tokens.{TagValue}
 use Rattle.definitions.specs.Bytes.{tokens}
@@ -20,10 +22,9 @@ use Rattle.grammar.proofs.Got.{times-cons}
 use Rattle.layout.specs.declared.NodeLayout.{NodeLayout}
 use Rattle.layout.specs.Laid.{LaidNode}
 use Rattle.lines.specs.declared.Told.{Told}
+use Rattle.clock_tables.specs.declared.TooDeep.{TooDeep}
 use Rattle.infer_clocks.specs.declared.NodeClocked.{NodeClocked}
-use Rattle.infer_clocks.specs.declared.Deepest.{Deepest}
 use Rattle.infer_clocks.specs.Clocked.{SitesTold, ClockedOrDeep, Deeply}
-use Rattle.query.specs.declared.NodeAnswer.{NodeAnswer}
 use Rattle.query.specs.Standing.{first_from, NodeWithClocks, ClockedAs, NodeTold}
 
 -- ---- an item of a list
@@ -214,28 +215,28 @@ module _ (M : ℕ) (ts : List TagValue) (r : Input) (k count before at q : ℕ) 
   among : Around (node M) ts before (count - before - 1) at r.sheet.nodes q
   among = let f : count ≡ before + suc (count - before - 1) = omega arith in around (node M) ts before (count - before - 1) at r.sheet.nodes q (ap (λ (n : ℕ). times n (node M) ts at) (sym f) ∙ g)
 
-  module _ (d : Deepest) (D : (ns : List Node) (p : ℕ) → times before (node M) ts at ≡ got ns p → Deeply p d (clockings 0 ns)) where
+  module _ (d : Result ℕ ℕ) (D : (ns : List Node) (p : ℕ) → times before (node M) ts at ≡ got ns p → Deeply p d (clockings 0 ns)) where
     -- 9 before it
-    pub asked-deep : (i w : ℕ) → d ≡ Deepest.At i → w ≡ i → node_at r k ≡ refused (Refusal.Deep w)
+    pub asked-deep : (i w : ℕ) → d ≡ Err i → w ≡ i → node_at r k ≡ refused (Refusal.Deep w)
     unfolding Deeply
     asked-deep i w f u =
         let s = among in
-        let x : Deeply s.place (Deepest.At i) (clockings 0 s.front) = rw f at (D s.front s.place s.before) in
+        let x : Deeply s.place (Err i) (clockings 0 s.front) = rw f at (D s.front s.place s.before) in
         node-after-deep r k s.front s.item s.rest s.whole (s.many ∙ e) i x ∙ ap (λ (z : ℕ). refused (Refusal.Deep z)) (sym u)
 
     -- it stands there, and the nodes behind it after it
-    pub asked-there : (p : ℕ) → d ≡ Deepest.Nowhere p → (n : Node) × (m : ℕ) × (ns : List Node) × (node M ts p ≡ got n m) × (times (count - before - 1) (node M) ts m ≡ got ns q) × (node_at r k ≡ first_from k (n ∷ ns))
+    pub asked-there : (p : ℕ) → d ≡ Ok p → (n : Node) × (m : ℕ) × (ns : List Node) × (node M ts p ≡ got n m) × (times (count - before - 1) (node M) ts m ≡ got ns q) × (node_at r k ≡ first_from k (n ∷ ns))
     unfolding Deeply
     asked-there p f =
         let s = among in
-        let x : Deeply s.place (Deepest.Nowhere p) (clockings 0 s.front) = rw f at (D s.front s.place s.before) in
+        let x : Deeply s.place (Ok p) (clockings 0 s.front) = rw f at (D s.front s.place s.before) in
         (s.item, s.next, s.rest, ap (node M ts) x.0 ∙ s.here, s.after, node-after r k s.front s.item s.rest s.whole (s.many ∙ e) x.1 x.2)
 
 -- what is told is that
-pub told-as : (M : ℕ) (gs vs t sites : List ℕ) (k : ℕ) (a : NodeAnswer) (v w : Answer ClockedNode) → v ≡ w → NodeTold M gs vs t sites k a w → NodeTold M gs vs t sites k a v
+pub told-as : (M : ℕ) (gs vs t sites : List ℕ) (k : ℕ) (a : Result Told Refusal) (v w : Answer ClockedNode) → v ≡ w → NodeTold M gs vs t sites k a w → NodeTold M gs vs t sites k a v
 told-as M gs vs t sites k a v w e h = rw e h
 
-pub told-refused : (M : ℕ) (gs vs t sites : List ℕ) (k : ℕ) (x : Refusal) (v : Answer ClockedNode) → v ≡ refused x → NodeTold M gs vs t sites k (NodeAnswer.Refused x) v
+pub told-refused : (M : ℕ) (gs vs t sites : List ℕ) (k : ℕ) (x : Refusal) (v : Answer ClockedNode) → v ≡ refused x → NodeTold M gs vs t sites k (Err x) v
 unfolding NodeTold
 told-refused M gs vs t sites k x v e = e
 
@@ -261,30 +262,30 @@ module _ (k : ℕ) (n : Node) (ns : List Node) where
         rw (x, y)
 
 -- what clocking it and searching behind it tell
-module _ (M : ℕ) (gs vs t sites : List ℕ) (k : ℕ) (n : Node) (ns : List Node) (a : NodeAnswer) (h : ClockedAs M gs vs t sites k n a) where
-  pub told-deep : (x : Refusal) → a ≡ NodeAnswer.Refused x → NodeTold M gs vs t sites k (NodeAnswer.Refused (Refusal.Deep k)) (first_from k (n ∷ ns))
+module _ (M : ℕ) (gs vs t sites : List ℕ) (k : ℕ) (n : Node) (ns : List Node) where
+  pub told-deep : (x : Refusal) → ClockedAs M gs vs t sites k n (Err x) → NodeTold M gs vs t sites k (Err x) (first_from k (n ∷ ns))
   unfolding NodeTold ClockedAs
-  told-deep x e = let c : ClockedAs M gs vs t sites k n (NodeAnswer.Refused x) = rw e at h in first-deep k n ns c.0
+  told-deep x h = first-deep k n ns h.0 ∙ ap refused (sym h.1)
 
-  module _ (told : Told) (e : a ≡ NodeAnswer.Node told) (q : ℕ) (d : Deepest) (D : Deeply q d (clockings 0 ns)) where
+  module _ (told : Told) (h : ClockedAs M gs vs t sites k n (Ok told)) (q : ℕ) (d : Result ℕ ℕ) (D : Deeply q d (clockings 0 ns)) where
     this : (c : Clocking) × (clocking n ≡ formed c) × NodeWithClocks M gs vs t sites k told (record { node = n; clocking = c })
     unfolding ClockedAs
-    this = let c : ClockedAs M gs vs t sites k n (NodeAnswer.Node told) = rw e at h in c
+    this = h
 
-    pub told-behind : (i w : ℕ) → d ≡ Deepest.At i → w ≡ i → NodeTold M gs vs t sites k (NodeAnswer.Refused (Refusal.Deep (k + 1 + w))) (first_from k (n ∷ ns))
+    pub told-behind : (i w : ℕ) → d ≡ Err i → w ≡ i → NodeTold M gs vs t sites k (Err (Refusal.Deep (k + 1 + w))) (first_from k (n ∷ ns))
     unfolding NodeTold Deeply
     told-behind i w f u =
-        let x : Deeply q (Deepest.At i) (clockings 0 ns) = rw f at D in
+        let x : Deeply q (Err i) (clockings 0 ns) = rw f at D in
         first-behind k n ns this.0 this.1 i x ∙ ap (λ (z : ℕ). refused (Refusal.Deep (k + 1 + z))) (sym u)
 
-    pub told-node : (p : ℕ) → d ≡ Deepest.Nowhere p → k < 16 → NodeTold M gs vs t sites k (NodeAnswer.Node told) (first_from k (n ∷ ns))
+    pub told-node : (p : ℕ) → d ≡ Ok p → k < 16 → NodeTold M gs vs t sites k (Ok told) (first_from k (n ∷ ns))
     unfolding NodeTold Deeply
     told-node p f few =
-        let x : Deeply q (Deepest.Nowhere p) (clockings 0 ns) = rw f at D in
+        let x : Deeply q (Ok p) (clockings 0 ns) = rw f at D in
         (record { node = n; clocking = this.0 }, first-there k n ns this.0 this.1 x.1 x.2, this.2, few)
 
 -- ---- the part of a working table that names take
-module _ (n w : ℕ) (l : List ℕ) (e : n ≡ min w 1024) (f : length l ≡ 1024) where
+module _ (n w : ℕ) (l : List Bool) (e : n ≡ min w 1024) (f : length l ≡ 1024) where
   pub part-long : n ≡ length (take n l)
   part-long = sym (length-take-le n l (omega arith))
 
@@ -292,15 +293,15 @@ module _ (n w : ℕ) (l : List ℕ) (e : n ≡ min w 1024) (f : length l ≡ 102
   part-enough M g h = omega (arith, part-long)
 
 -- ---- a node clocked
-module _ (M : ℕ) (gs vs env t sites : List ℕ) (k : ℕ) (n : Node) (r : NodeClocked) (h : ClockedOrDeep env t M r (clocking n)) where
-  pub clocked-deep : r ≡ NodeClocked.Deep → ClockedAs M gs vs t sites k n (NodeAnswer.Refused (Refusal.Deep k))
+module _ (M : ℕ) (gs vs env t sites : List ℕ) (k : ℕ) (n : Node) (r : Result NodeClocked TooDeep) (h : ClockedOrDeep env t M r (clocking n)) where
+  pub clocked-deep : (d : TooDeep) → r ≡ Err d → ClockedAs M gs vs t sites k n (Err (Refusal.Deep k))
   unfolding ClockedOrDeep ClockedAs
-  clocked-deep e = let x : ClockedOrDeep env t M NodeClocked.Deep (clocking n) = rw e at h in (x, refl)
+  clocked-deep d e = let x : ClockedOrDeep env t M (Err d) (clocking n) = rw e at h in (x, refl)
 
-  pub clocked-node : (q : ℕ) (l : NodeLayout) (passes m : ℕ) → r ≡ NodeClocked.Clocked passes m → LaidNode M (tokens gs vs) n q l
+  pub clocked-node : (q : ℕ) (l : NodeLayout) (a : NodeClocked) → r ≡ Ok a → LaidNode M (tokens gs vs) n q l
       → ((c : Clocking) → clocking n ≡ formed c → SitesTold M gs vs sites c.findings c.equations l.equations.at l.equations.end)
-      → ClockedAs M gs vs t sites k n (NodeAnswer.Node (record { layout = l; number = k; names = M; passes = passes; findings = m }))
+      → ClockedAs M gs vs t sites k n (Ok (record { layout = l; number = k; names = M; passes = a.passes; findings = a.findings }))
   unfolding ClockedOrDeep ClockedAs
-  clocked-node q l passes m e d S =
-      let x : ClockedOrDeep env t M (NodeClocked.Clocked passes m) (clocking n) = rw e at h in
+  clocked-node q l a e d S =
+      let x : ClockedOrDeep env t M (Ok a) (clocking n) = rw e at h in
       (x.0, x.1, record { end = q; laid = d; formed = x.1; tells = record { made = x.2.made; room = x.2.room; all = x.2.all; on = (S x.0 x.1).on }; number = refl; names = refl })

@@ -1,5 +1,5 @@
 -- A sheet in the working tables, and what is told of its nodes.
-use Rattle.std.specs.Prelude.{ℕ, ◌*◌, ◌≤◌, ◌<◌, ◌≡◌, List, length}
+use Rattle.std.specs.Prelude.{ℕ, ◌*◌, ◌≤◌, ◌<◌, ◌≡◌, List, length, Result, Ok, Err}
 use Rattle.definitions.specs.declared.Refusal.{Refusal}
 use Rattle.definitions.specs.Tree.{Node}
 use Rattle.definitions.specs.Bytes.{tokens}
@@ -13,7 +13,6 @@ use Rattle.spelling.specs.Places.{letters_at}
 use Rattle.layout.specs.Laid.{LaidNode}
 use Rattle.lines.specs.declared.Told.{Told}
 use Rattle.lines.specs.ToldClocks.{ToldClocks}
-use Rattle.query.specs.declared.NodeAnswer.{NodeAnswer}
 
 -- the sheet r stands in these tables: the letters of its names by where they start, its tokens as tags and values
 pub record Standing (starts letters tags values : List ℕ) (M : ℕ) (r : Input) : Type 0 where
@@ -22,19 +21,6 @@ pub record Standing (starts letters tags values : List ℕ) (M : ℕ) (r : Input
   pub few-names : M ≤ 1024
   pub few-tokens : length tags ≤ 4096
   pub tree : sheet M (tokens tags values) 0 ≡ got r.sheet (length tags)
-
--- the working tables have room for the clocks of M names, for what so many tokens let be found, and for a clock for each token
-pub record Roomy (M many : ℕ) (env table sites : List ℕ) : Type 0 where
-  pub few : M ≤ 1024
-  pub clocks : 17 * M ≤ length env
-  pub found : 38 * many ≤ length table
-  pub sited : 17 * many ≤ length sites
-
--- the tables for chains have room for as many as the table of findings has rows, which are at most as many as a sheet has tokens
-pub record Ample (table rows chain : List ℕ) : Type 0 where
-  pub few : length table ≤ 155648
-  pub chained : 17 * length table ≤ 38 * length rows
-  pub ordered : length table ≤ 38 * length chain
 
 -- the first of these nodes with its clocks, where it is node k and no clock of them is too deep
 abbrev pub first_from : ℕ → List Node → Answer ClockedNode
@@ -50,11 +36,11 @@ pub record NodeWithClocks (M : ℕ) (gs vs t sites : List ℕ) (k : ℕ) (told :
   pub names : told.names ≡ M
 
 -- node k, which is n, with its clocks, or 9
-unfoldable pub ClockedAs : ℕ → List ℕ → List ℕ → List ℕ → List ℕ → ℕ → Node → NodeAnswer → Type 0
-ClockedAs M gs vs t sites k n (NodeAnswer.Refused r) = (clocking n ≡ deep) × (r ≡ Refusal.Deep k)
-ClockedAs M gs vs t sites k n (NodeAnswer.Node told) = (c : Clocking) × (clocking n ≡ formed c) × NodeWithClocks M gs vs t sites k told (record { node = n; clocking = c })
+unfoldable pub ClockedAs : ℕ → List ℕ → List ℕ → List ℕ → List ℕ → ℕ → Node → Result Told Refusal → Type 0
+ClockedAs M gs vs t sites k n (Err r) = (clocking n ≡ deep) × (r ≡ Refusal.Deep k)
+ClockedAs M gs vs t sites k n (Ok told) = (c : Clocking) × (clocking n ≡ formed c) × NodeWithClocks M gs vs t sites k told (record { node = n; clocking = c })
 
 -- node k with its clocks, or 8 or 9
-unfoldable pub NodeTold : ℕ → List ℕ → List ℕ → List ℕ → List ℕ → ℕ → NodeAnswer → Answer ClockedNode → Type 0
-NodeTold M gs vs t sites k (NodeAnswer.Refused r) v = v ≡ refused r
-NodeTold M gs vs t sites k (NodeAnswer.Node told) v = (n : ClockedNode) × (v ≡ accepted n) × NodeWithClocks M gs vs t sites k told n × (k < 16)
+unfoldable pub NodeTold : ℕ → List ℕ → List ℕ → List ℕ → List ℕ → ℕ → Result Told Refusal → Answer ClockedNode → Type 0
+NodeTold M gs vs t sites k (Err r) v = v ≡ refused r
+NodeTold M gs vs t sites k (Ok told) v = (n : ClockedNode) × (v ≡ accepted n) × NodeWithClocks M gs vs t sites k told n × (k < 16)

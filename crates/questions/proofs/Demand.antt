@@ -8,6 +8,7 @@ use native.Mathlib.Omega.{arith}
 use lib.Dec.{leb}
 use lib.ListN.{length, take, get_or}
 use borrow.Author.Tests.{leb-true}
+use Rattle.std.proofs.Common.{Result, Ok, Err}
 use Rattle.definitions.specs.declared.Refusal.{Refusal}
 use Rattle.definitions.specs.Lists.{over}
 use Rattle.definitions.specs.Refusals.{Answer, accepted, refused, faulty, down, told, must}
@@ -18,7 +19,6 @@ use Rattle.shapes.proofs.Accepts.{Accepts, accepts, no-refused, no-faulty, accep
 use Rattle.runs.specs.Demand.{DemandThreeAt}
 use Rattle.runs.proofs.Sheet.{demand-three-at}
 use Rattle.stateless.proofs.Answers.{rewrite-refused}
-use Rattle.declock_project.specs.declared.RewriteAnswer.{RewriteAnswer}
 use Rattle.declock_project.specs.Given.{RewriteInWords}
 use Rattle.declock_project.proofs.Outcomes.{given-refused}
 
@@ -50,8 +50,8 @@ front-written (b ∷ out) [] h = absurd (omega arith)
 front-written (b ∷ out) (x ∷ lent) h = ap (λ (l : List ℕ). b ∷ l) (front-written out lent (omega arith))
 
 -- THE LAW: where so many bytes were written, they keep every plain node's runs
-pub written-demand : (bytes lent list lent' list' : List ℕ) (a : RewriteAnswer) → Bytes bytes → RewriteInWords (rewrite_answer bytes (length lent)) lent list lent' list' a
-    → (n : ℕ) → a ≡ RewriteAnswer.Written n → DemandThreeAt bytes (take n lent')
+pub written-demand : (bytes lent list lent' list' : List ℕ) (a : Result ℕ Refusal) → Bytes bytes → RewriteInWords (rewrite_answer bytes (length lent)) lent list lent' list' a
+    → (n : ℕ) → a ≡ Ok n → DemandThreeAt bytes (take n lent')
 written-demand bytes lent list lent' list' a b g n e = go (rewrite_answer bytes (length lent)) refl g
   where
     go : (v : Answer (List ℕ)) → rewrite_answer bytes (length lent) ≡ v → RewriteInWords v lent list lent' list' a → DemandThreeAt bytes (take n lent')
@@ -64,5 +64,5 @@ written-demand bytes lent list lent' list' a b g n e = go (rewrite_answer bytes 
         subst⁻¹ (DemandThreeAt bytes) f (demand-three-at bytes (length lent) out b h)
 
 -- refusals 1 to 7
-pub rewrite-down : (bytes lent list : List ℕ) (x : Refusal) → told (input bytes) ≡ down x → RewriteInWords (rewrite_answer bytes (length lent)) lent list lent list (RewriteAnswer.Refused x)
+pub rewrite-down : (bytes lent list : List ℕ) (x : Refusal) → told (input bytes) ≡ down x → RewriteInWords (rewrite_answer bytes (length lent)) lent list lent list (Err x)
 rewrite-down bytes lent list x h = given-refused (rewrite_answer bytes (length lent)) lent list x (rewrite-refused bytes (length lent) x h)

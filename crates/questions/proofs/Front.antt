@@ -7,25 +7,21 @@ use native.Mathlib.Omega.{arith}
 use lib.Dec.{ltb}
 use borrow.Author.Tests.{ltb-true, ltb-false}
 use lib.ListN.{length, get_or, take, drop, get_or-eq_default}
-use lib.Seq.{length-take-le}
 use Rattle.definitions.specs.Lists.{sum, over}
-use Rattle.definitions.specs.Bytes.{Parts, T, lengths, letters, cut, tags, values, tokens, parts}
+use Rattle.definitions.specs.Bytes.{T, lengths, letters, cut, tokens}
 use Rattle.definitions.specs.Reading.{got}
 use Rattle.definitions.specs.Grammar.{sheet}
 use Rattle.definitions.specs.Output.{letters_of}
-use Rattle.definitions.specs.Refusals.{Answer, accepted, refused, faulty}
 use Rattle.definitions.specs.Answer.{Input}
 use Rattle.spelling.specs.Writing.{over_at}
-use Rattle.spelling.proofs.Writing.{over-front, length_over}
+use Rattle.spelling.proofs.Writing.{over-front}
 use Rattle.spelling.specs.Places.{starts_from, between, letters_at}
 use Rattle.spelling.proofs.Places.{starts-length}
 use Rattle.chain_order.proofs.Laws.{letters-of}
 use Rattle.parts.specs.declared.Sizes.{Sizes}
-use Rattle.parts.specs.Answers.{sizes_of, tags_after, values_after, SizedParts, Accepted}
-use Rattle.parts.proofs.Laws.{SizesFit, lengths-part, letters-part, few-lengths, lengths-long, letters-long, names-told, tokens-told}
-use Rattle.parts.proofs.Laws as parts_laws
-use Rattle.sheet.specs.Answers.{Stands, SheetRead}
-use Rattle.sheet.specs.declared.SheetAnswer.{SheetAnswer}
+use Rattle.parts.specs.Answers.{sizes_of, SizedParts, Accepted}
+use Rattle.parts.proofs.Laws.{lengths-part, letters-part, few-lengths, lengths-long, letters-long, names-told, tokens-told}
+use Rattle.sheet.specs.Answers.{Stands}
 use Rattle.query.specs.Words.{zeros}
 use Rattle.query.specs.Standing.{Standing}
 use Rattle.query.proofs.Words.{over-in, over-after, zero-at, zeros-long}
@@ -55,17 +51,11 @@ module _ (b : List ℕ) (s : Sizes) (a : Accepted b × (s ≡ sizes_of b)) where
   sized : SizedParts b s
   sized = subst⁻¹ (SizedParts b) a.1 a.0.sized
 
-  pub fit : SizesFit b s
-  fit = parts_laws.fit b s sized
-
   pub few : length (take (12 + s.names - 12) (drop 12 b)) ≤ 1024
   few = few-lengths b s sized
 
   pub summed : sum (take (12 + s.names - 12) (drop 12 b)) ≤ 16384
   summed = omega (arith, ap sum (lengths-part b s sized), a.0.summed, sized.letters)
-
-  pub front : (l : List ℕ) → 4096 ≤ length l → length (take s.tokens l) ≡ s.tokens
-  front l h = length-take-le s.tokens l (omega (arith, fit.tokens, h))
 
   -- the starts of the names
   pub starts-stand : (starts : List ℕ) → starts ≡ over_at 0 (starts_from 0 (take (12 + s.names - 12) (drop 12 b))) (zeros 1025) → letters_at starts (letters b) ≡ letters_of (cut (lengths b) (letters b))
@@ -104,24 +94,3 @@ module _ (b : List ℕ) (s : Sizes) (a : Accepted b × (s ≡ sizes_of b)) where
           few-tokens = omega (arith, ap (λ (k : ℕ). length (take k ts)) t, z.tags-count, sized.many);
           tree = rw (m, t, z.tags-count) z.tree;
         }
-
--- ---- the working arrays keep their sizes
-array_long : (l ts : List ℕ) → length (over l ts) ≡ length ts
-array_long l ts = ap length (sym (over-front l ts)) ∙ length_over 0 l ts
-
-tags-kept : (ts b : List ℕ) (a : Answer Parts) → length (tags_after a b ts) ≡ length ts
-tags-kept ts b (accepted p) = array_long (tags b) ts
-tags-kept ts b (refused r) = refl
-tags-kept ts b (faulty l) = refl
-
-values-kept : (vs b : List ℕ) (a : Answer Parts) → length (values_after a b vs) ≡ length vs
-values-kept vs b (accepted p) = array_long (values b) vs
-values-kept vs b (refused r) = refl
-values-kept vs b (faulty l) = refl
-
-module _ {b ts vs ts' vs' : List ℕ} {r : SheetAnswer} (z : SheetRead b ts vs ts' vs' r) where
-  pub tags-long : length ts ≡ 4096 → 4096 ≡ length ts'
-  tags-long h = sym (ap length z.tags ∙ (tags-kept ts b (parts b) ∙ h))
-
-  pub values-long : length vs ≡ 4096 → 4096 ≡ length vs'
-  values-long h = sym (ap length z.values ∙ (values-kept vs b (parts b) ∙ h))

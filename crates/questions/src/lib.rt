@@ -3,9 +3,10 @@
 // Each question has an entry point, which lends what its question needs. What is answered and written is said for all inputs.
 #![tactic(auto)]
 
-ghost use Rattle.std.specs.Prelude.{◌≡◌, false, List, ℕ, ◌≤◌, ◌<◌, ◌^◌, length, take};
+ghost use Rattle.std.specs.Prelude.{◌≡◌, true, false, List, ℕ, ◌≤◌, ◌<◌, ◌^◌, length, take, Ok};
 ghost use Rattle.definitions.specs.Lists.{sum, any};
-ghost use Rattle.definitions.specs.Bytes.{lengths, letters, cut, tokens};
+ghost use Rattle.definitions.specs.Bytes.{lengths, letters, cut};
+ghost use Rattle.grammar.specs.Read.{tokens_of};
 ghost use Rattle.definitions.specs.Tree.{Sheet};
 ghost use Rattle.definitions.specs.Reading.{got};
 ghost use Rattle.definitions.specs.Grammar.{sheet};
@@ -19,17 +20,18 @@ ghost use Rattle.sheet.specs.Answers.{Stands};
 ghost use Rattle.runs.specs.Demand.{DemandThreeAt};
 ghost use Rattle.listings.specs.Answers.{ClocksInWords, ListingGiven};
 ghost use Rattle.declock_project.specs.Given.{RewriteInWords, Read};
-ghost use Rattle.questions.specs.Asked.{rewrite_replied, clocks_replied, listing_replied, Asked, Rooms};
+ghost use Rattle.workspace.specs.Room.{Rooms};
+ghost use Rattle.questions.specs.Asked.{bytes_replied, clocks_replied, Asked, Enough};
 
-use declock_project::RewriteAnswer;
 use definitions::{
     CHAIN_TABLE, CLOCK_TABLE, FINDING_TABLE, MOST_TOKENS, Refusal, SMALL_CLOCK_TABLE,
     SMALL_FINDING_TABLE, SMALL_TOKENS,
 };
-use listings::{ClocksAnswer, ListingAnswer};
-use parts::{Sizes, Written};
+use grammar::Source;
+use parts::Sizes;
 use query::NodeCounts;
-use sheet::SheetAnswer;
+use spelling::Spelling;
+use workspace::Working;
 
 // A small sheet has at most so many names.
 const SMALL_NAMES: u32 = SMALL_TOKENS as u32;
@@ -46,209 +48,143 @@ pub enum Question {
     FaultLines,
 }
 
-// The number of bytes written; or a node's name, passes and counts; or turned down.
+// What a question that is not turned down gets: the number of bytes written; or a node's name, passes and counts.
 #[derive(Clone, Copy)]
 pub enum Reply {
     Written(usize),
     Clocks(NodeCounts),
-    Refused(Refusal),
 }
 
-// The reply to a question for the sheet on one base tick.
-fn rewrite_reply(a: RewriteAnswer) -> Reply
-    ensures { rewrite_replied result ≡ a }
+// The reply to a question for bytes.
+fn bytes_reply(a: Result<usize, Refusal>) -> Result<Reply, Refusal>
+    ensures { bytes_replied result ≡ a }
 {
-    match a {
-        RewriteAnswer::Written(n) => Reply::Written(n),
-        RewriteAnswer::Refused(r) => Reply::Refused(r),
-    }
+    Ok(Reply::Written(a?))
 }
 
 // The reply to a question for clocks.
-fn clocks_reply(a: ClocksAnswer) -> Reply
+fn clocks_reply(a: Result<NodeCounts, Refusal>) -> Result<Reply, Refusal>
     ensures { clocks_replied result ≡ a }
 {
-    match a {
-        ClocksAnswer::Clocks(c) => Reply::Clocks(c),
-        ClocksAnswer::Refused(r) => Reply::Refused(r),
-    }
+    Ok(Reply::Clocks(a?))
 }
 
-// The reply to a question for a listing or a text.
-fn listing_reply(a: ListingAnswer) -> Reply
-    ensures { listing_replied result ≡ a }
+// The answer of a question for bytes, of its reply.
+fn bytes_answer(reply: Result<Reply, Refusal>) -> Result<usize, Refusal>
+    ensures { result ≡ bytes_replied reply }
 {
-    match a {
-        ListingAnswer::Written(n) => Reply::Written(n),
-        ListingAnswer::Refused(r) => Reply::Refused(r),
-    }
-}
-
-// The answer of a question for the sheet on one base tick, of its reply.
-fn rewrite_answer(reply: Reply) -> RewriteAnswer
-    ensures { result ≡ rewrite_replied reply }
-{
-    match reply {
-        Reply::Written(n) => RewriteAnswer::Written(n),
-        Reply::Clocks(_) => RewriteAnswer::Refused(Refusal::Missing),
-        Reply::Refused(r) => RewriteAnswer::Refused(r),
+    match reply? {
+        Reply::Written(n) => Ok(n),
+        Reply::Clocks(_) => Err(Refusal::Missing),
     }
 }
 
 // The answer of a question for clocks, of its reply.
-fn clocks_answer(reply: Reply) -> ClocksAnswer
+fn clocks_answer(reply: Result<Reply, Refusal>) -> Result<NodeCounts, Refusal>
     ensures { result ≡ clocks_replied reply }
 {
-    match reply {
-        Reply::Written(_) => ClocksAnswer::Refused(Refusal::Missing),
-        Reply::Clocks(c) => ClocksAnswer::Clocks(c),
-        Reply::Refused(r) => ClocksAnswer::Refused(r),
+    match reply? {
+        Reply::Written(_) => Err(Refusal::Missing),
+        Reply::Clocks(c) => Ok(c),
     }
 }
 
-// The answer of a question for a listing or a text, of its reply.
-fn listing_answer(reply: Reply) -> ListingAnswer
-    ensures { result ≡ listing_replied reply }
-{
-    match reply {
-        Reply::Written(n) => ListingAnswer::Written(n),
-        Reply::Clocks(_) => ListingAnswer::Refused(Refusal::Missing),
-        Reply::Refused(r) => ListingAnswer::Refused(r),
-    }
-}
-
-// A question's answer, of a sheet that stands in these tables, with working tables: for the clocks of names, for what is found in
-// equations, for chains and their order, and for the clocks of sites. Where there are no chains, the types of names stand in the rows
-// of these, and the plan of tokens in their order.
+// A question's answer, of a sheet that stands in these tables, with working tables.
 fn ask_in(
     given: &[u8],
-    starts: &[u32],
-    letters: &[u8],
-    tags: &[u8],
-    values: &[u32],
-    names: u32,
+    spelling: Spelling<'_>,
+    source: &Source<'_>,
     q: Question,
-    env: &mut [u32],
-    table: &mut [u32],
-    rows: &mut [u32],
-    chain: &mut [u32],
-    sites: &mut [u32],
+    working: &mut Working<'_>,
     out: &mut [u8],
     equations: &mut [u32],
     chains: &mut [u32],
     faults: &mut [u32],
-) -> Reply
-    requires values_len { length values.now ≡ length tags.now }
-    requires given_value { (sum given.now ≡ length letters.now) × (length given.now ≤ 1024) × (length letters.now ≤ 16384) }
-    ensures { (bytes : List ℕ) (i : Input) → Read given.now starts.now letters.now tags.now values.now names bytes i → Rooms names (length tags.now) env.old table.old rows.old chain.old sites.old → Asked q bytes out.old equations.old chains.old faults.old out.new equations.new chains.new faults.new result }
+) -> Result<Reply, Refusal>
+    requires given_value { (sum given.now ≡ length spelling.letters.now) × (length given.now ≤ 1024) × (length spelling.letters.now ≤ 16384) }
+    ensures { (bytes : List ℕ) (i : Input) → Read given.now spelling.entry source.now bytes i → Rooms source.now.names (length source.now.tags.now) working.old → Asked q bytes out.old equations.old chains.old faults.old out.new equations.new chains.new faults.new result }
 {
     match q {
-        Question::Rewrite => rewrite_reply(declock_project::rewrite_in(
-            given, starts, letters, tags, values, names, env, table, sites, rows, chain, out,
-            faults,
+        Question::Rewrite => bytes_reply(declock_project::rewrite_in(
+            given, spelling, source, working, out, faults,
         )),
         Question::Clocks(k) => clocks_reply(listings::clocks_in(
-            starts, letters, tags, values, names, k, env, table, rows, chain, equations, chains,
-            faults, sites,
+            spelling, source, k, working, equations, chains, faults,
         )),
-        Question::Listing(k) => listing_reply(listings::listing_in(
-            out, starts, letters, tags, values, names, k, env, table, rows, chain, sites,
+        Question::Listing(k) => bytes_reply(listings::listing_in(
+            out, spelling, source, k, working,
         )),
-        Question::Listings => listing_reply(listings::listings_in(
-            out, starts, letters, tags, values, names, env, table, rows, chain, sites,
+        Question::Listings => bytes_reply(listings::listings_in(out, spelling, source, working)),
+        Question::Text(k, j) => bytes_reply(fault_text::text_in(
+            out, given, spelling, source, k, j, working,
         )),
-        Question::Text(k, j) => listing_reply(fault_text::text_in(
-            out, given, starts, letters, tags, values, names, k, j, env, table, sites, rows, chain,
-        )),
-        Question::FaultLines => listing_reply(fault_text::lines_in(
-            out, given, starts, letters, tags, values, names, env, table, sites, rows, chain,
+        Question::FaultLines => bytes_reply(fault_text::lines_in(
+            out, given, spelling, source, working,
         )),
     }
 }
 
-// The same of at most 256 tokens and names: small tables are made sooner.
-fn ask_small(
+// The same with working tables of so many words: those of names' clocks, findings, equations' clocks and tokens' order.
+fn ask_with<const CLOCKS: usize, const FINDINGS: usize, const CHAINS: usize, const TOKENS: usize>(
     given: &[u8],
-    starts: &[u32],
-    letters: &[u8],
-    tags: &[u8],
-    values: &[u32],
-    names: u32,
+    spelling: Spelling<'_>,
+    source: &Source<'_>,
     q: Question,
     out: &mut [u8],
     equations: &mut [u32],
     chains: &mut [u32],
     faults: &mut [u32],
-) -> Reply
-    requires values_len { length values.now ≡ length tags.now }
-    requires given_value { (sum given.now ≡ length letters.now) × (length given.now ≤ 1024) × (length letters.now ≤ 16384) }
-    ensures { (bytes : List ℕ) (i : Input) → Read given.now starts.now letters.now tags.now values.now names bytes i → length tags.now ≤ 256 → names ≤ 256 → Asked q bytes out.old equations.old chains.old faults.old out.new equations.new chains.new faults.new result }
+) -> Result<Reply, Refusal>
+    requires given_value { (sum given.now ≡ length spelling.letters.now) × (length given.now ≤ 1024) × (length spelling.letters.now ≤ 16384) }
+    requires sizes_bound { (CLOCKS ≤ 155648) × (FINDINGS ≤ 155648) × (CHAINS ≤ 155648) × (TOKENS ≤ 155648) }
+    ensures { (bytes : List ℕ) (i : Input) → Read given.now spelling.entry source.now bytes i → Enough source.now.names (length source.now.tags.now) CLOCKS FINDINGS CHAINS TOKENS → Asked q bytes out.old equations.old chains.old faults.old out.new equations.new chains.new faults.new result }
 {
-    let mut env = [0u32; SMALL_CLOCK_TABLE];
-    let mut table = [0u32; SMALL_FINDING_TABLE];
-    let mut rows = [0u32; SMALL_CLOCK_TABLE];
-    let mut chain = [0u32; SMALL_TOKENS];
-    let mut sites = [0u32; SMALL_CLOCK_TABLE];
+    let mut env = [0u32; CLOCKS];
+    let mut table = [0u32; FINDINGS];
+    let mut rows = [0u32; CHAINS];
+    let mut chain = [0u32; TOKENS];
+    let mut sites = [0u32; CHAINS];
+    let mut working = Working {
+        env: &mut env,
+        table: &mut table,
+        rows: &mut rows,
+        chain: &mut chain,
+        sites: &mut sites,
+    };
     ask_in(
-        given, starts, letters, tags, values, names, q, &mut env, &mut table, &mut rows,
-        &mut chain, &mut sites, out, equations, chains, faults,
+        given,
+        spelling,
+        source,
+        q,
+        &mut working,
+        out,
+        equations,
+        chains,
+        faults,
     )
 }
 
-// The same of as many tokens as a sheet may have.
-fn ask_large(
-    given: &[u8],
-    starts: &[u32],
-    letters: &[u8],
-    tags: &[u8],
-    values: &[u32],
-    names: u32,
-    q: Question,
-    out: &mut [u8],
-    equations: &mut [u32],
-    chains: &mut [u32],
-    faults: &mut [u32],
-) -> Reply
-    requires values_len { length values.now ≡ length tags.now }
-    requires given_value { (sum given.now ≡ length letters.now) × (length given.now ≤ 1024) × (length letters.now ≤ 16384) }
-    ensures { (bytes : List ℕ) (i : Input) → Read given.now starts.now letters.now tags.now values.now names bytes i → Asked q bytes out.old equations.old chains.old faults.old out.new equations.new chains.new faults.new result }
-{
-    let mut env = [0u32; CLOCK_TABLE];
-    let mut table = [0u32; FINDING_TABLE];
-    let mut rows = [0u32; CHAIN_TABLE];
-    let mut chain = [0u32; MOST_TOKENS];
-    let mut sites = [0u32; CHAIN_TABLE];
-    ask_in(
-        given, starts, letters, tags, values, names, q, &mut env, &mut table, &mut rows,
-        &mut chain, &mut sites, out, equations, chains, faults,
-    )
-}
-
-// The same of any sheet.
+// The same of any sheet: small tables, enough for 256 tokens and names, are made sooner.
 fn ask_standing(
     given: &[u8],
-    starts: &[u32],
-    letters: &[u8],
-    tags: &[u8],
-    values: &[u32],
-    names: u32,
+    spelling: Spelling<'_>,
+    source: &Source<'_>,
     q: Question,
     out: &mut [u8],
     equations: &mut [u32],
     chains: &mut [u32],
     faults: &mut [u32],
-) -> Reply
-    requires values_len { length values.now ≡ length tags.now }
-    requires given_value { (sum given.now ≡ length letters.now) × (length given.now ≤ 1024) × (length letters.now ≤ 16384) }
-    ensures { (bytes : List ℕ) (i : Input) → Read given.now starts.now letters.now tags.now values.now names bytes i → Asked q bytes out.old equations.old chains.old faults.old out.new equations.new chains.new faults.new result }
+) -> Result<Reply, Refusal>
+    requires given_value { (sum given.now ≡ length spelling.letters.now) × (length given.now ≤ 1024) × (length spelling.letters.now ≤ 16384) }
+    ensures { (bytes : List ℕ) (i : Input) → Read given.now spelling.entry source.now bytes i → Asked q bytes out.old equations.old chains.old faults.old out.new equations.new chains.new faults.new result }
 {
-    if tags.len() <= SMALL_TOKENS && names <= SMALL_NAMES {
-        return ask_small(
-            given, starts, letters, tags, values, names, q, out, equations, chains, faults,
+    if source.tags.len() <= SMALL_TOKENS && source.names <= SMALL_NAMES {
+        return ask_with::<SMALL_CLOCK_TABLE, SMALL_FINDING_TABLE, SMALL_CLOCK_TABLE, SMALL_TOKENS>(
+            given, spelling, source, q, out, equations, chains, faults,
         );
     }
-    ask_large(
-        given, starts, letters, tags, values, names, q, out, equations, chains, faults,
+    ask_with::<CLOCK_TABLE, FINDING_TABLE, CHAIN_TABLE, MOST_TOKENS>(
+        given, spelling, source, q, out, equations, chains, faults,
     )
 }
 
@@ -263,64 +199,22 @@ fn starts_of(sheet: &[u8], sizes: Sizes) -> [u32; 1025]
     starts
 }
 
-// The same of an accepted sheet, whose tokens stand at the front of the working arrays.
-fn ask_front(
-    sheet: &[u8],
-    tags: &[u8],
-    values: &[u32],
-    sizes: Sizes,
-    q: Question,
-    out: &mut [u8],
-    equations: &mut [u32],
-    chains: &mut [u32],
-    faults: &mut [u32],
-) -> Reply
-    requires accepted { Accepted sheet.now × (sizes ≡ sizes_of sheet.now) }
-    requires in_bounds { (4096 ≤ length tags.now) × (4096 ≤ length values.now) }
-    ensures { (i : Input) → input sheet.now ≡ accepted i → Stands sheet.now tags.now values.now i → Asked q sheet.now out.old equations.old chains.old faults.old out.new equations.new chains.new faults.new result }
+// Is the sheet its own answer: is it to be rewritten, and uses no node of it clocks?
+fn is_own_answer(q: Question, source: &Source<'_>) -> bool
+    ensures { (s : Sheet) (p : ℕ) → sheet source.now.names (tokens_of source.now) 0 ≡ got s p → result ≡ true → (q ≡ Question.Rewrite) × (any uses_clocks s.nodes ≡ false) }
 {
-    let n = sizes.tokens;
-    let from = 12 + sizes.names;
-    let to = from + sizes.letters;
-    let names = widths::narrow(sizes.names);
-    let starts = starts_of(sheet, sizes);
-    ask_standing(
-        &sheet[12..from],
-        &starts,
-        &sheet[from..to],
-        &tags[..n],
-        &values[..n],
-        names,
-        q,
-        out,
-        equations,
-        chains,
-        faults,
-    )
-}
-
-// Does a node of the sheet whose tokens stand at the front of the working arrays use clocks?
-fn front_uses_clocks(tags: &[u8], values: &[u32], sizes: Sizes) -> bool
-    requires { (sizes.names < 2 ^ 32) × (sizes.tokens ≤ length tags.now) × (sizes.tokens ≤ length values.now) }
-    ensures { (s : Sheet) (q : ℕ) → sheet sizes.names (tokens (take sizes.tokens tags.now) (take sizes.tokens values.now)) 0 ≡ got s q → result ≡ any uses_clocks s.nodes }
-{
-    let n = sizes.tokens;
-    let names = widths::narrow(sizes.names);
-    sheet::uses_clocks(&tags[..n], &values[..n], names)
+    matches!(q, Question::Rewrite) && !sheet::uses_clocks(source)
 }
 
 // The sheet on one base tick, of a sheet none of whose nodes uses clocks: itself.
-fn as_it_came(sheet: &[u8], out: &mut [u8]) -> RewriteAnswer
+fn as_it_came(sheet: &[u8], out: &mut [u8]) -> Result<usize, Refusal>
     ensures { (i : Input) (faults : List ℕ) → input sheet.now ≡ accepted i → any uses_clocks i.sheet.nodes ≡ false → RewriteInWords (rewrite_answer sheet.now (length out.old)) out.old faults out.new faults result }
 {
-    let w = parts::write_bytes(sheet, out);
-    match w {
-        Written::Done(n) => RewriteAnswer::Written(n),
-        Written::Lent(n) => RewriteAnswer::Refused(Refusal::Lent(n)),
-    }
+    parts::write_bytes(sheet, out)
 }
 
-// The same of an accepted sheet, with no table made for one that is its own answer.
+// The same of an accepted sheet, whose tokens stand at the front of the working arrays, with no table made for one that is its own answer.
+// Stays (fixed memory): the arrays are made for as many tokens as a sheet may have, before it is known how many this one has.
 fn ask_read(
     sheet: &[u8],
     tags: &[u8],
@@ -331,18 +225,36 @@ fn ask_read(
     equations: &mut [u32],
     chains: &mut [u32],
     faults: &mut [u32],
-) -> Reply
+) -> Result<Reply, Refusal>
     requires accepted { Accepted sheet.now × (sizes ≡ sizes_of sheet.now) }
     requires in_bounds { (4096 ≤ length tags.now) × (4096 ≤ length values.now) }
     ensures { (i : Input) → input sheet.now ≡ accepted i → Stands sheet.now tags.now values.now i → Asked q sheet.now out.old equations.old chains.old faults.old out.new equations.new chains.new faults.new result }
 {
-    if let Question::Rewrite = q {
-        if !front_uses_clocks(tags, values, sizes) {
-            return rewrite_reply(as_it_came(sheet, out));
-        }
+    let n = sizes.tokens;
+    let source = Source {
+        tags: &tags[..n],
+        values: &values[..n],
+        names: sizes.names as u32,
+    };
+    if is_own_answer(q, &source) {
+        return bytes_reply(as_it_came(sheet, out));
     }
-    ask_front(
-        sheet, tags, values, sizes, q, out, equations, chains, faults,
+    let from = 12 + sizes.names;
+    let to = from + sizes.letters;
+    let starts = starts_of(sheet, sizes);
+    let spelling = Spelling {
+        starts: &starts,
+        letters: &sheet[from..to],
+    };
+    ask_standing(
+        &sheet[12..from],
+        spelling,
+        &source,
+        q,
+        out,
+        equations,
+        chains,
+        faults,
     )
 }
 
@@ -355,38 +267,25 @@ pub fn ask(
     equations: &mut [u32],
     chains: &mut [u32],
     faults: &mut [u32],
-) -> Reply
+) -> Result<Reply, Refusal>
     ensures { Asked q sheet.now out.old equations.old chains.old faults.old out.new equations.new chains.new faults.new result }
 {
     let mut tags = [0u8; MOST_TOKENS];
     let mut values = [0u32; MOST_TOKENS];
-    let answer = sheet::read(sheet, &mut tags, &mut values);
-    match answer {
-        SheetAnswer::Refused(r) => Reply::Refused(r),
-        SheetAnswer::Sheet(sizes) => ask_read(
-            sheet, &tags, &values, sizes, q, out, equations, chains, faults,
-        ),
-    }
+    let sizes = sheet::read(sheet, &mut tags, &mut values)?;
+    ask_read(
+        sheet, &tags, &values, sizes, q, out, equations, chains, faults,
+    )
 }
 
 // Rewriting a sheet: the sheet on one base tick over the front of the lent bytes, and how many bytes it has; or the refusal, which
 // writes no byte, and under 10 alone each faulty node's first fault over the front of the lent list, three words a fault. The second
 // clause is demand 3: every run of a rewritten plain node, kept to each name's clock, is a run of the source node.
-pub fn rewrite(sheet: &[u8], out: &mut [u8], faults: &mut [u32]) -> RewriteAnswer
+pub fn rewrite(sheet: &[u8], out: &mut [u8], faults: &mut [u32]) -> Result<usize, Refusal>
     ensures rewrite_in_words { RewriteInWords (rewrite_answer sheet.now (length out.old)) out.old faults.old out.new faults.new result }
-    ensures demand_three { (n : ℕ) → result ≡ RewriteAnswer.Written n → DemandThreeAt sheet.now (take n out.new) }
+    ensures demand_three { (n : ℕ) → result ≡ Ok n → DemandThreeAt sheet.now (take n out.new) }
 {
-    let mut equations = [0u32; 1];
-    let mut chains = [0u32; 1];
-    let reply = ask(
-        sheet,
-        Question::Rewrite,
-        out,
-        &mut equations,
-        &mut chains,
-        faults,
-    );
-    rewrite_answer(reply)
+    bytes_answer(ask(sheet, Question::Rewrite, out, &mut [], &mut [], faults))
 }
 
 // The clock query of a node: its name and passes, each equation's clock, its chains and all its clock faults, into lent lists as far
@@ -397,90 +296,58 @@ pub fn clocks(
     equations: &mut [u32],
     chains: &mut [u32],
     faults: &mut [u32],
-) -> ClocksAnswer
+) -> Result<NodeCounts, Refusal>
     ensures { ClocksInWords node (clocks_answer sheet.now node) equations.old chains.old faults.old equations.new chains.new faults.new result }
 {
-    let mut out = [0u8; 1];
-    let reply = ask(
+    clocks_answer(ask(
         sheet,
         Question::Clocks(node),
-        &mut out,
+        &mut [],
         equations,
         chains,
         faults,
-    );
-    clocks_answer(reply)
+    ))
 }
 
 // The listing of a node, over the front of the lent bytes.
-pub fn listing(sheet: &[u8], node: usize, out: &mut [u8]) -> ListingAnswer
+pub fn listing(sheet: &[u8], node: usize, out: &mut [u8]) -> Result<usize, Refusal>
     ensures { ListingGiven (listing_answer sheet.now node (length out.old)) out.old out.new result }
 {
-    let mut equations = [0u32; 1];
-    let mut chains = [0u32; 1];
-    let mut faults = [0u32; 1];
-    let reply = ask(
+    bytes_answer(ask(
         sheet,
         Question::Listing(node),
         out,
-        &mut equations,
-        &mut chains,
-        &mut faults,
-    );
-    listing_answer(reply)
+        &mut [],
+        &mut [],
+        &mut [],
+    ))
 }
 
 // The listings of all nodes, in order, over the front of the lent bytes.
-pub fn listings(sheet: &[u8], out: &mut [u8]) -> ListingAnswer
+pub fn listings(sheet: &[u8], out: &mut [u8]) -> Result<usize, Refusal>
     ensures { ListingGiven (listings_answer sheet.now (length out.old)) out.old out.new result }
 {
-    let mut equations = [0u32; 1];
-    let mut chains = [0u32; 1];
-    let mut faults = [0u32; 1];
-    let reply = ask(
-        sheet,
-        Question::Listings,
-        out,
-        &mut equations,
-        &mut chains,
-        &mut faults,
-    );
-    listing_answer(reply)
+    bytes_answer(ask(sheet, Question::Listings, out, &mut [], &mut [], &mut []))
 }
 
 // The text of a fault of a node, over the front of the lent bytes.
-pub fn text(sheet: &[u8], node: usize, fault: usize, out: &mut [u8]) -> ListingAnswer
+pub fn text(sheet: &[u8], node: usize, fault: usize, out: &mut [u8]) -> Result<usize, Refusal>
     ensures { ListingGiven (text_answer sheet.now node fault (length out.old)) out.old out.new result }
 {
-    let mut equations = [0u32; 1];
-    let mut chains = [0u32; 1];
-    let mut faults = [0u32; 1];
-    let reply = ask(
+    bytes_answer(ask(
         sheet,
         Question::Text(node, fault),
         out,
-        &mut equations,
-        &mut chains,
-        &mut faults,
-    );
-    listing_answer(reply)
+        &mut [],
+        &mut [],
+        &mut [],
+    ))
 }
 
-// Each faulty node's first fault, in order, a line each, over the front of the lent bytes: what a caller of `rewrite` tells under refusal 10,
-// without asking for each text.
-pub fn fault_lines(sheet: &[u8], out: &mut [u8]) -> ListingAnswer
+// Each faulty node's first fault, in order, a line each, over the front of the lent bytes: what a caller of `rewrite` tells under refusal
+// 10, without asking for each text.
+pub fn fault_lines(sheet: &[u8], out: &mut [u8]) -> Result<usize, Refusal>
     ensures { ListingGiven (fault_lines_answer sheet.now (length out.old)) out.old out.new result }
 {
-    let mut equations = [0u32; 1];
-    let mut chains = [0u32; 1];
-    let mut faults = [0u32; 1];
-    let reply = ask(
-        sheet,
-        Question::FaultLines,
-        out,
-        &mut equations,
-        &mut chains,
-        &mut faults,
-    );
-    listing_answer(reply)
+    bytes_answer(ask(sheet, Question::FaultLines, out, &mut [], &mut [], &mut []))
 }

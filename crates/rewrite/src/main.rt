@@ -1,16 +1,16 @@
 // Rewrites the sheet on standard input to run on one base tick; or says what it is refused for.
 #![tactic(auto)]
 
+ghost use Rattle.std.specs.Prelude.{◌≤◌};
+
 use arguments::Word;
-use declock_project::RewriteAnswer;
 use definitions::Refusal;
-use listings::ListingAnswer;
+use spelling::TextWriter;
 use std::io;
 use std::io::{Read, Write};
 
-fn help(output: &mut impl Write) -> io::Result<()> {
-    output.write_all(
-        b"rewrite [BYTES]: rewrites the sheet on standard input to run on one base tick, to standard output.
+const HELP: &[u8] =
+    b"rewrite [BYTES]: rewrites the sheet on standard input to run on one base tick, to standard output.
 
 BYTES is how many bytes are lent for the rewritten sheet; without it they are enough for any.
 A sheet that is turned down leaves standard output empty, and on standard error is (the exit status is 0 in both cases)
@@ -34,46 +34,41 @@ fault NODE FAULT EQUATION TEXT     under 10: a line for each faulty node, its fi
 
 Limits: 1,024 names, 16,384 letters, 2 to 4,096 tokens; 32 types, 16 nodes; of a node 64 equations and 128 declared names; 1 to 8 left
 names; 0 or 1 start values; 64 of anything else; arrays of 256, array types 8 deep, expressions 32 deep.
-",
-    )
-}
+";
 
-fn wrong(errors: &mut impl Write) -> io::Result<()> {
-    errors.write_all(b"rewrite: BYTES is a number of bytes; rewrite --help says more\n")
-}
+const WRONG: &[u8] = b"rewrite: BYTES is a number of bytes; rewrite --help says more\n";
 
-// `refused NUMBER PLACE: REASON`
-fn show_refusal(errors: &mut impl Write, r: Refusal) -> io::Result<()> {
-    let mut line = [0u8; 256];
-    let n = refusals::put_reason(&mut line, r);
-    arguments::show(errors, &line, n)
-}
+// 65,536 bytes are enough for any rewritten sheet.
+const ENOUGH: usize = 65536;
+
+// A sheet of less than 64 bytes has too few tokens for a when: it comes out as it is, and fits in what it was read into.
+const FEW: usize = 4096;
 
 // `faults COUNT`
-fn put_count(out: &mut [u8; 128], count: usize) -> usize {
-    let a = spelling::put_all(out, 0, b"faults");
-    let b = refusals::put_number(out, a, count);
-    spelling::put(out, b, b'\n')
-}
-
 fn show_count(errors: &mut impl Write, count: usize) -> io::Result<()> {
     let mut line = [0u8; 128];
-    let n = put_count(&mut line, count);
+    let mut text = TextWriter {
+        out: &mut line,
+        at: 0,
+    };
+    text.put_all(b"faults");
+    text.put_number(count);
+    text.put(b'\n');
+    let n = text.at;
     arguments::show(errors, &line, n)
 }
 
 // A line for each faulty node, its first fault: 16,384 bytes are enough for sixteen, the longest being 819.
 fn show_faults(errors: &mut impl Write, sheet: &[u8]) -> io::Result<()> {
     let mut lines = [0u8; 16384];
-    let answer = questions::fault_lines(sheet, &mut lines);
-    if let ListingAnswer::Written(n) = answer {
+    if let Ok(n) = questions::fault_lines(sheet, &mut lines) {
         arguments::show(errors, &lines, n)?;
     }
     Ok(())
 }
 
 fn refuse(errors: &mut impl Write, sheet: &[u8], r: Refusal) -> io::Result<()> {
-    show_refusal(errors, r)?;
+    arguments::refuse(errors, r)?;
     if let Refusal::Faulty(count) = r {
         show_count(errors, count)?;
         show_faults(errors, sheet)?;
@@ -89,47 +84,25 @@ fn rewrite(
     out: &mut [u8],
 ) -> io::Result<()> {
     let told = clock_pass::rewrite_told(sheet, out);
-    let answer = told.answer;
-    match answer {
-        RewriteAnswer::Written(n) => arguments::show(output, out, n),
-        RewriteAnswer::Refused(r) => refuse(errors, sheet, r),
+    match told.answer {
+        Ok(n) => arguments::show(output, out, n),
+        Err(r) => refuse(errors, sheet, r),
     }
 }
 
-fn rewrite_lent(
-    output: &mut impl Write,
-    errors: &mut impl Write,
-    sheet: &[u8],
-    out: &mut [u8],
-    lent: usize,
-) -> io::Result<()> {
-    if lent < out.len() {
-        return rewrite(output, errors, sheet, &mut out[..lent]);
-    }
-    rewrite(output, errors, sheet, out)
-}
-
-// 65,536 bytes are enough for any rewritten sheet. Never inlined, so that only a run that comes here has these bytes on its stack.
+// Rewrites into so many bytes, of which there are at most N. Never inlined, so that only a run that comes here has these bytes on its
+// stack.
 #[inline(never)]
-fn answer_sheet(
+fn rewrite_lent<const N: usize>(
     output: &mut impl Write,
     errors: &mut impl Write,
     sheet: &[u8],
     lent: usize,
-) -> io::Result<()> {
-    let mut out = [0u8; 65536];
-    rewrite_lent(output, errors, sheet, &mut out, lent)
-}
-
-// A sheet of less than 64 bytes has too few tokens for a when: it comes out as it is, and fits in what it was read into.
-fn answer_few(
-    output: &mut impl Write,
-    errors: &mut impl Write,
-    sheet: &[u8],
-    lent: usize,
-) -> io::Result<()> {
-    let mut out = [0u8; 4096];
-    rewrite_lent(output, errors, sheet, &mut out, lent)
+) -> io::Result<()>
+    requires { N ≤ 65536 }
+{
+    let mut out = [0u8; N];
+    rewrite(output, errors, sheet, &mut out[..lent.min(N)])
 }
 
 // A sheet of which these bytes are read. Never inlined, as the one above.
@@ -143,7 +116,7 @@ fn answer_long(
 ) -> io::Result<()> {
     let mut sheet = [0u8; 65536];
     let n = arguments::read_on(input, start, &mut sheet)?;
-    answer_sheet(output, errors, &sheet[..n], lent)
+    rewrite_lent::<ENOUGH>(output, errors, &sheet[..n], lent)
 }
 
 fn answer(
@@ -155,10 +128,10 @@ fn answer(
     let mut start = [0u8; 4096];
     let n = arguments::read_full(input, &mut start)?;
     if n < 64 {
-        return answer_few(output, errors, &start[..n], lent);
+        return rewrite_lent::<FEW>(output, errors, &start[..n], lent);
     }
     if n < 4096 {
-        return answer_sheet(output, errors, &start[..n], lent);
+        return rewrite_lent::<ENOUGH>(output, errors, &start[..n], lent);
     }
     answer_long(input, output, errors, &start, lent)
 }
@@ -168,12 +141,12 @@ fn main(rt: HostRuntime) -> io::Result<()> {
     let mut output = rt.stdout();
     let mut errors = rt.stderr();
     if arguments::argument(&rt, 2).is_some() {
-        return wrong(&mut errors);
+        return errors.write_all(WRONG);
     }
     match arguments::argument(&rt, 1) {
-        None => answer(&mut input, &mut output, &mut errors, 65536),
-        Some(Word::Help) => help(&mut output),
+        None => answer(&mut input, &mut output, &mut errors, ENOUGH),
+        Some(Word::Help) => output.write_all(HELP),
         Some(Word::Number(lent)) => answer(&mut input, &mut output, &mut errors, lent),
-        Some(Word::Other) => wrong(&mut errors),
+        Some(Word::Other) => errors.write_all(WRONG),
     }
 }

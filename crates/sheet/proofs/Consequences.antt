@@ -1,6 +1,7 @@
 -- What follows from `read`'s contract: what the definition accepts is not refused, what it refuses is refused at the same place, and
 -- what was written is read again.
 -- Assumes nothing.
+use Rattle.std.specs.Prelude.{Result, Ok, Err}
 use mathlib.Core.Path.{◌≡◌, refl, sym, ◌∙◌, ap}
 use mathlib.Core.List.{List}
 use Prim.Native.Nat.{ℕ}
@@ -21,46 +22,45 @@ use Rattle.parts.specs.Bytes.{AllBelow, Within}
 use Rattle.parts.proofs.RoundTrip.{read_back, write-back}
 use Rattle.shapes.specs.Shape.{Bytes}
 use Rattle.shapes.proofs.Source.{read-written}
-use Rattle.sheet.specs.declared.SheetAnswer.{SheetAnswer}
-use Rattle.sheet.specs.Answers.{sheet_told, sheet_answered, Stands, SheetRead}
+use Rattle.sheet.specs.Answers.{checked_told, sheet_answered, Stands, SheetRead}
 use Rattle.sheet.proofs.Laws.{input-parts}
 
-module _ {b ts vs ts' vs' : List ℕ} {r : SheetAnswer} (z : SheetRead b ts vs ts' vs' r) where
+module _ {b ts vs ts' vs' : List ℕ} {r : Result Sizes Refusal} (z : SheetRead b ts vs ts' vs' r) where
   -- the answer tells what the definition's does
-  pub answer-told : sheet_told r ≡ told (input b)
-  answer-told = ap sheet_told z.answer ∙ go (told (input b))
+  pub answer-told : checked_told r ≡ told (input b)
+  answer-told = ap checked_told z.answer ∙ go (told (input b))
     where
-      go : (x : Told) → sheet_told (sheet_answered x b) ≡ x
+      go : (x : Told) → checked_told (sheet_answered x b) ≡ x
       go fine = refl
       go (down t) = refl
 
   -- what the definition accepts is not refused
-  pub accepts : (i : Input) → input b ≡ accepted i → r ≡ SheetAnswer.Sheet (sizes_of b)
+  pub accepts : (i : Input) → input b ≡ accepted i → r ≡ Ok (sizes_of b)
   accepts i h = z.answer ∙ ap (λ (a : Answer Input). sheet_answered (told a) b) h
 
   -- what it refuses is refused, under the same number and at the same place
-  pub refuses : (t : Refusal) → input b ≡ refused t → r ≡ SheetAnswer.Refused t
+  pub refuses : (t : Refusal) → input b ≡ refused t → r ≡ Err t
   refuses t h = z.answer ∙ ap (λ (a : Answer Input). sheet_answered (told a) b) h
 
   -- what is accepted the definition accepts, and the sheet stands in the working arrays
-  pub accepted-only : (s : Sizes) → r ≡ SheetAnswer.Sheet s → (i : Input) × (input b ≡ accepted i) × (s ≡ sizes_of b) × Stands b ts' vs' i
+  pub accepted-only : (s : Sizes) → r ≡ Ok s → (i : Input) × (input b ≡ accepted i) × (s ≡ sizes_of b) × Stands b ts' vs' i
   accepted-only s e = go (input b) refl (sym e ∙ z.answer)
     where
-      go : (a : Answer Input) → input b ≡ a → SheetAnswer.Sheet s ≡ sheet_answered (told a) b → (i : Input) × (input b ≡ accepted i) × (s ≡ sizes_of b) × Stands b ts' vs' i
+      go : (a : Answer Input) → input b ≡ a → Ok s ≡ sheet_answered (told a) b → (i : Input) × (input b ≡ accepted i) × (s ≡ sizes_of b) × Stands b ts' vs' i
       go (accepted i) h k = (i, h, cc, z.stands i h)
       go (refused t) h k = let q : ◌≡◌ {A = ℕ} 0 1 = cc in absurd (omega arith)
       go (faulty l) h k = let q : ◌≡◌ {A = ℕ} 0 1 = cc in absurd (omega arith)
 
   -- refusals 1 to 4 do not apply to what is accepted
-  pub accepted-sized : (s : Sizes) → r ≡ SheetAnswer.Sheet s → Accepted b × (s ≡ sizes_of b)
+  pub accepted-sized : (s : Sizes) → r ≡ Ok s → Accepted b × (s ≡ sizes_of b)
   accepted-sized s e =
       let a = accepted-only s e in
       let p = input-parts b a.0 a.1 in
       (parts_laws.accepted-only b p.0 p.1, a.2)
 
   -- what is refused is what the definition tells
-  pub refused-only : (t : Refusal) → r ≡ SheetAnswer.Refused t → told (input b) ≡ down t
-  refused-only t e = sym answer-told ∙ ap sheet_told e
+  pub refused-only : (t : Refusal) → r ≡ Err t → told (input b) ≡ down t
+  refused-only t e = sym answer-told ∙ ap checked_told e
 
   -- the tokens at the front of the working arrays are written back to the bytes that were read
   pub writes-back : AllBelow 256 b → (i : Input) → input b ≡ accepted i → sheet_bytes i.names (tokens (take (T b) ts') (take (T b) vs')) ≡ b
@@ -73,14 +73,14 @@ module _ {b ts vs ts' vs' : List ℕ} {r : SheetAnswer} (z : SheetRead b ts vs t
       rw (p.2, f) (write-back b p.0 h p.1)
 
 -- a sheet that was read is read again from the bytes that its tree is written to: the same answer, and the same tree stands there
-pub read_again : {b ts vs ts' vs' : List ℕ} {r : SheetAnswer} → Bytes b → (i : Input) → input b ≡ accepted i → SheetRead (written i.names i.sheet) ts vs ts' vs' r →
-    (r ≡ SheetAnswer.Sheet (sizes_of b)) × Stands b ts' vs' i
+pub read_again : {b ts vs ts' vs' : List ℕ} {r : Result Sizes Refusal} → Bytes b → (i : Input) → input b ≡ accepted i → SheetRead (written i.names i.sheet) ts vs ts' vs' r →
+    (r ≡ Ok (sizes_of b)) × Stands b ts' vs' i
 read_again {b} {ts} {vs} {ts'} {vs'} {r} h i e z =
     let w : SheetRead b ts vs ts' vs' r = rw (read-written b h i e) at z in
     (accepts w i e, w.stands i e)
 
 -- names and tokens that were written, if the grammar allows them, are read back: the same names, and the same tokens stand there
-pub reads-back : {ts vs ts' vs' : List ℕ} {s : Sizes} (names : List Letters) (ks : List TagValue) → Within names ks → SheetRead (sheet_bytes names ks) ts vs ts' vs' (SheetAnswer.Sheet s) →
+pub reads-back : {ts vs ts' vs' : List ℕ} {s : Sizes} (names : List Letters) (ks : List TagValue) → Within names ks → SheetRead (sheet_bytes names ks) ts vs ts' vs' (Ok s) →
     (i : Input) × (input (sheet_bytes names ks) ≡ accepted i) × (i.names ≡ names) × (tokens (take s.tokens ts') (take s.tokens vs') ≡ ks)
 unfolding parts_of
 reads-back {ts} {vs} {ts'} {vs'} {s} names ks w z =

@@ -1,9 +1,10 @@
 -- `input` by its parts, and the front of the working arrays.
 -- Assumes nothing.
+use Rattle.std.specs.Prelude.{Result, Ok, Err}
 use mathlib.Core.Path.{◌≡◌, refl, sym, ◌∙◌, ap}
 use mathlib.Core.List.{List, [], ◌∷◌}
 use mathlib.Core.Bool.{Bool, true, false}
-use Prim.Native.Nat.{ℕ, suc, ◌≤◌}
+use Prim.Native.Nat.{ℕ, suc, ◌≤◌, ◌<◌}
 use native.Mathlib.Omega.{arith}
 use lib.Dec.{eqb}
 use lib.ListN.{length, take}
@@ -18,38 +19,34 @@ use Rattle.definitions.specs.Bytes.{Parts, M, T, lengths, letters, tags, values,
 use Rattle.definitions.specs.Grammar.{sheet}
 use Rattle.definitions.specs.Types.{first_cycle}
 use Rattle.definitions.specs.Answer.{Input, answered, input}
-use Rattle.grammar.specs.declared.Read.{Read}
 use Rattle.grammar.specs.Outcome.{outcome}
 use Rattle.grammar.proofs.Laws.{next-got, tokens-length}
 use Rattle.grammar.proofs.Laws as grammar-laws
 use Rattle.grammar.proofs.Got.{sheet-got}
 use Rattle.parts.specs.declared.Sizes.{Sizes}
-use Rattle.parts.specs.declared.PartsAnswer.{PartsAnswer}
 use Rattle.parts.specs.Answers.{parts_of, parts_answer, tags_after, values_after, SizedParts}
 use Rattle.parts.proofs.Laws.{answer-refused, answer-sizes, answer-sized, answer-parts, names-told, tokens-told, lengths-long, tags-long, values-long}
 use Rattle.parts.proofs.Cuts.{cut-count}
-use Rattle.sheet.specs.declared.SheetAnswer.{SheetAnswer}
-use Rattle.sheet.specs.declared.Checked.{Checked}
 use Rattle.sheet.specs.Answers.{tokens_answer, checked_told, sheet_answered, Stands, SheetRead}
 
 -- ---- refusals 5 to 7
 module _ (names : ℕ) (ts : List TagValue) where
-  pub tokens-refused : (r : Read) (t : Refusal) → r ≡ outcome (sheet names ts 0) → r ≡ Read.Refused t → down t ≡ told (tokens_answer names ts)
+  pub tokens-refused : (r : Result ℕ Refusal) (t : Refusal) → r ≡ outcome (sheet names ts 0) → r ≡ Err t → down t ≡ told (tokens_answer names ts)
   unfolding tokens_answer
   tokens-refused r t e g = rw (grammar-laws.refused (sheet names ts 0) r t e g)
 
-  pub tokens-read : (r : Read) (q : ℕ) (c : Checked) → r ≡ outcome (sheet names ts 0) → r ≡ Read.Next q →
+  pub tokens-read : (r : Result ℕ Refusal) (q : ℕ) (c : Result Unit Refusal) → r ≡ outcome (sheet names ts 0) → r ≡ Ok q →
       ((s : Sheet) (q : ℕ) → sheet names ts 0 ≡ got s q → checked_told c ≡ told (tokens_answer names ts)) → checked_told c ≡ told (tokens_answer names ts)
   tokens-read r q c e g h = let n = next-got (sheet names ts 0) r q e g in h n.0 q n.1
 
-  module _ (s : Sheet) (q : ℕ) (g : sheet names ts 0 ≡ got s q) (c : ℕ) (e : c ≡ first_cycle s.types [] s.types) (n : ℕ) (m : n ≡ length s.types) where
-    pub no-cycle : c ≡ n → fine ≡ told (tokens_answer names ts)
+  module _ (s : Sheet) (q : ℕ) (g : sheet names ts 0 ≡ got s q) where
+    pub no-cycle : first_cycle s.types [] s.types ≡ length s.types → fine ≡ told (tokens_answer names ts)
     unfolding tokens_answer
-    no-cycle h = rw g (rw (eq-eqb (first_cycle s.types [] s.types) (length s.types) (sym e ∙ h ∙ m)))
+    no-cycle h = rw g (rw (eq-eqb (first_cycle s.types [] s.types) (length s.types) h))
 
-    pub a-cycle : (c ≡ n → ⊥) → down (Refusal.Cycle c) ≡ told (tokens_answer names ts)
+    pub a-cycle : (c : ℕ) → (c ≡ first_cycle s.types [] s.types) × (c < length s.types) → down (Refusal.Cycle c) ≡ told (tokens_answer names ts)
     unfolding tokens_answer
-    a-cycle h = rw g (rw (ne_eqb (first_cycle s.types [] s.types) (length s.types) (λ z. h (e ∙ z ∙ sym m))) (ap (λ (k : ℕ). down (Refusal.Cycle k)) e))
+    a-cycle c h = rw g (rw (ne_eqb (first_cycle s.types [] s.types) (length s.types) (λ z. omega (arith, z, h.0, h.1))) (ap (λ (k : ℕ). down (Refusal.Cycle k)) h.0))
 
 -- ---- refusals 1 to 7
 same_test : {A B : Type 0} (t : Bool) (r : Refusal) (a : A) (b : B) → told (must t r >>= λ _. accepted a) ≡ told (must t r >>= λ _. accepted b)
@@ -123,7 +120,7 @@ front l lent after n most e h k m =
 
 -- ---- what `read` finds
 -- a sheet that is refused by 1 to 4
-pub parts-refused : (b ts vs ts' vs' : List ℕ) (r : Refusal) → PartsAnswer.Refused r ≡ parts_answer b → ts' ≡ tags_after (parts b) b ts → vs' ≡ values_after (parts b) b vs → SheetRead b ts vs ts' vs' (SheetAnswer.Refused r)
+pub parts-refused : (b ts vs ts' vs' : List ℕ) (r : Refusal) → Err r ≡ parts_answer b → ts' ≡ tags_after (parts b) b ts → vs' ≡ values_after (parts b) b vs → SheetRead b ts vs ts' vs' (Err r)
 parts-refused b ts vs ts' vs' r e et ev =
     let f = answer-refused b r e in
     record {
@@ -133,7 +130,7 @@ parts-refused b ts vs ts' vs' r e et ev =
       stands = λ i h. absurd (not-accepted b r f i h);
     }
 
-module _ (b : List ℕ) (s : Sizes) (e : PartsAnswer.Parts s ≡ parts_answer b) where
+module _ (b : List ℕ) (s : Sizes) (e : Ok s ≡ parts_answer b) where
   sized : SizedParts b s
   sized = answer-sized b s e
 
@@ -169,7 +166,7 @@ module _ (b : List ℕ) (s : Sizes) (e : PartsAnswer.Parts s ≡ parts_answer b)
           tree = rw (tags-front, values-front, ← names-long, ← tokens-long) g.1;
         }
 
-    module _ (names : ℕ) (en : names ≡ s.names) (r : Checked) (er : checked_told r ≡ told (tokens_answer names (tokens (take s.tokens ts') (take s.tokens vs')))) where
+    module _ (names : ℕ) (en : names ≡ s.names) (r : Result Unit Refusal) (er : checked_told r ≡ told (tokens_answer names (tokens (take s.tokens ts') (take s.tokens vs')))) where
       told_is : told (input b) ≡ checked_told r
       unfolding parts_of
       told_is =
@@ -179,15 +176,15 @@ module _ (b : List ℕ) (s : Sizes) (e : PartsAnswer.Parts s ≡ parts_answer b)
               told (tokens_answer m (tokens (take n ts') (take n vs'))) ≡ told (tokens_answer (length (cut (lengths b) (letters b))) (tokens (tags b) (values b)))
           go m f n k = rw (f, k, tags-front, values-front)
 
-      pub sheet-accepted : r ≡ Checked.Fine → SheetRead b ts vs ts' vs' (SheetAnswer.Sheet s)
+      pub sheet-accepted : r ≡ Ok tt → SheetRead b ts vs ts' vs' (Ok s)
       sheet-accepted f = record {
-        answer = ap SheetAnswer.Sheet (answer-sizes b s e) ∙ ap (λ (x : Told). sheet_answered x b) (sym (told_is ∙ ap checked_told f));
+        answer = ap Ok (answer-sizes b s e) ∙ ap (λ (x : Told). sheet_answered x b) (sym (told_is ∙ ap checked_told f));
         tags = et;
         values = ev;
         stands = stands;
       }
 
-      pub sheet-refused : (t : Refusal) → r ≡ Checked.Refused t → SheetRead b ts vs ts' vs' (SheetAnswer.Refused t)
+      pub sheet-refused : (t : Refusal) → r ≡ Err t → SheetRead b ts vs ts' vs' (Err t)
       sheet-refused t f = record {
         answer = ap (λ (x : Told). sheet_answered x b) (sym (told_is ∙ ap checked_told f));
         tags = et;

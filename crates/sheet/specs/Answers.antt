@@ -10,8 +10,8 @@ use Rattle.definitions.specs.Grammar.{sheet}
 use Rattle.definitions.specs.Types.{first_cycle}
 use Rattle.definitions.specs.Answer.{Input, answered, input}
 use Rattle.parts.specs.Answers.{sizes_of, tags_after, values_after}
-use Rattle.sheet.specs.declared.SheetAnswer.{SheetAnswer}
-use Rattle.sheet.specs.declared.Checked.{Checked}
+use Rattle.std.specs.Prelude.{Result, Ok, Err}
+use Rattle.parts.specs.declared.Sizes.{Sizes}
 
 -- refusals 5 to 7, of so many names and these tokens: that part of `input`
 unfoldable pub tokens_answer : ℕ → List TagValue → Answer Sheet
@@ -21,18 +21,14 @@ tokens_answer names ts =
     accepted s
 
 -- the refusal that the code's answers tell, where they do
-abbrev pub checked_told : Checked → Told
-checked_told Checked.Fine = fine
-checked_told (Checked.Refused r) = down r
-
-abbrev pub sheet_told : SheetAnswer → Told
-sheet_told (SheetAnswer.Sheet s) = fine
-sheet_told (SheetAnswer.Refused r) = down r
+abbrev pub checked_told : {A : Type 0} → Result A Refusal → Told
+checked_told (Ok s) = fine
+checked_told (Err r) = down r
 
 -- the code's answer: the sizes, or the refusal
-abbrev pub sheet_answered : Told → List ℕ → SheetAnswer
-sheet_answered fine bytes = SheetAnswer.Sheet (sizes_of bytes)
-sheet_answered (down r) bytes = SheetAnswer.Refused r
+abbrev pub sheet_answered : Told → List ℕ → Result Sizes Refusal
+sheet_answered fine bytes = Ok (sizes_of bytes)
+sheet_answered (down r) bytes = Err r
 
 -- the sheet that the definition reads stands at the front of the working arrays
 pub record Stands (bytes ts vs : List ℕ) (r : Input) : Type 0 where
@@ -48,7 +44,7 @@ pub record Stands (bytes ts vs : List ℕ) (r : Input) : Type 0 where
 
 -- what `read` answers and leaves, for any bytes; ts and vs are the working arrays before, ts' and vs' afterwards:
 -- refusals 1 to 4 leave them unchanged; else the sheet's tags and values are written over their front
-pub record SheetRead (bytes ts vs ts' vs' : List ℕ) (r : SheetAnswer) : Type 0 where
+pub record SheetRead (bytes ts vs ts' vs' : List ℕ) (r : Result Sizes Refusal) : Type 0 where
   pub answer : r ≡ sheet_answered (told (input bytes)) bytes
   pub tags : ts' ≡ tags_after (parts bytes) bytes ts
   pub values : vs' ≡ values_after (parts bytes) bytes vs

@@ -2,15 +2,13 @@
 use Prim.Native.Nat.{ℕ, zero, suc, ◌+◌, ◌*◌, ◌-◌, ◌/◌, ◌%◌, ◌^◌, ◌≤◌, ◌<◌}
 use mathlib.Core.Path.{◌≡◌, refl, sym, ap, ◌∙◌}
 use mathlib.Core.Bool.{Bool, true, false}
-use mathlib.Core.List.{List, [], ◌∷◌, ◌++◌, append_assoc}
+use mathlib.Core.List.{[], ◌∷◌, ◌++◌, append_assoc}
 use native.Mathlib.Nat.{pow-suc}
 use native.Mathlib.Omega.{arith}
 use lib.Dec.{ltb}
 use lib.ListN.{length}
 use borrow.Author.Tests.{ltb-true, ltb-false, lt-ltb, le-ltb}
 use Rattle.definitions.specs.Lists.{Letters, digits, decimal}
-use Rattle.spelling.specs.Writing.{Put, farthest}
-use Rattle.spelling.proofs.Writing.{put_then}
 
 -- one digit, or more
 split : (n : ℕ) (G : Type 0) → (n < 10 → G) → (10 ≤ n → G) → G
@@ -95,11 +93,3 @@ digits-length (suc k) n a =
 pub decimal-length : (n : ℕ) → length (decimal n) ≤ 20
 unfolding decimal
 decimal-length n = omega (arith, digits-length 20 n [])
-
--- a decimal put digit by digit
-pub put-short : (n : ℕ) {p q : ℕ} {s s₁ : List ℕ} → n < 10 → Put ((48 + n % 10) ∷ []) p s q s₁ → Put (decimal n) p s q s₁
-put-short n h u = rw (decimal-short n h) u
-
-pub put-long : (n : ℕ) {p q r : ℕ} {s s₁ s₂ : List ℕ} → 10 ≤ n → n < 2 ^ 64 → length s ≤ farthest → Put (decimal (n / 10)) p s q s₁
-    → Put ((48 + n % 10) ∷ []) q s₁ r s₂ → Put (decimal n) p s r s₂
-put-long n h b k u v = rw (decimal-long n h b) (put_then k u v)

@@ -1,22 +1,25 @@
 -- Laws on where names stand.
 use Prim.Native.Nat.{ℕ, zero, suc, ◌+◌, ◌-◌, ◌≤◌, ◌<◌}
 use mathlib.Core.Path.{◌≡◌, refl, sym, ap, ◌∙◌}
-use mathlib.Core.Bool.{Bool, true, false, ◌&&◌, ◌||◌}
+use mathlib.Core.Bool.{Bool, true, false, ◌&&◌}
 use mathlib.Core.List.{List, [], ◌∷◌, map}
-use native.Mathlib.Nat.{zero-add, add-zero}
+use native.Mathlib.Nat.{add-zero}
 use native.Mathlib.Numerals.{add-one}
 use native.Mathlib.Omega.{arith}
-use lib.Dec.{leb, ltb}
+use lib.Dec.{eqb, leb, ltb}
 use lib.ListN.{length, get_or, take, drop, set, drop_of_length-le, get_or-eq_default}
 use lib.Seq.{drop-cons, drop-drop, take-suc, take_all, length-take-le}
 use borrow.Author.Tests.{le-leb, lt-leb, ltb-true, ltb-false}
+use Rattle.std.proofs.Common.{nat_eq}
+use Rattle.std.specs.Cmp.Lexicographic.{pointwise}
+use Rattle.std.specs.List.{list_any}
 use Rattle.definitions.specs.Lists.{choose, any, place_by, sum, Letters, same_letters}
 use Rattle.definitions.specs.Bytes.{cut}
 use Rattle.spelling.specs.Writing.{over_at}
 use Rattle.spelling.proofs.Writing.{over_nothing, over-then, over-set}
 use Rattle.parts.specs.Places.{start, name_at}
 use Rattle.parts.proofs.NamesLaws.{start-next, start-sum, end-within, part-name}
-use Rattle.spelling.specs.Places.{starts_from, between, letters_at, NameSpans}
+use Rattle.spelling.specs.Places.{starts_from, between, letters_at}
 
 -- ---- starts
 pub starts-length : (k : ℕ) (lens : List ℕ) → length (starts_from k lens) ≡ length lens + 1
@@ -89,14 +92,14 @@ module _ (starts letters : List ℕ) (x a b : ℕ) (p : a ≡ get_or starts x 0)
   unfolding letters_at
   at_words = rw (p, q)
 
-  pub span-fit : a ≤ b → b ≤ length letters → NameSpans letters (record { from = a; to = b }) (letters_at starts letters x)
-  span-fit h k = record { order = h; end = k; part = between-fit letters a b h k ∙ at_words }
+  pub span-fit : a ≤ b → b ≤ length letters → take (b - a) (drop a letters) ≡ letters_at starts letters x
+  span-fit h k = between-fit letters a b h k ∙ at_words
 
-  pub span-down : b < a → NameSpans letters (record { from = 0; to = 0 }) (letters_at starts letters x)
-  span-down h = record { order = omega arith; end = omega arith; part = between-down letters a b h ∙ at_words }
+  pub span-down : b < a → [] ≡ letters_at starts letters x
+  span-down h = between-down letters a b h ∙ at_words
 
-  pub span-long : a ≤ b → length letters < b → NameSpans letters (record { from = 0; to = 0 }) (letters_at starts letters x)
-  span-long h k = record { order = omega arith; end = omega arith; part = between-long letters a b h k ∙ at_words }
+  pub span-long : a ≤ b → length letters < b → [] ≡ letters_at starts letters x
+  span-long h k = between-long letters a b h k ∙ at_words
 
 -- ---- names cut out of letters
 name-tail : (n : ℕ) (ns letters : List ℕ) (i : ℕ) → name_at ns (drop n letters) i ≡ name_at (n ∷ ns) letters (suc i)
@@ -138,42 +141,46 @@ letters-name lens letters x h = go (ltb x (length lens)) refl
         between_none letters (get_or (starts_from 0 lens) x 0) (get_or (starts_from 0 lens) (x + 1) 0) b ∙ sym (get_or-eq_default (cut lens letters) [] (omega (arith, cut-length lens letters)))
 
 -- ---- ids
-module _ (starts letters : List ℕ) (f : Letters → Bool) (ids : List ℕ) (i : ℕ) where
-  among-at : i < length ids → any f (map (letters_at starts letters) (drop i ids)) ≡ (f (letters_at starts letters (get_or ids i 0)) || any f (map (letters_at starts letters) (drop (i + 1) ids)))
-  among-at h = rw (add-one i, drop-cons ids i 0 h)
+-- letters compared one by one are the same where the test says it
+pub same-pointwise : (x y : Letters) → pointwise nat_eq x y ≡ same_letters x y
+same-pointwise [] [] = refl
+same-pointwise [] (b ∷ y) = refl
+same-pointwise (a ∷ x) [] = refl
+same-pointwise (a ∷ x) (b ∷ y) = go (eqb a b) (same-pointwise x y)
+  where
+    go : (t : Bool) → pointwise nat_eq x y ≡ same_letters x y → (t && pointwise nat_eq x y) ≡ elim t [ true ↦ same_letters x y | false ↦ false ]
+    go true e = e
+    go false e = refl
 
-  pub among-yes : i < length ids → f (letters_at starts letters (get_or ids i 0)) ≡ true → any f (map (letters_at starts letters) (drop i ids)) ≡ true
-  among-yes h e = rw (among-at h, e)
+-- letters are a name of an id where one of the ids passes
+pub among-any : (x : Letters) (f : ℕ → Letters) (ids : List ℕ) → list_any (λ i. pointwise nat_eq x (f i)) ids ≡ any (same_letters x) (map f ids)
+among-any x f [] = refl
+among-any x f (i ∷ ids) = rw (same-pointwise x (f i), among-any x f ids) refl
 
-  pub among_next : i < length ids → f (letters_at starts letters (get_or ids i 0)) ≡ false → any f (map (letters_at starts letters) (drop i ids)) ≡ any f (map (letters_at starts letters) (drop (i + 1) ids))
-  among_next h e = rw (among-at h, e)
+-- a name looked for among those cut out of letters, of which the first i are passed
+module _ (lens letters : List ℕ) (x : Letters) where
+  -- the place of the name among those from i on, whose letters are the rest
+  abbrev pub place_from : ℕ → List ℕ → ℕ
+  place_from i rest = i + place_by (same_letters x) (cut (drop i lens) rest)
 
-  pub among-end : length ids ≤ i → any f (map (letters_at starts letters) (drop i ids)) ≡ false
-  among-end h = rw (drop_of_length-le ids h)
+  module _ (i : ℕ) (rest : List ℕ) where
+    first-cut : i < length lens → cut (drop i lens) rest ≡ take (get_or lens i 0) rest ∷ cut (drop (i + 1) lens) (drop (get_or lens i 0) rest)
+    unfolding cut
+    first-cut h = rw (add-one i, drop-cons lens i 0 h) refl
 
--- the place of a name among those from i on
-module _ (lens letters : List ℕ) (f : Letters → Bool) (i : ℕ) where
-  unfoldable pub place_from : ℕ
-  unfolding cut start
-  place_from = i + place_by f (cut (drop i lens) (drop (start lens i) letters))
+    pub sum-next : i < length lens → sum (drop i lens) ≡ get_or lens i 0 + sum (drop (i + 1) lens)
+    sum-next h = rw (add-one i, drop-cons lens i 0 h) refl
 
-  pub place_here : i < length lens → f (name_at lens letters i) ≡ true → place_from ≡ i
-  unfolding place_from
-  place_here h e = rw (cut_at lens letters i h, e) (add-zero i)
+    pub place-here : {r : Bool} → i < length lens → r ≡ pointwise nat_eq x (take (get_or lens i 0) rest) → r ≡ true → place_from i rest ≡ i
+    place-here h e f =
+        let t : same_letters x (take (get_or lens i 0) rest) ≡ true = sym (same-pointwise x (take (get_or lens i 0) rest)) ∙ sym e ∙ f in
+        rw (first-cut h, t) (add-zero i)
 
-  pub place_end : length lens ≤ i → place_from ≡ i
-  unfolding place_from cut
-  place_end h = rw (drop_of_length-le lens h) (add-zero i)
+    pub place-next : {r : Bool} → i < length lens → r ≡ pointwise nat_eq x (take (get_or lens i 0) rest) → r ≡ false → place_from i rest ≡ place_from (i + 1) (drop (get_or lens i 0) rest)
+    place-next h e f =
+        let t : same_letters x (take (get_or lens i 0) rest) ≡ false = sym (same-pointwise x (take (get_or lens i 0) rest)) ∙ sym e ∙ f in
+        rw (first-cut h, t) (omega arith)
 
-module _ (lens letters : List ℕ) (f : Letters → Bool) where
-  pub place-next : (i : ℕ) → i < length lens → f (name_at lens letters i) ≡ false → place_from lens letters f i ≡ place_from lens letters f (i + 1)
-  unfolding place_from
-  place-next i h e = rw (cut_at lens letters i h, e) (omega arith)
-
-  pub place-start : place_by f (cut lens letters) ≡ place_from lens letters f 0
-  unfolding place_from start
-  place-start = sym (zero-add (place_by f (cut lens letters)))
-
--- a test of letters that are a name is a test of the name
-pub same-part : (x p : Letters) {name : Letters} {r : Bool} → p ≡ name → r ≡ same_letters x p → same_letters x name ≡ r
-same-part x p e f = ap (λ n. same_letters x n) (sym e) ∙ sym f
+    pub place-end : length lens ≤ i → place_from i rest ≡ i
+    unfolding cut
+    place-end h = rw (drop_of_length-le lens h) (add-zero i)

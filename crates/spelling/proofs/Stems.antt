@@ -8,6 +8,8 @@ use lib.ListN.{length, length-append}
 use Rattle.definitions.specs.Lists.{bytes, decimal}
 use Rattle.definitions.specs.Declock.{Stem, ck, first, hold}
 use Rattle.definitions.specs.Output.{stem_letters}
+use Rattle.spelling.specs.declared.NewName.{NewName}
+use Rattle.spelling.specs.Stems.{stem_of, new_letters}
 use Rattle.spelling.proofs.Decimal.{decimal-length, decimal-same}
 
 stem-length : (s : Stem) → length (stem_letters s) ≤ 7
@@ -17,8 +19,10 @@ stem-length first = lit≤ tt
 stem-length hold = lit≤ tt
 
 -- a new name is not too long for a name's buffer
-pub new-length : (s : Stem) (n : ℕ) → length (stem_letters s ++ decimal n) ≤ 32
-new-length s n = simp length-append (omega (arith, stem-length s, decimal-length n))
+pub new-length : (name : NewName) → length (new_letters name) ≤ 32
+unfolding bytes
+new-length (NewName.Numbered stem n) = simp length-append (omega (arith, stem-length (stem_of stem), decimal-length n))
+new-length NewName.Condact = lit≤ tt
 
 -- a new name has letters
 pub new-some : (s : Stem) (n : ℕ) → 0 < length (stem_letters s ++ decimal n)

@@ -3,21 +3,22 @@ use Prim.Native.Nat.{ℕ, suc, ◌+◌, ◌-◌, ◌≤◌, ◌<◌}
 use mathlib.Core.Path.{◌≡◌, refl, sym, ap, ◌∙◌}
 use mathlib.Core.Bool.{Bool, true, false, ◌&&◌, ◌||◌, not}
 use mathlib.Core.List.{List, [], ◌∷◌, ◌++◌, map}
+use mathlib.Core.Logic.{◌⊎◌, inl, inr}
 use native.Mathlib.Nat.{zero-add}
 use native.Mathlib.Numerals.{add-one}
 use native.Mathlib.Omega.{arith}
 use lib.Dec.{leb}
-use lib.ListN.{length, take, drop, set, length-append, length-set, length-drop, take-append-drop}
+use lib.ListN.{length, take, drop, set, length-append, length-drop, take-append-drop}
 use lib.Seq.{take-length, take-suc-set, length-take-le, take-append-le, drop-append-le}
 use borrow.Author.Tests.{le-leb, leb-true}
 use Rattle.definitions.specs.Lists.{choose, any, place_by, sum, join, bytes, Letters, same_letters}
-use Rattle.definitions.specs.Bytes.{cut, most_names, most_letters}
+use Rattle.definitions.specs.Bytes.{cut}
 use Rattle.definitions.specs.Tree.{Sheet}
 use Rattle.definitions.specs.Output.{id_of, condact_id, add_name, add_names, within_limits, sheet_tokens, most_tokens_out}
-use Rattle.spelling.specs.Writing.{farthest, Put}
-use Rattle.spelling.proofs.Writing.{over-take, put-length, put_front, put-measure}
-use Rattle.spelling.specs.Table.{names_of, within, Sound, NamesHeld}
-use Rattle.spelling.specs.declared.Counts.{Counts}
+use Rattle.spelling.specs.Table.{names_of, within, NamesHeld}
+use Rattle.spelling.specs.declared.name_table.NameTable.{NameTable}
+use Rattle.spelling.specs.Writing.{over_at}
+use Rattle.spelling.proofs.Writing.{over-take}
 use Rattle.spelling.proofs.Places.{cut-length}
 
 -- ---- lists
@@ -85,162 +86,161 @@ cut-lengths (n ∷ ns) letters e =
     let g : length (take n letters) ≡ n = length-take-le n letters (omega arith) in
     rw g (ap (λ l. n ∷ l) (cut-lengths ns (drop n letters) f))
 
--- ---- what a table holds
-module _ {lens letters : List ℕ} {c : Counts} (s : Sound lens letters c) where
-  -- the letters in use are as many as the lengths say
-  pub used : sum (take c.names lens) ≡ length (take c.letters letters)
-  used = s.summed ∙ sym (length-take-le c.letters letters s.short)
-
-  pub used-within : sum (take c.names lens) ≤ length (take c.letters letters)
-  used-within = omega (arith, used)
-
-  pub used-names : c.names ≡ length (take c.names lens)
-  used-names = sym (length-take-le c.names lens s.few)
-
-  pub used-letters : c.letters ≡ length (take c.letters letters)
-  used-letters = sym (length-take-le c.letters letters s.short)
-
-  names-count : length (names_of lens letters c) ≡ c.names
-  unfolding names_of
-  names-count = cut-length (take c.names lens) (take c.letters letters) ∙ length-take-le c.names lens s.few
-
-  names-letters : length (join (names_of lens letters c)) ≡ c.letters
-  unfolding names_of
-  names-letters = ap length (cut-join (take c.names lens) (take c.letters letters) used) ∙ length-take-le c.letters letters s.short
-
-within-not : (lens letters : List ℕ) (names : List Letters) → (length names ≤ length lens → length (join names) ≤ length letters → ⊥) → within lens letters names ≡ false
-within-not lens letters names h = go (leb (length names) (length lens)) (leb (length (join names)) (length letters)) refl refl
+-- ---- names that have no places
+within-not : (many long : ℕ) (names : List Letters) → (length names ≤ many → length (join names) ≤ long → ⊥) → within many long names ≡ false
+within-not many long names h = go (leb (length names) many) (leb (length (join names)) long) refl refl
   where
-    go : (t u : Bool) → leb (length names) (length lens) ≡ t → leb (length (join names)) (length letters) ≡ u → (t && u) ≡ false
+    go : (t u : Bool) → leb (length names) many ≡ t → leb (length (join names)) long ≡ u → (t && u) ≡ false
     go false u e f = refl
     go true false e f = refl
-    go true true e f = absurd (h (leb-true (length names) (length lens) e) (leb-true (length (join names)) (length letters) f))
+    go true true e f = absurd (h (leb-true (length names) many e) (leb-true (length (join names)) long f))
 
 -- names that have no places have none with one more
-within_more : (lens letters : List ℕ) (names : List Letters) (name : Letters) → within lens letters names ≡ false → within lens letters (names ++ (name ∷ [])) ≡ false
-within_more lens letters names name e =
-    within-not lens letters (names ++ (name ∷ []))
+within_more : (many long : ℕ) (names : List Letters) (name : Letters) → within many long names ≡ false → within many long (names ++ (name ∷ [])) ≡ false
+within_more many long names name e =
+    within-not many long (names ++ (name ∷ []))
     (λ h k.
-    let a : length names ≤ length lens = omega (arith, length-append names (name ∷ [])) in
-    let b : length (join names) ≤ length letters = omega (arith, join_last names name) in
-    let f : within lens letters names ≡ true = rw (le-leb (length names) (length lens) a, le-leb (length (join names)) (length letters) b) in
+    let a : length names ≤ many = omega (arith, length-append names (name ∷ [])) in
+    let b : length (join names) ≤ long = omega (arith, join_last names name) in
+    let f : within many long names ≡ true = rw (le-leb (length names) many a, le-leb (length (join names)) long b) in
     let z : ◌≡◌ {A = ℕ} 0 1 = cc in
     omega arith)
 
--- ---- a name is added
-module _ {lens letters : List ℕ} {c : Counts} (s : Sound lens letters c) (names : List Letters) (name : Letters) (e : names ≡ names_of lens letters c) where
-  pub added : {q : ℕ} {after : List ℕ} → c.names < length lens → length name ≤ length letters - c.letters → Put name c.letters letters q after
-      → NamesHeld (set lens c.names (length name)) after (record { names = c.names + 1; letters = c.letters + length name; full = false }) (names ++ (name ∷ []))
-  unfolding names_of
-  added {q} {after} h k u =
-      let f : take (c.names + 1) (set lens c.names (length name)) ≡ take c.names lens ++ (length name ∷ []) = rw (add-one c.names) (take-suc-set lens c.names (length name) h) in
-      let g : c.letters + length name ≤ length letters = omega (arith, s.short) in
-      let l : take (c.letters + length name) after ≡ take c.letters letters ++ name = ap (λ x. take (c.letters + length name) x) u.bytes ∙ over-take c.letters name letters g in
-      record {
-        sound =
+-- a text at the front is read there
+pub over-taken : {A : Type 0} (l s : List A) → length l ≤ length s → take (length l) (over_at 0 l s) ≡ l
+over-taken l s h = let e : 0 + length l ≡ length l = omega arith in rw e at (over-take 0 l s (omega arith))
+
+module _ {many long : ℕ} where
+  -- ---- what a table holds
+  module _ (t : NameTable many long) where
+    names-within : t.names ≤ length t.lengths
+    names-within = omega (arith, t.few, t.sized.0)
+
+    letters-within : t.used ≤ length t.letters
+    letters-within = omega (arith, t.short, t.sized.1)
+
+    -- the letters in use are as many as the lengths say
+    pub used : sum (take t.names t.lengths) ≡ length (take t.used t.letters)
+    used = t.summed ∙ sym (length-take-le t.used t.letters letters-within)
+
+    pub used-within : sum (take t.names t.lengths) ≤ length (take t.used t.letters)
+    used-within = omega (arith, used)
+
+    pub names-count : length (names_of t) ≡ t.names
+    unfolding names_of
+    names-count = cut-length (take t.names t.lengths) (take t.used t.letters) ∙ length-take-le t.names t.lengths names-within
+
+    pub names-letters : length (join (names_of t)) ≡ t.used
+    unfolding names_of
+    names-letters = ap length (cut-join (take t.names t.lengths) (take t.used t.letters) used) ∙ length-take-le t.used t.letters letters-within
+
+  -- ---- a name is added
+  -- the lengths say as many letters with one name more
+  pub added-sum : (t : NameTable many long) (n : ℕ) → t.names < many → sum (take (t.names + 1) (set t.lengths t.names n)) ≡ t.used + n
+  added-sum t n h =
+      let f : take (t.names + 1) (set t.lengths t.names n) ≡ take t.names t.lengths ++ (n ∷ []) = rw (add-one t.names) (take-suc-set t.lengths t.names n (omega (arith, h, t.sized.0))) in
+      ap sum f ∙ sum-append (take t.names t.lengths) (n ∷ []) ∙ omega (arith, t.summed)
+
+  module _ (t t₁ : NameTable many long) (names : List Letters) (name : Letters) (e : names ≡ names_of t) where
+    pub added : t.names < many → length name ≤ long - t.used → t₁.names ≡ t.names + 1 → t₁.used ≡ t.used + length name → t₁.full ≡ false
+        → t₁.lengths ≡ set t.lengths t.names (length name) → t₁.letters ≡ over_at t.used name t.letters → NamesHeld t₁ (names ++ (name ∷ []))
+    unfolding names_of
+    added h k a b c d l =
+        let f : take t₁.names t₁.lengths ≡ take t.names t.lengths ++ (length name ∷ []) = rw (a, d, add-one t.names) (take-suc-set t.lengths t.names (length name) (omega (arith, h, t.sized.0))) in
+        let g : take t₁.used t₁.letters ≡ take t.used t.letters ++ name = rw (b, l) (over-take t.used name t.letters (omega (arith, k, t.short, t.sized.1))) in
+        record {
+          kept = λ _. ap (λ x. x ++ (name ∷ [])) e ∙ sym (cut-last (take t.names t.lengths) (take t.used t.letters) name (used t)) ∙ rw (f, g);
+          past = λ z. absurd (let y : ◌≡◌ {A = ℕ} 0 1 = cc in omega arith);
+        }
+
+    -- there is no place for it
+    pub not-added : (long - t.used < length name) ⊎ (many ≤ t.names) → t₁.full ≡ true → NamesHeld t₁ (names ++ (name ∷ []))
+    not-added h f =
+        record {
+          kept = λ z. absurd (let y : ◌≡◌ {A = ℕ} 0 1 = cc in omega arith);
+          past = λ _. within-not many long (names ++ (name ∷ [])) (no h);
+        }
+      where
+        no : (long - t.used < length name) ⊎ (many ≤ t.names) → length (names ++ (name ∷ [])) ≤ many → length (join (names ++ (name ∷ []))) ≤ long → ⊥
+        no (inl x) a b = omega (arith, x, b, join_last names name, ap (λ l. length (join l)) e, names-letters t)
+        no (inr x) a b = omega (arith, x, a, length-append names (name ∷ []), ap length e, names-count t)
+
+  -- is a name among those in use? its id says it
+  module _ (t : NameTable many long) (name : Letters) {r : ℕ} (f : r ≡ id_of (names_of t) name) where
+    present : r < t.names → any (same_letters name) (names_of t) ≡ true
+    present h = place_in (same_letters name) (names_of t) (omega (arith, names-count t))
+
+    absent : t.names ≤ r → any (same_letters name) (names_of t) ≡ false
+    absent h = place_out (same_letters name) (names_of t) (omega (arith, names-count t))
+
+  module _ (name : Letters) {t : NameTable many long} (names : List Letters) (h : NamesHeld t names) where
+    -- a full table stays as it is
+    pub stays-full : t.full ≡ true → NamesHeld t (add_name names name)
+    stays-full e = go (any (same_letters name) names)
+      where
+        go : (b : Bool) → NamesHeld t (choose b names (names ++ (name ∷ [])))
+        go true = h
+        go false =
             record {
-              few = simp length-set (omega arith);
-              short = omega (arith, put-length u);
-              summed = ap sum f ∙ sum-append (take c.names lens) (length name ∷ []) ∙ omega (arith, s.summed);
-              reached = omega (arith, put-length u, s.reached);
-            };
-        kept = λ _. ap (λ x. x ++ (name ∷ [])) e ∙ sym (cut-last (take c.names lens) (take c.letters letters) name (used s)) ∙ rw (f, l);
+              kept = λ z. absurd (let y : ◌≡◌ {A = ℕ} 0 1 = cc in omega arith);
+              past = λ _. within_more many long names name (h.past e);
+            }
+
+    -- a name present is not added
+    pub stays-there : {r : ℕ} → t.full ≡ false → r ≡ id_of (names_of t) name → r < t.names → NamesHeld t (add_name names name)
+    stays-there e f k =
+        let g : any (same_letters name) names ≡ true = ap (λ l. any (same_letters name) l) (h.kept e) ∙ present t name f k in
+        rw g h
+
+    -- any other is put behind
+    pub goes_on : {r : ℕ} {t₁ : NameTable many long} → t.full ≡ false → r ≡ id_of (names_of t) name → t.names ≤ r
+        → ((ns : List Letters) → ns ≡ names_of t → NamesHeld t₁ (ns ++ (name ∷ []))) → NamesHeld t₁ (add_name names name)
+    goes_on e f k m =
+        let g : any (same_letters name) names ≡ false = ap (λ l. any (same_letters name) l) (h.kept e) ∙ absent t name f k in
+        rw g (m names (h.kept e))
+
+  -- ---- a table of given names
+  pub filled : (t₁ : NameTable many long) (given text lens letters : List ℕ) → t₁.names ≡ length given → t₁.used ≡ length text → t₁.full ≡ false
+      → t₁.lengths ≡ over_at 0 given lens → t₁.letters ≡ over_at 0 text letters → length given ≤ length lens → length text ≤ length letters → NamesHeld t₁ (cut given text)
+  unfolding names_of
+  filled t₁ given text lens letters c d e l m h k =
+      let f : take t₁.names t₁.lengths ≡ given = rw (c, l) (over-taken given lens h) in
+      let g : take t₁.used t₁.letters ≡ text = rw (d, m) (over-taken text letters k) in
+      record {
+        kept = λ _. sym (rw (f, g));
         past = λ z. absurd (let y : ◌≡◌ {A = ℕ} 0 1 = cc in omega arith);
       }
 
-  no_place : within lens letters (names ++ (name ∷ [])) ≡ false → NamesHeld lens letters (record { names = c.names; letters = c.letters; full = true }) (names ++ (name ∷ []))
-  no_place f =
-      record {
-        sound = record { few = s.few; short = s.short; summed = s.summed; reached = s.reached };
-        kept = λ z. absurd (let y : ◌≡◌ {A = ℕ} 0 1 = cc in omega arith);
-        past = λ _. f;
-      }
+  -- ---- what a table that is not full says of the names
+  module _ {t : NameTable many long} {names : List Letters} (h : NamesHeld t names) (e : t.full ≡ false) where
+    pub holds-letters : join names ≡ take t.used t.letters
+    unfolding names_of
+    holds-letters = ap join (h.kept e) ∙ cut-join (take t.names t.lengths) (take t.used t.letters) (used t)
 
-  pub no-letters : length letters - c.letters < length name → NamesHeld lens letters (record { names = c.names; letters = c.letters; full = true }) (names ++ (name ∷ []))
-  no-letters h = no_place (within-not lens letters (names ++ (name ∷ [])) (λ a b. omega (arith, join_last names name, ap (λ l. length (join l)) e, names-letters s)))
+    pub holds-count : length names ≡ t.names
+    holds-count = ap length (h.kept e) ∙ names-count t
 
-  pub no_name : length lens ≤ c.names → NamesHeld lens letters (record { names = c.names; letters = c.letters; full = true }) (names ++ (name ∷ []))
-  no_name h = no_place (within-not lens letters (names ++ (name ∷ [])) (λ a b. omega (arith, length-append names (name ∷ []), ap length e, names-count s)))
+    pub holds-size : length (join names) ≡ t.used
+    holds-size = ap (λ l. length (join l)) (h.kept e) ∙ names-letters t
 
--- is a name among those in use? `find_name` says it
-module _ {lens letters : List ℕ} {c : Counts} (s : Sound lens letters c) (name : Letters) {r : ℕ} (f : r ≡ id_of (names_of lens letters c) name) where
-  present : r < c.names → any (same_letters name) (names_of lens letters c) ≡ true
-  present h = place_in (same_letters name) (names_of lens letters c) (omega (arith, names-count s))
-
-  absent : c.names ≤ r → any (same_letters name) (names_of lens letters c) ≡ false
-  absent h = place_out (same_letters name) (names_of lens letters c) (omega (arith, names-count s))
-
-module _ (name : Letters) {lens letters : List ℕ} {c : Counts} (names : List Letters) (h : NamesHeld lens letters c names) where
-  -- a full table stays as it is
-  pub stays-full : c.full ≡ true → NamesHeld lens letters c (add_name names name)
-  stays-full e = go (any (same_letters name) names)
+  -- a table is full exactly where its names have no places
+  pub holds-within : {t : NameTable many long} {names : List Letters} → NamesHeld t names → within many long names ≡ not t.full
+  holds-within {t} {names} h = go t.full refl
     where
-      go : (t : Bool) → NamesHeld lens letters c (choose t names (names ++ (name ∷ [])))
-      go true = h
-      go false =
-          record {
-            sound = h.sound;
-            kept = λ z. absurd (let y : ◌≡◌ {A = ℕ} 0 1 = cc in omega arith);
-            past = λ _. within_more lens letters names name (h.past e);
-          }
-
-  -- a name present is not added
-  pub stays-there : {r : ℕ} → c.full ≡ false → r ≡ id_of (names_of lens letters c) name → r < c.names → NamesHeld lens letters c (add_name names name)
-  stays-there e f k =
-      let g : any (same_letters name) names ≡ true = ap (λ l. any (same_letters name) l) (h.kept e) ∙ present h.sound name f k in
-      rw g h
-
-  -- any other is put behind
-  pub goes_on : {r : ℕ} {lens₁ letters₁ : List ℕ} {c₁ : Counts} → c.full ≡ false → r ≡ id_of (names_of lens letters c) name → c.names ≤ r
-      → ((ns : List Letters) → ns ≡ names_of lens letters c → NamesHeld lens₁ letters₁ c₁ (ns ++ (name ∷ []))) → NamesHeld lens₁ letters₁ c₁ (add_name names name)
-  goes_on e f k m =
-      let g : any (same_letters name) names ≡ false = ap (λ l. any (same_letters name) l) (h.kept e) ∙ absent h.sound name f k in
-      rw g (m names (h.kept e))
-
--- ---- a table of given names
-pub copied : {given text lens lens₁ letters letters₁ : List ℕ} {p q : ℕ} → sum given ≡ length text → length given ≤ length lens → length text ≤ length letters
-    → length lens ≤ farthest → length letters ≤ farthest → Put given 0 lens p lens₁ → Put text 0 letters q letters₁
-    → NamesHeld lens₁ letters₁ (record { names = length given; letters = length text; full = false }) (cut given text)
-unfolding names_of
-copied {given} {text} {lens} {lens₁} {letters} {letters₁} e a b c d u v =
-    let f : take (length given) lens₁ ≡ given = rw (put-measure (omega arith) u) at (put_front a c u) in
-    let g : take (length text) letters₁ ≡ text = rw (put-measure (omega arith) v) at (put_front b d v) in
-    record {
-      sound = record { few = omega (arith, put-length u); short = omega (arith, put-length v); summed = ap sum f ∙ e; reached = omega (arith, put-length v) };
-      kept = λ _. sym (rw (f, g));
-      past = λ z. absurd (let y : ◌≡◌ {A = ℕ} 0 1 = cc in omega arith);
-    }
-
--- ---- what a table that is not full says of the names
-module _ {lens letters : List ℕ} {c : Counts} {names : List Letters} (h : NamesHeld lens letters c names) (e : c.full ≡ false) where
-  pub holds-letters : join names ≡ take c.letters letters
-  unfolding names_of
-  holds-letters = ap join (h.kept e) ∙ cut-join (take c.names lens) (take c.letters letters) (used h.sound)
-
-  pub holds-count : length names ≡ c.names
-  holds-count = ap length (h.kept e) ∙ names-count h.sound
-
-  pub holds-size : length (join names) ≡ c.letters
-  holds-size = ap (λ l. length (join l)) (h.kept e) ∙ names-letters h.sound
-
--- a table is full exactly where its names have no places
-pub holds-within : {lens letters : List ℕ} {c : Counts} {names : List Letters} → NamesHeld lens letters c names → within lens letters names ≡ not c.full
-holds-within {lens} {letters} {c} {names} h = go c.full refl
-  where
-    go : (t : Bool) → c.full ≡ t → within lens letters names ≡ not t
-    go true e = h.past e
-    go false e =
-        let a : length names ≤ length lens = omega (arith, holds-count h e, h.sound.few) in
-        let b : length (join names) ≤ length letters = omega (arith, holds-size h e, h.sound.short) in
-        rw (le-leb (length names) (length lens) a, le-leb (length (join names)) (length letters) b)
+      go : (b : Bool) → t.full ≡ b → within many long names ≡ not b
+      go true e = h.past e
+      go false e =
+          let a : length names ≤ many = omega (arith, holds-count h e, t.few) in
+          let b : length (join names) ≤ long = omega (arith, holds-size h e, t.short) in
+          rw (le-leb (length names) many a, le-leb (length (join names)) long b)
 
 -- names added one after another: the last one last
 pub add-last-name : (names ns : List Letters) (n : Letters) → add_names names (ns ++ (n ∷ [])) ≡ add_name (add_names names ns) n
 add-last-name names [] n = refl
 add-last-name names (m ∷ ns) n = add-last-name (add_name names m) ns n
 
--- arrays of the output's limits: refusal 11 is that the table is full, or that there are too many tokens
-pub holds-limits : {lens letters : List ℕ} {c : Counts} {names : List Letters} (s : Sheet) → length lens ≡ most_names → length letters ≡ most_letters → NamesHeld lens letters c names
-    → within_limits names s ≡ (not c.full && leb (length (sheet_tokens s)) most_tokens_out)
+-- the table's limits are the output's: refusal 11 is that the table is full, or that there are too many tokens
+pub holds-limits : {t : NameTable 1024 16384} {names : List Letters} (s : Sheet) → NamesHeld t names
+    → within_limits names s ≡ (not t.full && leb (length (sheet_tokens s)) most_tokens_out)
 unfolding within_limits
-holds-limits {lens} {letters} {c} {names} s e f h = ap (λ t. t && leb (length (sheet_tokens s)) most_tokens_out) (rw (e, f) at (holds-within h))
+holds-limits {t} {names} s h = ap (λ b. b && leb (length (sheet_tokens s)) most_tokens_out) (holds-within h)

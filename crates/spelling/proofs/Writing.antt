@@ -1,5 +1,5 @@
 -- Laws on what is put at a place.
-use Prim.Native.Nat.{ℕ, zero, suc, ◌+◌, ◌≤◌, ◌<◌, min}
+use Prim.Native.Nat.{ℕ, zero, suc, ◌+◌, ◌-◌, ◌≤◌, ◌<◌, min}
 use mathlib.Core.Path.{◌≡◌, refl, sym, ap, ◌∙◌}
 use mathlib.Core.List.{List, [], ◌∷◌, ◌++◌}
 use native.Mathlib.Nat.{zero-add, suc-add}
@@ -7,11 +7,12 @@ use native.Mathlib.Omega.{arith}
 use mathlib.Core.Bool.{Bool, true, false}
 use lib.Dec.{leb}
 use borrow.Author.Tests.{leb-true, leb-false}
-use native.Mathlib.Numerals.{add-one}
-use lib.Seq.{take-suc, take_all}
-use lib.ListN.{length, take, drop, get_or, set, length-append}
+use lib.Seq.{length-take-le}
+use lib.ListN.{length, take, drop, set, take-append-drop}
+use borrow.Rule.Slice.PartMut.{put_mid}
+use Rattle.std.proofs.lemmas.Slice.{take-put_mid, drop-put_mid}
 use Rattle.definitions.specs.Lists.{over, Letters}
-use Rattle.spelling.specs.Writing.{over_at, farthest, Put}
+use Rattle.spelling.specs.Writing.{over_at, farthest, last_place, Put}
 
 module _ {A : Type 0} where
   over_none : (s : List A) (l : List A) → length s ≡ 0 → over l s ≡ s
@@ -99,40 +100,48 @@ module _ {A : Type 0} where
   over-take (suc p) l [] h = absurd (omega arith)
   over-take (suc p) l (b ∷ s) h = rw (suc-add p (length l)) (ap (λ r. b ∷ r) (over-take p l s (omega arith)))
 
--- nothing was put
-pub put-none : {p q : ℕ} (s : List ℕ) → q ≡ min (p + 0) farthest → Put [] p s q s
-put-none {p} s e = record { place = e; bytes = sym (over_nothing p s) }
+  -- a text is put as far as the bytes reach
+  over-front-some : (n : ℕ) (l s : List A) → n ≡ min (length l) (length s) → over (take n l) s ≡ over l s
+  over-front-some zero [] s h = refl
+  over-front-some (suc n) [] s h = refl
+  over-front-some zero (a ∷ l) [] h = refl
+  over-front-some zero (a ∷ l) (b ∷ s) h = absurd (omega arith)
+  over-front-some (suc n) (a ∷ l) [] h = absurd (omega arith)
+  over-front-some (suc n) (a ∷ l) (b ∷ s) h = ap (λ r. a ∷ r) (over-front-some n l s (omega arith))
 
--- a place that is not counted further stands past the end
+  over-some : (p n : ℕ) (l s : List A) → p ≤ length s → n ≡ min (length l) (length s - p) → over_at p (take n l) s ≡ over_at p l s
+  unfolding over_at
+  over-some zero n l s k h = over-front-some n l s (omega arith)
+  over-some (suc p) n l [] k h = refl
+  over-some (suc p) n l (b ∷ s) k h = ap (λ r. b ∷ r) (over-some p n l s (omega arith) (omega arith))
+
+  same-parts : (n : ℕ) (x y : List A) → take n x ≡ take n y → drop n x ≡ drop n y → x ≡ y
+  same-parts n x y e f = sym (take-append-drop n x) ∙ rw (e, f) (take-append-drop n y)
+
+  -- the part that fits, copied
+  pub over-copied : (p n k : ℕ) (l s t : List A) → p ≤ length s → n ≡ min (length l) (length s - p) → k ≡ n → t ≡ take n l → put_mid p k s t ≡ over_at p l s
+  over-copied p n k l s t h e f g =
+      let u : length (take n l) ≡ n = length-take-le n l (omega arith) in
+      let v : length t ≡ n = ap length g ∙ u in
+      let a : take (p + n) (put_mid p k s t) ≡ take p s ++ take n l = take-put_mid p k s t (p + n) (omega arith) h ∙ ap (λ x. take p s ++ x) g in
+      let b : take (p + n) (over_at p (take n l) s) ≡ take p s ++ take n l = ap (λ i. take (p + i) (over_at p (take n l) s)) (sym u) ∙ over-take p (take n l) s (omega arith) in
+      let c : drop (p + n) (put_mid p k s t) ≡ drop (p + n) s = drop-put_mid p k s t (p + n) (omega arith) h (omega arith) in
+      same-parts (p + n) (put_mid p k s t) (over_at p (take n l) s) (a ∙ sym b) (c ∙ sym (over-behind (p + n) p (take n l) s (omega arith))) ∙ over-some p n l s h e
+
+-- a place that does not go on stands past the end
 module _ {A : Type 0} where
-  past : (q r : ℕ) (b s : List A) → length s ≤ farthest → q ≡ min r farthest → over_at q b s ≡ over_at r b s
-  past q r b s h e = go (leb r farthest) refl
+  pub past : (q r : ℕ) (b s : List A) → length s ≤ last_place → q ≡ min r last_place → over_at q b s ≡ over_at r b s
+  past q r b s h e = go (leb r last_place) refl
     where
-      go : (t : Bool) → leb r farthest ≡ t → over_at q b s ≡ over_at r b s
-      go true f = let g : q ≡ r = omega (arith, leb-true r farthest f) in ap (λ k. over_at k b s) g
+      go : (t : Bool) → leb r last_place ≡ t → over_at q b s ≡ over_at r b s
+      go true f = let g : q ≡ r = omega (arith, leb-true r last_place f) in ap (λ k. over_at k b s) g
       go false f =
-          let g : farthest < r = leb-false r farthest f in
+          let g : last_place < r = leb-false r last_place f in
           over-past q b s (omega arith) ∙ sym (over-past r b s (omega arith))
-
--- one text, then another
-pub put_then : {a b : Letters} {p q r : ℕ} {s s₁ s₂ : List ℕ} → length s ≤ farthest → Put a p s q s₁ → Put b q s₁ r s₂ → Put (a ++ b) p s r s₂
-put_then {a} {b} {p} {q} {r} {s} {s₁} h u v =
-    record {
-      place = simp length-append (omega (arith, u.place, v.place));
-      bytes = v.bytes ∙ ap (λ l. over_at q b l) u.bytes ∙ past q (p + length a) b (over_at p a s) (rw (length_over p a s) h) u.place ∙ over-then p a b s;
-    }
 
 -- how long the bytes are stays
 pub put-length : {l : Letters} {p q : ℕ} {s s₁ : List ℕ} → Put l p s q s₁ → length s₁ ≡ length s
 put-length {l} {p} {q} {s} u = ap length u.bytes ∙ length_over p l s
-
--- one byte more of a text, and its end
-module _ {p q : ℕ} {s s₁ : List ℕ} (l : Letters) (i : ℕ) (u : Put (take i l) p s q s₁) where
-  pub put_step : {r : ℕ} {s₂ : List ℕ} → length s ≤ farthest → i < length l → Put (get_or l i 0 ∷ []) q s₁ r s₂ → Put (take (i + 1) l) p s r s₂
-  put_step h k v = rw (add-one i, take-suc l i 0 k) (put_then h u v)
-
-  pub put-end : length l ≤ i → Put l p s q s₁
-  put-end h = rw (take_all i l h) at u
 
 -- a text put at the front is the front, as far as the bytes reach
 pub put-over : {l : Letters} {q : ℕ} {s s₁ : List ℕ} → Put l 0 s q s₁ → s₁ ≡ over l s
@@ -148,3 +157,7 @@ put_front {l} {q} {s} {s₁} h k u =
     let e : q ≡ 0 + length l = omega (arith, u.place) in
     let f : 0 + length l ≤ length s = omega arith in
     rw (e, u.bytes) (over-take 0 l s f)
+
+-- the place and the bytes by another name, as those behind a reference when what held it ends
+pub put-held : {l : Letters} {p q r : ℕ} {s s₁ s₂ : List ℕ} → r ≡ q → s₂ ≡ s₁ → Put l p s q s₁ → Put l p s r s₂
+put-held e f u = record { place = e ∙ u.place; bytes = f ∙ u.bytes }

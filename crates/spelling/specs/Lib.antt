@@ -1,6 +1,7 @@
 -- What it means to put bytes at a place.
 -- Tables of names, and the numbers of new names.
 pub mod Writing
+pub mod Written
 pub mod Stems
 pub mod Places
 pub mod Table

@@ -1,7 +1,7 @@
 -- Where the letters of each name stand.
-use Rattle.std.specs.Prelude.{ℕ, ◌+◌, ◌-◌, ◌≤◌, ◌≡◌, List, [], ◌∷◌, ◌&&◌, leb, length, get_or, take, drop}
+use Rattle.std.specs.Prelude.{ℕ, ◌+◌, ◌-◌, List, [], ◌∷◌, ◌&&◌, leb, length, get_or, take, drop}
 use Rattle.definitions.specs.Lists.{choose, Letters}
-use Rattle.spelling.specs.declared.Span.{Span}
+use Rattle.spelling.specs.declared.names.Spelling.{Spelling}
 
 -- where each name starts, the first at k, and where the last one ends
 unfoldable pub starts_from : ℕ → List ℕ → List ℕ
@@ -17,8 +17,6 @@ unfoldable pub letters_at : List ℕ → List ℕ → ℕ → Letters
 unfolding between
 letters_at starts letters x = between letters (get_or starts x 0) (get_or starts (x + 1) 0)
 
--- where the letters of a name stand
-pub record NameSpans (letters : List ℕ) (s : Span) (name : Letters) : Type 0 where
-  pub order : s.from ≤ s.to
-  pub end : s.to ≤ length letters
-  pub part : take (s.to - s.from) (drop s.from letters) ≡ name
+-- the letters of name x of a sheet
+abbrev pub letters_in : Spelling → ℕ → Letters
+letters_in s = letters_at s.starts.now s.letters.now

@@ -1,5 +1,5 @@
--- The id of `condact` may differ between the input's names and the output's: no fault and no need depends on it, as every id of the input is
--- of `condact` in both or in neither. `same-condact`, `sheet-fault`.
+-- The id of `condact` may differ between the input's names and the output's: no fault and no need depends on it, as every id of the input
+-- is of `condact` in both or in neither. `same-condact`, `sheet-fault`.
 use Prim.Native.Nat.{ℕ, zero, suc, ◌<◌}
 use mathlib.Core.Path.{◌≡◌, refl, sym, ap, ◌∙◌, subst}
 use mathlib.Core.List.{List, [], ◌∷◌, ◌++◌, Memᴰ}

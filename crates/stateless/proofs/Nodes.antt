@@ -1,5 +1,5 @@
--- A sheet's nodes one by one: each has its clocks (`clockings-form`, `node-here`), its faults are its clock faults, else the one that rewriting
--- stops at (`node-faults`, `no-faults`). For loops over nodes, faults, names and tokens of the output up to node i (`..-front`).
+-- A sheet's nodes one by one: each has its clocks (`clockings-form`, `node-here`), its faults are its clock faults, else the one that
+-- rewriting stops at (`node-faults`, `no-faults`). For loops over nodes, faults, names and tokens of the output up to node i (`..-front`).
 use Prim.Native.Nat.{ℕ, zero, suc, ◌+◌, ◌≤◌, ◌<◌}
 use mathlib.Core.Path.{◌≡◌, refl, sym, ap, ap₂, ◌∙◌, subst}
 use mathlib.Core.List.{List, [], ◌∷◌, ◌++◌, map, append_assoc, append-nil, cons≢nil, Memᴰ}
@@ -16,7 +16,6 @@ use Rattle.definitions.specs.declared.FaultRecord.{FaultRecord}
 use Rattle.definitions.specs.declared.Token.{Token}
 use Rattle.definitions.specs.Lists.{choose, any, all, join, numbered, Letters}
 use Rattle.definitions.specs.Tree.{Node, Sheet}
-use Rattle.definitions.specs.Grammar.{node}
 use Rattle.definitions.specs.InferClocks.{Formed, deep, formed, ◌>>=◌, Inferred, inferred, Finding, NodeFault, Clocked, Clocking, clocked_by, check_equation, is_too_deep, clocking, clock_faults, uses_clocks}
 use Rattle.definitions.specs.Refusals as answers
 use Rattle.definitions.specs.Refusals.{Answer, accepted, refused}

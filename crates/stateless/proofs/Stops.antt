@@ -1,4 +1,5 @@
--- Rewriting stops at the first fault that it meets, whatever was needed before and whatever ids new names have: `rewrite-outcome`, `stopped-at`.
+-- Rewriting stops at the first fault that it meets, whatever was needed before and whatever ids new names have: `rewrite-outcome`,
+-- `stopped-at`.
 use Prim.Native.Nat.{ℕ, suc}
 use mathlib.Core.Path.{◌≡◌, refl, sym, subst}
 use mathlib.Core.List.{List, [], ◌∷◌}

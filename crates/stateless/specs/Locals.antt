@@ -1,5 +1,5 @@
 -- The rewritten node by the ids of its new names: its new locals with their equations, then the old equations.
-use Rattle.std.specs.Prelude.{ℕ, ◌<◌, ◌≡◌, List, [], ◌∷◌, ◌++◌, map, Bool, true, get_or}
+use Rattle.std.specs.Prelude.{ℕ, ◌<◌, ◌≡◌, List, [], ◌∷◌, ◌++◌, map, true, get_or}
 use Rattle.definitions.specs.declared.Primitive.{Primitive}
 use Rattle.definitions.specs.Lists.{choose, any, numbered}
 use Rattle.definitions.specs.Tree.{Ty, Declared, Expr, Equation, Node}

@@ -1,5 +1,5 @@
 -- Rewriting an expression without a state: the ids of new names are known, and so is how many holds there are before.
-use Rattle.std.specs.Prelude.{ℕ, suc, Bool, eqb}
+use Rattle.std.specs.Prelude.{ℕ, suc, eqb}
 use mathlib.Core.List.{List, [], ◌∷◌, ◌++◌}
 use Rattle.std.proofs.Math.Option.{Option, none, some}
 use Rattle.definitions.specs.declared.Primitive.{Primitive}

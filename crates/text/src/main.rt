@@ -2,92 +2,74 @@
 #![tactic(auto)]
 
 use arguments::Word;
-use definitions::Refusal;
-use listings::ListingAnswer;
 use std::io;
 use std::io::{Read, Write};
 
 // So many bytes are enough for any text.
 const ENOUGH: usize = 4096;
 
-// What is asked for: help, the text of a node's fault into so many bytes, or nothing that is understood.
+// The text of a node's fault, into so many bytes.
+#[derive(Clone, Copy)]
+struct WantedText {
+    node: usize,
+    fault: usize,
+    lent: usize,
+}
+
+// What is asked for: help, a text, or nothing that is understood.
+// Stays (no plainer): each of the three is answered in a way of its own.
 #[derive(Clone, Copy)]
 enum Asked {
     Help,
-    Text(usize, usize, usize),
+    Text(WantedText),
     Other,
 }
 
-fn help(output: &mut impl Write) -> io::Result<()> {
-    output.write_all(
-        b"text NODE FAULT [BYTES]: prints the text of a fault of a node of the sheet on standard input.
+const HELP: &[u8] =
+    b"text NODE FAULT [BYTES]: prints the text of a fault of a node of the sheet on standard input.
 
 NODE and FAULT are counted from 0: the node's clock faults, or, where it has none, the first fault that rewriting it meets.
 BYTES is how many bytes are lent for the text; without it they are enough for any.
 A question that is turned down leaves standard output empty, and is one line on standard error, `refused NUMBER PLACE: REASON`;
 rewrite --help lists the numbers. The exit status is 0 in both cases.
-",
-    )
-}
+";
 
-fn wrong(errors: &mut impl Write) -> io::Result<()> {
-    errors.write_all(
-        b"text: write text NODE FAULT, both numbers counted from 0; text --help says more\n",
-    )
-}
-
-fn refuse(errors: &mut impl Write, r: Refusal) -> io::Result<()> {
-    let mut line = [0u8; 256];
-    let n = refusals::put_reason(&mut line, r);
-    arguments::show(errors, &line, n)
-}
+const WRONG: &[u8] =
+    b"text: write text NODE FAULT, both numbers counted from 0; text --help says more\n";
 
 // The text into the bytes lent, and a line feed.
 fn tell(
     output: &mut impl Write,
     errors: &mut impl Write,
     sheet: &[u8],
-    node: usize,
-    fault: usize,
+    asked: WantedText,
     out: &mut [u8],
 ) -> io::Result<()> {
-    let answer = questions::text(sheet, node, fault, out);
-    match answer {
-        ListingAnswer::Written(n) => {
+    match questions::text(sheet, asked.node, asked.fault, out) {
+        Ok(n) => {
             arguments::show(output, out, n)?;
             output.write_all(b"\n")
         }
-        ListingAnswer::Refused(r) => refuse(errors, r),
+        Err(r) => arguments::refuse(errors, r),
     }
-}
-
-fn tell_lent(
-    output: &mut impl Write,
-    errors: &mut impl Write,
-    sheet: &[u8],
-    node: usize,
-    fault: usize,
-    out: &mut [u8],
-    lent: usize,
-) -> io::Result<()> {
-    if lent < out.len() {
-        return tell(output, errors, sheet, node, fault, &mut out[..lent]);
-    }
-    tell(output, errors, sheet, node, fault, out)
 }
 
 fn answer(
     input: &mut impl Read,
     output: &mut impl Write,
     errors: &mut impl Write,
-    node: usize,
-    fault: usize,
-    lent: usize,
+    asked: WantedText,
 ) -> io::Result<()> {
     let mut sheet = [0u8; 65536];
     let n = arguments::read_full(input, &mut sheet)?;
     let mut out = [0u8; ENOUGH];
-    tell_lent(output, errors, &sheet[..n], node, fault, &mut out, lent)
+    tell(
+        output,
+        errors,
+        &sheet[..n],
+        asked,
+        &mut out[..asked.lent.min(ENOUGH)],
+    )
 }
 
 // What the words NODE, FAULT and BYTES ask for.
@@ -97,11 +79,13 @@ fn question(node: Option<Word>, fault: Option<Word>, lent: Option<Word>) -> Aske
         (Some(Word::Number(_)), Some(Word::Help), _) => Asked::Help,
         (Some(Word::Number(_)), Some(Word::Number(_)), Some(Word::Help)) => Asked::Help,
         (Some(Word::Number(node)), Some(Word::Number(fault)), Some(Word::Number(lent))) => {
-            Asked::Text(node, fault, lent)
+            Asked::Text(WantedText { node, fault, lent })
         }
-        (Some(Word::Number(node)), Some(Word::Number(fault)), None) => {
-            Asked::Text(node, fault, ENOUGH)
-        }
+        (Some(Word::Number(node)), Some(Word::Number(fault)), None) => Asked::Text(WantedText {
+            node,
+            fault,
+            lent: ENOUGH,
+        }),
         _ => Asked::Other,
     }
 }
@@ -109,21 +93,14 @@ fn question(node: Option<Word>, fault: Option<Word>, lent: Option<Word>) -> Aske
 fn main(rt: HostRuntime) -> io::Result<()> {
     let mut errors = rt.stderr();
     if arguments::argument(&rt, 4).is_some() {
-        return wrong(&mut errors);
+        return errors.write_all(WRONG);
     }
     let node = arguments::argument(&rt, 1);
     let fault = arguments::argument(&rt, 2);
     let lent = arguments::argument(&rt, 3);
     match question(node, fault, lent) {
-        Asked::Help => help(&mut rt.stdout()),
-        Asked::Text(node, fault, lent) => answer(
-            &mut rt.stdin(),
-            &mut rt.stdout(),
-            &mut errors,
-            node,
-            fault,
-            lent,
-        ),
-        Asked::Other => wrong(&mut errors),
+        Asked::Help => rt.stdout().write_all(HELP),
+        Asked::Text(asked) => answer(&mut rt.stdin(), &mut rt.stdout(), &mut errors, asked),
+        Asked::Other => errors.write_all(WRONG),
     }
 }

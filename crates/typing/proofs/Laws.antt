@@ -1,5 +1,6 @@
 -- The types that answers say, declaration by declaration and arm by arm.
 -- Assumes nothing.
+use Rattle.std.specs.Prelude.{Result, Ok, Err}
 use Prim.Native.Nat.{ℕ, suc, ◌+◌, ◌-◌, ◌≤◌, ◌<◌}
 use mathlib.Core.Path.{◌≡◌, refl, sym, ◌∙◌, ap, subst}
 use mathlib.Core.List.{List, [], ◌∷◌, ◌++◌, append-nil, append_assoc}
@@ -23,12 +24,10 @@ use Rattle.definitions.specs.Tree.{Ty, Declared, Head, Expr, Exprs, Node}
 use Rattle.definitions.specs.Reading.{got, token, times}
 use Rattle.definitions.specs.Grammar.{name, high, ty, declaration, constant, form}
 use Rattle.definitions.specs.Declock.{declared, last_type, literal_type, element, operand_type}
-use Rattle.grammar.specs.declared.ExprHead.{ExprHead}
-use Rattle.grammar.specs.declared.TypeHead.{TypeHead}
-use Rattle.grammar.specs.Outcome.{expr_head, type_head}
+use Rattle.grammar.specs.Outcome.{outcome, told}
 use Rattle.grammar.proofs.Laws.{wrap-got, tokens-length}
 use Rattle.grammar.proofs.Got.{tagged-value, times-nil}
-use Rattle.layout.proofs.TypedefsLaws.{type-not-refused, type-is-basic, type-is-named, type-is-array, FirstField}
+use Rattle.layout.proofs.TypedefsLaws.{type-not-refused, type-is-basic, type-is-named, type-is-array, FirstField, declared-read, declared-not-refused}
 use Rattle.operands.specs.declared.Gap.{Gap}
 use Rattle.operands.specs.declared.Operand.{Operand}
 use Rattle.operands.specs.declared.Role.{Role}
@@ -40,8 +39,12 @@ use Rattle.operands.proofs.Deeper.{tree-head}
 use Rattle.operands.proofs.Forms.{formed}
 use Rattle.inference.proofs.Low.{role-low}
 use Rattle.operands.proofs.Apart.{apart}
+use Rattle.layout.specs.Spans.{past_in}
 use Rattle.typing.specs.declared.TypeFound.{TypeFound}
-use Rattle.typing.specs.Found.{or_found, IsFound, found_by, Declares}
+use Rattle.std.specs.Option.{option_map, option_or, MatchOption, IsSomeAnd}
+use Rattle.std.specs.declared.option.Option as code
+use Rattle.std.specs.declared.option.Option.TheVariants.{None, Some}
+use Rattle.typing.specs.Found.{IsFound, place_of, found_by, Declares}
 
 or_assoc : {A : Type 0} (a b c : Option A) → or_else (or_else a b) c ≡ or_else a (or_else b c)
 or_assoc none b c = refl
@@ -56,50 +59,42 @@ unfolding last_type
 last-append [] b x = sym (or-none (last_type b x))
 last-append (d ∷ a) b x = ap (λ (o : Option Ty). or_else o (choose (eqb d.name x) (some d.type) none)) (last-append a b x) ∙ or_assoc (last_type b x) (last_type a x) (choose (eqb d.name x) (some d.type) none)
 
--- what a word says
-pub word_none : (w g : ℕ) → w ≡ g → w ≡ 0 → TypeFound.Unknown ≡ found_by g
-word_none w g i z = rw (sym i ∙ z)
-
-pub word-place : (w g : ℕ) → w ≡ g → (w ≡ 0 → ⊥) → TypeFound.At (w - 1) ≡ found_by g
+pub word-place : (w g : ℕ) → w ≡ g → (w ≡ 0 → ⊥) → Some (TypeFound.At (w - 1)) ≡ found_by g
 word-place w g i z = rw (← i, ne_eqb w 0 z)
 
--- one word more is 0
-pub none_more : (t : List ℕ) (i : ℕ) → i < length t → ((x : ℕ) → x < i → get_or t x 0 ≡ 0) → (x : ℕ) → x < i + 1 → get_or (set t i 0) x 0 ≡ 0
-none_more t i b h x u = go (eqb i x) refl
-  where
-    go : (d : Bool) → eqb i x ≡ d → get_or (set t i 0) x 0 ≡ 0
-    go true e = let j : i ≡ x = eqb-true i x e in rw (← j) (get_or-set_same t i 0 0 b)
-    go false e = let j = eqb-false i x e in get_or-set_other t i x 0 0 (λ z. j (sym z)) ∙ h x (omega arith)
-
 module _ (M : ℕ) (ts : List TagValue) where
-  pub found-or : (o u : Option Ty) (a b r : TypeFound) → r ≡ or_found a b → IsFound M ts o a → IsFound M ts u b → IsFound M ts (or_else o u) r
+  -- the type that stands where a name's word says
+  pub placed : (o : Option Ty) (r : code.Option ℕ) (w : ℕ) → r ≡ place_of w → IsFound M ts o (found_by w) → IsFound M ts o (option_map TypeFound.At r)
+  placed o r w i h = rw i h
+
+  pub found-or : (o u : Option Ty) (a b r : code.Option TypeFound) → r ≡ option_or a b → IsFound M ts o a → IsFound M ts u b → IsFound M ts (or_else o u) r
   unfolding IsFound
   found-or o u a b r i h k = rw i (go o a h)
     where
-      go : (o : Option Ty) (a : TypeFound) → IsFound M ts o a → IsFound M ts (or_else o u) (or_found a b)
-      go none (TypeFound.At p) h = absurd h
-      go none (TypeFound.Basic p) h = absurd h
-      go none TypeFound.Unknown h = k
-      go (some t) (TypeFound.At p) h = h
-      go (some t) (TypeFound.Basic p) h = h
-      go (some t) TypeFound.Unknown h = absurd h
+      go : (o : Option Ty) (a : code.Option TypeFound) → IsFound M ts o a → IsFound M ts (or_else o u) (option_or a b)
+      go none (Some (TypeFound.At p)) h = absurd h
+      go none (Some (TypeFound.Basic p)) h = absurd h
+      go none None h = k
+      go (some t) (Some (TypeFound.At p)) h = h
+      go (some t) (Some (TypeFound.Basic p)) h = h
+      go (some t) None h = absurd h
 
-  pub nothing-found : IsFound M ts none TypeFound.Unknown
+  pub nothing-found : IsFound M ts none None
   unfolding IsFound
   nothing-found = tt
 
   -- ---- elements
-  pub element-basic : (o : Option Ty) (f : TypeFound) (k : Primitive) → f ≡ TypeFound.Basic k → IsFound M ts o f → IsFound M ts (element o) TypeFound.Unknown
+  pub element-basic : (o : Option Ty) (f : code.Option TypeFound) (k : Primitive) → f ≡ Some (TypeFound.Basic k) → IsFound M ts o f → IsFound M ts (element o) None
   unfolding IsFound
   element-basic none f k i h = tt
   element-basic (some t) f k i h = let j : t ≡ Ty.primitive k = rw i at h in rw j tt
 
-  pub element-unknown : (o : Option Ty) (f : TypeFound) → f ≡ TypeFound.Unknown → IsFound M ts o f → IsFound M ts (element o) TypeFound.Unknown
+  pub element-unknown : (o : Option Ty) (f : code.Option TypeFound) → f ≡ None → IsFound M ts o f → IsFound M ts (element o) None
   unfolding IsFound
   element-unknown none f i h = tt
   element-unknown (some t) f i h = let z : ⊥ = rw i at h in absurd z
 
-  module _ (p : ℕ) (f : TypeFound) (j : f ≡ TypeFound.At p) (r : TypeHead) (i : r ≡ type_head (token (type_token_of M) ts p)) where
+  module _ (p : ℕ) (f : code.Option TypeFound) (j : f ≡ Some (TypeFound.At p)) (r : Result (TypeToken × ℕ) Refusal) (i : r ≡ told (token (type_token_of M) ts p)) where
     read_at : (t : Ty) → IsFound M ts (some t) f → (d : ℕ) × (q : ℕ) × (ty M d ts p ≡ got t q)
     unfolding IsFound
     read_at t h = rw j at h
@@ -108,20 +103,29 @@ module _ (M : ℕ) (ts : List TagValue) where
     unfolding IsFound
     none-at h = rw j at h
 
-    pub element-refused : (x : Refusal) → r ≡ TypeHead.Refused x → (o : Option Ty) → IsFound M ts o f → IsFound M ts (element o) TypeFound.Unknown
+    pub element-refused : (x : Refusal) → r ≡ Err x → (o : Option Ty) → IsFound M ts o f → IsFound M ts (element o) None
     element-refused x e none h = absurd (none-at h)
     element-refused x e (some t) h = let a = read_at t h in absurd (type-not-refused M ts p r i a.0 t a.1 a.2 x e)
 
-    module _ (h : TypeToken) (s : ℕ) (e : r ≡ TypeHead.Token h s) where
-      pub element-of-basic : (b : Primitive) → h ≡ TypeToken.Basic b → (o : Option Ty) → IsFound M ts o f → IsFound M ts (element o) TypeFound.Unknown
+    module _ (h : TypeToken) (s : ℕ) (e : r ≡ Ok (h, s)) where
+      element-of-basic : (b : Primitive) → h ≡ TypeToken.Basic b → (o : Option Ty) → IsFound M ts o f → IsFound M ts (element o) None
       element-of-basic b k none g = absurd (none-at g)
       element-of-basic b k (some t) g = let a = read_at t g in rw (type-is-basic M ts p r i a.0 t a.1 a.2 h s e b k) nothing-found
 
-      pub element-of-named : (x : ℕ) → h ≡ TypeToken.Named x → (o : Option Ty) → IsFound M ts o f → IsFound M ts (element o) TypeFound.Unknown
+      element-of-named : (x : ℕ) → h ≡ TypeToken.Named x → (o : Option Ty) → IsFound M ts o f → IsFound M ts (element o) None
       element-of-named x k none g = absurd (none-at g)
       element-of-named x k (some t) g = let a = read_at t g in rw (type-is-named M ts p r i a.0 t a.1 a.2 h s e x k) nothing-found
 
-      pub element-of-array : (n : ℕ) → h ≡ TypeToken.Array n → (o : Option Ty) → IsFound M ts o f → IsFound M ts (element o) (TypeFound.At s)
+      -- the head of no array
+      pub element-other : ((n : ℕ) → h ≡ TypeToken.Array n → ⊥) → (o : Option Ty) → IsFound M ts o f → IsFound M ts (element o) None
+      element-other n = go h refl
+        where
+          go : (t : TypeToken) → h ≡ t → (o : Option Ty) → IsFound M ts o f → IsFound M ts (element o) None
+          go (TypeToken.Basic b) k = element-of-basic b k
+          go (TypeToken.Array i) k = absurd (n i k)
+          go (TypeToken.Named x) k = element-of-named x k
+
+      pub element-of-array : (n : ℕ) → h ≡ TypeToken.Array n → (o : Option Ty) → IsFound M ts o f → IsFound M ts (element o) (Some (TypeFound.At s))
       unfolding IsFound
       element-of-array n k none g = absurd (none-at g)
       element-of-array n k (some t) g =
@@ -144,8 +148,8 @@ module _ (M : ℕ) (ts : List TagValue) where
           let j : f.id ≡ x = eqb-true f.id x e in
           let v : get_or (set t f.id w) x 0 ≡ suc first = ap (λ (y : ℕ). get_or (set t f.id w) y 0) (sym j) ∙ (get_or-set_same t f.id w 0 (omega arith) ∙ i) in
           let o : first ≡ suc first - 1 = omega arith in
-          let m : TypeFound.At first ≡ found_by (get_or (set t f.id w) x 0) = ap TypeFound.At o ∙ word-place (suc first) _ (sym v) (λ z. omega arith) in
-          subst (λ (z : TypeFound). IsFound M ts (last_type (all ++ (record { name = f.id; type = f.type } ∷ [])) x) z) m (rw (last-append all (record { name = f.id; type = f.type } ∷ []) x, e) (8, f.next, f.typed))
+          let m : Some (TypeFound.At first) ≡ found_by (get_or (set t f.id w) x 0) = ap (λ (y : ℕ). Some (TypeFound.At y)) o ∙ word-place (suc first) _ (sym v) (λ z. omega arith) in
+          subst (λ (z : code.Option TypeFound). IsFound M ts (last_type (all ++ (record { name = f.id; type = f.type } ∷ [])) x) z) m (rw (last-append all (record { name = f.id; type = f.type } ∷ []) x, e) (8, f.next, f.typed))
       go x b false e =
           let j = eqb-false f.id x e in
           rw (last-append all (record { name = f.id; type = f.type } ∷ []) x, e, get_or-set_other t f.id x w 0 (λ z. j (sym z))) (h.each x b)
@@ -158,6 +162,35 @@ declares-stored M ts t t' k p first ds all q f low room x w i j e h = rw (e ∙ 
 pub declares-rest : (M : ℕ) (ts : List TagValue) (t : List ℕ) (all ds rest : List Declared) (d : Declared) → ds ≡ d ∷ rest → Declares M ts t ((all ++ (d ∷ [])) ++ rest) → Declares M ts t (all ++ ds)
 declares-rest M ts t all ds rest d i h = rw i (rw (append_assoc all (d ∷ []) rest) at h)
 
+-- the name of a declaration
+pub label_is : (M : ℕ) (gs vs : List ℕ) → length vs ≡ length gs → (p n q : ℕ) → name M (tokens gs vs) p ≡ got n q → (n ≡ get_or vs p 0) × (n < M) × (p < length gs) × (q ≡ p + 1)
+unfolding name
+label_is M gs vs same p n q g =
+    let b : p < length gs = omega (arith, (name-place M (tokens gs vs) p n q g).1, tokens-length gs vs same) in
+    let v = tagged-value gs vs same p 4 M n q b g in
+    (v.0, v.2, b, v.3)
+
+-- so many declarations from p on, whose types are put into a table
+pub record Declaring (M : ℕ) (gs vs : List ℕ) (k p : ℕ) (t t' : List ℕ) : Type 0 where
+  pub more : (ds all : List Declared) (q : ℕ) → times k (declaration M) (tokens gs vs) p ≡ got ds q → M ≤ length t → length gs < 4294967295 → Declares M (tokens gs vs) t all → Declares M (tokens gs vs) t' (all ++ ds)
+
+pub declaring-none : (M : ℕ) (gs vs : List ℕ) (k p : ℕ) (t : List ℕ) → k ≡ 0 → Declaring M gs vs k p t t
+declaring-none M gs vs k p t z = record { more = λ ds all q g room few h. declares-none M (tokens gs vs) t k p ds all q z g h }
+
+module _ (M : ℕ) (gs vs : List ℕ) (same : length vs ≡ length gs) (k p : ℕ) (t : List ℕ) (some_left : k ≡ 0 → ⊥) (r : Result ℕ Refusal) (i : r ≡ outcome (declaration M (tokens gs vs) p)) where
+  pub declaring-refused : (e : Refusal) → r ≡ Err e → (t' : List ℕ) → Declaring M gs vs k p t t'
+  declaring-refused e j t' = record { more = λ ds all q g room few h. absurd (declared-not-refused M gs vs same k p ds q some_left g r i e j) }
+
+  pub declaring-step : (next : ℕ) → r ≡ Ok next → (first : ℕ) → first ≡ past_in (length gs) p → (x w : ℕ) → x ≡ get_or vs p 0 → (first < 4294967295 → w ≡ suc first) → (t₁ t' : List ℕ) → t₁ ≡ set t x w → length t₁ ≡ length t → (n : ℕ) → n ≡ k - 1 → Declaring M gs vs n next t₁ t' → Declaring M gs vs k p t t'
+  declaring-step next b first j x w v word t₁ t' u l n c d = record {
+    more = λ ds all q g room few h.
+        let a = declared-read M gs vs same k p ds q some_left g r i next b first j in
+        let f = a.0 in
+        let y = label_is M gs vs same p f.id first f.label in
+        let z = declares-stored M (tokens gs vs) t t₁ k p first ds all q f y.1 room x w (y.0 ∙ sym v) (word (omega (arith, few, y.2, y.3))) u h in
+        declares-rest M (tokens gs vs) t' all ds f.rest _ f.whole (d.more f.rest _ q (ap (λ (m : ℕ). times m (declaration M) (tokens gs vs) next) c ∙ a.1) (omega (arith, room, l)) few z);
+  }
+
 -- nothing is declared yet
 pub declares-start : (M : ℕ) (ts : List TagValue) (t : List ℕ) → ((x : ℕ) → x < M → get_or t x 0 ≡ 0) → Declares M ts t []
 unfolding last_type IsFound
@@ -167,18 +200,16 @@ declares-start M ts t h = record { each = λ x b. rw (h x b) tt }
 pub declares-lists : (M : ℕ) (ts : List TagValue) (t : List ℕ) (n : Node) → Declares M ts t ((([] ++ n.inputs) ++ n.outputs) ++ n.locals) → Declares M ts t (declared n)
 declares-lists M ts t n h = rw (append_assoc n.inputs n.outputs n.locals) at h
 
--- a declared name's type is the one that its word says
-pub declared-name : (M : ℕ) (gs vs t : List ℕ) (ds : List Declared) (e : Expr) (q p x : ℕ) → tree M (tokens gs vs) p ≡ got e q → e ≡ Expr.var x → Declares M (tokens gs vs) t ds → (r : TypeFound) → r ≡ found_by (get_or t x 0) → IsFound M (tokens gs vs) (last_type ds x) r
-unfolding role_of_expr
-declared-name M gs vs t ds e q p x g i d r j = rw j (d.each x (rw i at (role-low M (tokens gs vs) p e q g)))
+-- a declared name's type stands where its word says
+mapped : (a : code.Option ℕ) (r : code.Option TypeFound) → MatchOption a (r ≡ None) (λ p. IsSomeAnd r (λ f. f ≡ TypeFound.At p)) → r ≡ option_map TypeFound.At a
+mapped None r h = h
+mapped (Some p) None h = absurd h
+mapped (Some p) (Some f) h = ap Some h
 
--- the name of a declaration
-pub label_is : (M : ℕ) (gs vs : List ℕ) → length vs ≡ length gs → (p n q : ℕ) → name M (tokens gs vs) p ≡ got n q → (n ≡ get_or vs p 0) × (n < M) × (p < length gs) × (q ≡ p + 1)
-unfolding name
-label_is M gs vs same p n q g =
-    let b : p < length gs = omega (arith, (name-place M (tokens gs vs) p n q g).1, tokens-length gs vs same) in
-    let v = tagged-value gs vs same p 4 M n q b g in
-    (v.0, v.2, b, v.3)
+pub declared-name : (M : ℕ) (gs vs t : List ℕ) (ds : List Declared) (e : Expr) (q p x : ℕ) → tree M (tokens gs vs) p ≡ got e q → e ≡ Expr.var x → Declares M (tokens gs vs) t ds → (a : code.Option ℕ) → a ≡ place_of (get_or t x 0) →
+    (r : code.Option TypeFound) → MatchOption a (r ≡ None) (λ p. IsSomeAnd r (λ f. f ≡ TypeFound.At p)) → IsFound M (tokens gs vs) (last_type ds x) r
+unfolding role_of_expr
+declared-name M gs vs t ds e q p x g i d a j r h = rw (mapped a r h) (placed M (tokens gs vs) (last_type ds x) a (get_or t x 0) j (d.each x (rw i at (role-low M (tokens gs vs) p e q g))))
 
 -- ---- constants
 const-token : (t : ExprToken) → role_of t ≡ Role.Constant → (l : Literal) × (t ≡ ExprToken.Const l)
@@ -218,28 +249,34 @@ constant_token M ts p l w q g =
     let c = const-literal M ts (p + 1) b.0 l w q f in
     a.1 ∙ ap (λ (t : ExprToken). got t (p + 1)) (b.1 ∙ ap ExprToken.Const c)
 
-pub head-token : (M : ℕ) (ts : List TagValue) (p : ℕ) (l : Literal) (w q : ℕ) (r : ExprHead) → r ≡ expr_head (token (expr_token_of M) ts p) → tree M ts p ≡ got (Expr.const l w) q → r ≡ ExprHead.Token (ExprToken.Const l) (p + 1)
-head-token M ts p l w q r i g = i ∙ ap expr_head (constant_token M ts p l w q g)
+pub head-token : (M : ℕ) (ts : List TagValue) (p : ℕ) (l : Literal) (w q : ℕ) (r : Result (ExprToken × ℕ) Refusal) → r ≡ told (token (expr_token_of M) ts p) → tree M ts p ≡ got (Expr.const l w) q → r ≡ Ok ((ExprToken.Const l), (p + 1))
+head-token M ts p l w q r i g = i ∙ ap told (constant_token M ts p l w q g)
 
-module _ (r : ExprHead) (l : Literal) (s : ℕ) (i : r ≡ ExprHead.Token (ExprToken.Const l) s) where
-  pub const-arm : (t : ExprToken) (k : Literal) (u : ℕ) → r ≡ ExprHead.Token t u → t ≡ ExprToken.Const k → (b : Primitive) → b ≡ literal_type k → TypeFound.Basic b ≡ TypeFound.Basic (literal_type l)
-  const-arm t k u e f b j = let m : k ≡ l = cc in ap TypeFound.Basic (j ∙ ap literal_type m)
+module _ (r : Result (ExprToken × ℕ) Refusal) (l : Literal) (s : ℕ) (i : r ≡ Ok ((ExprToken.Const l), s)) where
+  pub const-arm : (t : ExprToken) (k : Literal) (u : ℕ) → r ≡ Ok (t, u) → t ≡ ExprToken.Const k → (b : Primitive) → b ≡ literal_type k → Some (TypeFound.Basic b) ≡ Some (TypeFound.Basic (literal_type l))
+  const-arm t k u e f b j =
+      let p : ◌≡◌ {A = ExprToken × ℕ} (ExprToken.Const l, s) (t, u) = cc in
+      let q : ExprToken.Const l ≡ t = ap (λ (y : ExprToken × ℕ). y.0) p in
+      let m : k ≡ l = cc in ap (λ (y : Primitive). Some (TypeFound.Basic y)) (j ∙ ap literal_type m)
 
-  pub const-other : (t : ExprToken) (u : ℕ) → r ≡ ExprHead.Token t u → ((k : Literal) → t ≡ ExprToken.Const k → ⊥) → ⊥
-  const-other t u e h = let m : t ≡ ExprToken.Const l = cc in h l m
+  pub const-other : (t : ExprToken) (u : ℕ) → r ≡ Ok (t, u) → ((k : Literal) → t ≡ ExprToken.Const k → ⊥) → ⊥
+  const-other t u e h =
+      let p : ◌≡◌ {A = ExprToken × ℕ} (ExprToken.Const l, s) (t, u) = cc in
+      let q : ExprToken.Const l ≡ t = ap (λ (y : ExprToken × ℕ). y.0) p in
+      let m : t ≡ ExprToken.Const l = cc in h l m
 
-  pub const-refused : (x : Refusal) → r ≡ ExprHead.Refused x → ⊥
+  pub const-refused : (x : Refusal) → r ≡ Err x → ⊥
   const-refused x e = let z : ◌≡◌ {A = ℕ} 0 1 = cc in omega arith
 
 -- ---- operands
 pub split-of : (M : ℕ) (ts : List TagValue) (g : Gap) (n p : ℕ) (o : Operand) → Stepped M ts g p o → (es : Exprs) (q : ℕ) → spread M g n (tree M) ts p ≡ got es q → (a : Expr) (rs : Exprs) → es ≡ Exprs.and a rs →
-    (u : ℕ) × (tree M ts o.at ≡ got a u) × (spread M o.gap (n - 1) (tree M) ts o.next ≡ got rs q) × (p < o.next)
+    (u : ℕ) × (tree M ts o.at ≡ got a u) × (spread M o.rest.gap (n - 1) (tree M) ts o.rest.next ≡ got rs q) × (p < o.rest.next)
 split-of M ts g n p o s es q h a rs w = go
   where
     some_left : n ≡ 0 → ⊥
     some_left z = let m = (spread-nil M (tree M) ts g n p es q z h).0 in let z : ◌≡◌ {A = ℕ} 0 1 = cc in omega arith
 
-    go : (u : ℕ) × (tree M ts o.at ≡ got a u) × (spread M o.gap (n - 1) (tree M) ts o.next ≡ got rs q) × (p < o.next)
+    go : (u : ℕ) × (tree M ts o.at ≡ got a u) × (spread M o.rest.gap (n - 1) (tree M) ts o.rest.next ≡ got rs q) × (p < o.rest.next)
     go =
         let x = s.split n es q some_left h in
         let i : x.first ≡ a = cc x.whole in
@@ -290,8 +327,8 @@ record Untyped (ρ : Role) : Type 0 where
   follow : ρ ≡ Role.Follow → ⊥
   index : ρ ≡ Role.Index → ⊥
 
-module _ (M : ℕ) (ts : List TagValue) (ds : List Declared) (e : Expr) (r : TypeFound) where
-  pub const-found : (l : Literal) (w : ℕ) → e ≡ Expr.const l w → r ≡ TypeFound.Basic (literal_type l) → IsFound M ts (operand_type ds e) r
+module _ (M : ℕ) (ts : List TagValue) (ds : List Declared) (e : Expr) (r : code.Option TypeFound) where
+  pub const-found : (l : Literal) (w : ℕ) → e ≡ Expr.const l w → r ≡ Some (TypeFound.Basic (literal_type l)) → IsFound M ts (operand_type ds e) r
   unfolding operand_type IsFound
   const-found l w i j = rw (i, j) refl
 
@@ -307,7 +344,7 @@ module _ (M : ℕ) (ts : List TagValue) (ds : List Declared) (e : Expr) (r : Typ
   unfolding operand_type
   pre-found a i h = rw i h
 
-  pub arrow-found : (a b : Expr) (x y : TypeFound) → e ≡ Expr.arrow a b → r ≡ or_found y x → IsFound M ts (operand_type ds b) y → IsFound M ts (operand_type ds a) x → IsFound M ts (operand_type ds e) r
+  pub arrow-found : (a b : Expr) (x y : code.Option TypeFound) → e ≡ Expr.arrow a b → r ≡ option_or y x → IsFound M ts (operand_type ds b) y → IsFound M ts (operand_type ds a) x → IsFound M ts (operand_type ds e) r
   unfolding operand_type
   arrow-found a b x y i j h k = rw i (found-or M ts (operand_type ds b) (operand_type ds a) y x r j h k)
 
@@ -315,11 +352,11 @@ module _ (M : ℕ) (ts : List TagValue) (ds : List Declared) (e : Expr) (r : Typ
   unfolding operand_type
   index-found es a rs i j h = rw (i, j) h
 
-pub index-none : (M : ℕ) (ts : List TagValue) (ds : List Declared) (e : Expr) (es : Exprs) → e ≡ Expr.op Head.index es → es ≡ Exprs.end → IsFound M ts (operand_type ds e) TypeFound.Unknown
+pub index-none : (M : ℕ) (ts : List TagValue) (ds : List Declared) (e : Expr) (es : Exprs) → e ≡ Expr.op Head.index es → es ≡ Exprs.end → IsFound M ts (operand_type ds e) None
 unfolding operand_type
 index-none M ts ds e es i j = rw (i, j) (nothing-found M ts)
 
-form-none : (M : ℕ) (ts : List TagValue) (ds : List Declared) (h : Head) (es : Exprs) → Untyped (role_of_expr (Expr.op h es)) → IsFound M ts (operand_type ds (Expr.op h es)) TypeFound.Unknown
+form-none : (M : ℕ) (ts : List TagValue) (ds : List Declared) (h : Head) (es : Exprs) → Untyped (role_of_expr (Expr.op h es)) → IsFound M ts (operand_type ds (Expr.op h es)) None
 unfolding operand_type role_of_expr
 form-none M ts ds (Head.unary o) es k = nothing-found M ts
 form-none M ts ds (Head.binary o) es k = nothing-found M ts
@@ -333,7 +370,7 @@ form-none M ts ds (Head.cast a) es k = nothing-found M ts
 form-none M ts ds (Head.map f n) es k = nothing-found M ts
 form-none M ts ds (Head.fold f n) es k = nothing-found M ts
 
-none-typed : (M : ℕ) (ts : List TagValue) (ds : List Declared) (e : Expr) → Untyped (role_of_expr e) → IsFound M ts (operand_type ds e) TypeFound.Unknown
+none-typed : (M : ℕ) (ts : List TagValue) (ds : List Declared) (e : Expr) → Untyped (role_of_expr e) → IsFound M ts (operand_type ds e) None
 unfolding operand_type role_of_expr
 none-typed M ts ds (Expr.const l w) k = absurd (k.constant refl)
 none-typed M ts ds (Expr.var x) k = absurd (k.name x refl)
@@ -346,6 +383,6 @@ none-typed M ts ds (Expr.merge x a b) k = nothing-found M ts
 
 pub rest-found : (M : ℕ) (ts : List TagValue) (ds : List Declared) (e : Expr) (v : Role) → v ≡ role_of_expr e
     → (v ≡ Role.Constant → ⊥) → ((x : ℕ) → v ≡ Role.Name x → ⊥) → ((k : Condition) → v ≡ Role.Sample k → ⊥) → (v ≡ Role.Previous → ⊥) → (v ≡ Role.Follow → ⊥) → (v ≡ Role.Index → ⊥)
-    → IsFound M ts (operand_type ds e) TypeFound.Unknown
+    → IsFound M ts (operand_type ds e) None
 rest-found M ts ds e v i c n s p f x =
     none-typed M ts ds e (record { constant = λ z. c (i ∙ z); name = λ y z. n y (i ∙ z); sample = λ k z. s k (i ∙ z); previous = λ z. p (i ∙ z); follow = λ z. f (i ∙ z); index = λ z. x (i ∙ z) })

@@ -15,10 +15,17 @@ use Rattle.operands.specs.declared.Role.{Role}
 use Rattle.operands.specs.Role.{role_of_expr}
 use Rattle.index.specs.Callees.{is_there}
 use Rattle.stateless.specs.Yield.{shape_after}
+use Rattle.std.specs.declared.option.Option.TheVariants.{None}
+use Rattle.typing.specs.After.{called_by}
 
 -- the roles other than those of a name, a `when` and a call
 record Still (ρ : Role) : Type 0 where
   name : (x : ℕ) → ρ ≡ Role.Name x → ⊥
+  sample : (k : Condition) → ρ ≡ Role.Sample k → ⊥
+  call : (f : ℕ) → ρ ≡ Role.Call f → ⊥
+
+-- the roles other than those of a `when` and a call
+record CallsNothing (ρ : Role) : Type 0 where
   sample : (k : Condition) → ρ ≡ Role.Sample k → ⊥
   call : (f : ℕ) → ρ ≡ Role.Call f → ⊥
 
@@ -55,13 +62,14 @@ module _ (types : List TypeDef) (l : List Node) (node : Node) (k : ℕ) (c : Clo
   unfolding shape_after
   name-after e x i = rw i
 
-  pub when-after : (e : Expr) (h : Condition) (a : Expr) (s : Shape) (d : Clock) → e ≡ Expr.when h a → d ≡ parent c → s ≡ shape_after types l node k d a → s ≡ shape_after types l node k c e
+  pub when-after : (e : Expr) (h : Condition) (a : Expr) (d : Clock) → e ≡ Expr.when h a → d ≡ parent c → shape_after types l node k d a ≡ shape_after types l node k c e
   unfolding shape_after
-  when-after e h a s d i j m = rw (i, sym j) m
+  when-after e h a d i j = rw (i, sym j)
 
   pub call-after : (e : Expr) (f : ℕ) (es : Exprs) (s : Shape) → e ≡ Expr.call f es → s ≡ shape_after types l node k c (Expr.call f es) → s ≡ shape_after types l node k c e
   call-after e f es s i m = rw i m
 
+  -- all else is neither a name nor a call
   still_after : (e : Expr) → Still (role_of_expr e) → other ≡ shape_after types l node k c e
   unfolding role_of_expr shape_after
   still_after (Expr.const x w) h = refl
@@ -75,3 +83,18 @@ module _ (types : List TypeDef) (l : List Node) (node : Node) (k : ℕ) (c : Clo
 
   pub other_after : (e : Expr) (v : Role) → v ≡ role_of_expr e → ((x : ℕ) → v ≡ Role.Name x → ⊥) → ((x : Condition) → v ≡ Role.Sample x → ⊥) → ((f : ℕ) → v ≡ Role.Call f → ⊥) → other ≡ shape_after types l node k c e
   other_after e v i n s f = still_after e (record { name = λ x z. n x (i ∙ z); sample = λ x z. s x (i ∙ z); call = λ x z. f x (i ∙ z) })
+
+  -- all else calls nothing
+  nothing_after : (e : Expr) → CallsNothing (role_of_expr e) → None ≡ called_by (shape_after types l node k c e)
+  unfolding role_of_expr shape_after
+  nothing_after (Expr.const x w) h = refl
+  nothing_after (Expr.var x) h = refl
+  nothing_after (Expr.op o es) h = refl
+  nothing_after (Expr.pre a) h = refl
+  nothing_after (Expr.arrow a b) h = refl
+  nothing_after (Expr.call f es) h = absurd (h.call f refl)
+  nothing_after (Expr.when x a) h = absurd (h.sample x refl)
+  nothing_after (Expr.merge x a b) h = refl
+
+  pub none_after : (e : Expr) (v : Role) → v ≡ role_of_expr e → ((x : Condition) → v ≡ Role.Sample x → ⊥) → ((f : ℕ) → v ≡ Role.Call f → ⊥) → None ≡ called_by (shape_after types l node k c e)
+  none_after e v i s f = nothing_after e (record { sample = λ x z. s x (i ∙ z); call = λ x z. f x (i ∙ z) })

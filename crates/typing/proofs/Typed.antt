@@ -22,6 +22,7 @@ use Rattle.grammar.proofs.Got.{type-got, primitive-got, named-got, element-got, 
 use Rattle.layout.specs.declared.NodeLayout.{NodeLayout}
 use Rattle.layout.specs.Laid.{LaidNode}
 use Rattle.typing.specs.declared.TypeFound.{TypeFound}
+use Rattle.std.specs.declared.option.Option.TheVariants.{Some}
 use Rattle.typing.specs.Found.{IsFound}
 
 -- M is the number of names
@@ -126,6 +127,6 @@ module _ (M : ℕ) (ts : List TagValue) where
   declared-read n u lay d = each_append n.inputs (n.outputs ++ n.locals) (each_read n.inputs _ _ _ d.inputs.items) (each_append n.outputs n.locals (each_read n.outputs _ _ _ d.outputs.items) (each_read n.locals _ _ _ d.locals.items))
 
   -- THE LAW: where a declared name's type is found at a place, it is read there with at most eight arrays in one another
-  pub declared-at : (n : Node) (u : ℕ) (lay : NodeLayout) → LaidNode M ts n u lay → (x : ℕ) (t : Ty) (p : ℕ) → last_type (declared n) x ≡ some t → IsFound M ts (some t) (TypeFound.At p) → (q : ℕ) × (ty M 8 ts p ≡ got t q)
+  pub declared-at : (n : Node) (u : ℕ) (lay : NodeLayout) → LaidNode M ts n u lay → (x : ℕ) (t : Ty) (p : ℕ) → last_type (declared n) x ≡ some t → IsFound M ts (some t) (Some (TypeFound.At p)) → (q : ℕ) × (ty M 8 ts p ≡ got t q)
   unfolding IsFound
   declared-at n u lay d x t p e f = let a = each_last (declared n) x t (declared-read n u lay d) e in (f.1, same-depth t f.0 8 p a.0 f.1 a.1 f.2 a.2)

@@ -8,25 +8,25 @@ use Rattle.definitions.specs.Reading.{got}
 use Rattle.definitions.specs.Grammar.{ty}
 use Rattle.definitions.specs.Declock.{last_type}
 use Rattle.typing.specs.declared.TypeFound.{TypeFound}
-
--- the first that is known
-abbrev pub or_found : TypeFound → TypeFound → TypeFound
-or_found (TypeFound.At p) b = TypeFound.At p
-or_found (TypeFound.Basic k) b = TypeFound.Basic k
-or_found TypeFound.Unknown b = b
+use Rattle.std.specs.Option.{option_map}
+use Rattle.std.specs.declared.option.Option as code
+use Rattle.std.specs.declared.option.Option.TheVariants.{None, Some}
 
 -- the answer is this type, read at its place; or there is none
-unfoldable pub IsFound : ℕ → List TagValue → Option Ty → TypeFound → Type 0
-IsFound M ts none (TypeFound.At p) = ⊥
-IsFound M ts none (TypeFound.Basic k) = ⊥
-IsFound M ts none TypeFound.Unknown = Unit {0}
-IsFound M ts (some t) (TypeFound.At p) = (d : ℕ) × (q : ℕ) × (ty M d ts p ≡ got t q)
-IsFound M ts (some t) (TypeFound.Basic k) = t ≡ Ty.primitive k
-IsFound M ts (some t) TypeFound.Unknown = ⊥
+unfoldable pub IsFound : ℕ → List TagValue → Option Ty → code.Option TypeFound → Type 0
+IsFound M ts none (Some (TypeFound.At p)) = ⊥
+IsFound M ts none (Some (TypeFound.Basic k)) = ⊥
+IsFound M ts none None = Unit {0}
+IsFound M ts (some t) (Some (TypeFound.At p)) = (d : ℕ) × (q : ℕ) × (ty M d ts p ≡ got t q)
+IsFound M ts (some t) (Some (TypeFound.Basic k)) = t ≡ Ty.primitive k
+IsFound M ts (some t) None = ⊥
 
--- what a name's word says
-abbrev pub found_by : ℕ → TypeFound
-found_by w = choose (eqb w 0) TypeFound.Unknown (TypeFound.At (w - 1))
+-- what a name's word says: where its type stands
+abbrev pub place_of : ℕ → code.Option ℕ
+place_of w = choose (eqb w 0) None (Some (w - 1))
+
+abbrev pub found_by : ℕ → code.Option TypeFound
+found_by w = option_map TypeFound.At (place_of w)
 
 -- the table has the type of the last declaration of each name
 pub record Declares (M : ℕ) (ts : List TagValue) (t : List ℕ) (ds : List Declared) : Type 0 where

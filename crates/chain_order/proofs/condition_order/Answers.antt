@@ -1,10 +1,8 @@
-use mathlib.Core.Path.{sym, ◌∙◌}
-use Rattle.definitions.specs.Clock.{test_order}
-use Rattle.chain_order.proofs.Laws.{then_same, then-other}
+-- `chain_order::condition_order` meets its contract. Assumes nothing.
+use mathlib.Core.Path.{◌∙◌}
+use Rattle.spelling.specs.Places.{letters_in}
+use Rattle.chain_order.proofs.Laws.{conditions-cmp, tests-cmp}
 use Rattle.chain_order.proofs.condition_order.Goals as goal
 
-pub returns-then-same : goal.returns-then-same
-returns-then-same c = c.test_order.ensures ∙ (sym (then_same c.name_order-o.result (test_order c.args.k.test c.args.l.test) (sym c.is_same-same.ensures ∙ c.if-same.true)) ∙ rw c.name_order-o.ensures)
-
 pub returns : goal.returns
-returns c = sym (then-other c.name_order-o.result (test_order c.args.k.test c.args.l.test) (sym c.is_same-same.ensures ∙ c.if-same.false)) ∙ rw c.name_order-o.ensures
+returns c = conditions-cmp (letters_in c.args.spelling) c.args.k c.args.l c.name.ensures c.name-2.ensures c.cmp-names.ensures (c.cmp.ensures ∙ tests-cmp c.args.k.test c.args.l.test) c.then.ensures

@@ -1,41 +1,43 @@
 -- `chain_order::row_order` meets its contract. The conditions before i are alike. Assumes nothing.
-use Prim.Native.Nat.{◌+◌, ◌*◌}
-use mathlib.Core.Path.{sym, ap, ◌∙◌}
+use Prim.Native.Nat.{◌+◌, ◌*◌, min}
+use mathlib.Core.Path.{◌≡◌, refl, ◌∙◌}
 use native.Mathlib.Omega.{arith}
 use Rattle.clock_tables.specs.Flat.{depth_in, conditions_from}
-use Rattle.spelling.specs.Places.{letters_at}
-use Rattle.chain_order.proofs.Laws.{decides-all, chain-end, chain-less, chain_more, chain_same, chain-other, row-condition, conditions-both, under_same, over-same}
+use Rattle.clock_tables.specs.Value.{at}
+use Rattle.definitions.specs.Clock.{condition_order}
+use Rattle.spelling.specs.Places.{letters_in}
+use Rattle.chain_order.specs.Order.{answer_of}
+use Rattle.chain_order.proofs.Laws.{decides-all, chain-depths, chain_same, chain-other, row-condition, conditions-both}
 use Rattle.chain_order.proofs.row_order.Goals as goal
+use Rattle.chain_order.proofs.row_order.Goals.{After-is_ne}
 
 pub loop-i-init : goal.loop-i-init
-loop-i-init c = (omega arith, omega arith, c.depth_at-d.ensures ∙ ap (λ m. depth_in c.args.rows.now (17 * m)) c.wide-a.ensures, c.depth_at-e.ensures ∙ ap (λ m. depth_in c.args.rows.now (17 * m)) c.wide-b.ensures, decides-all (letters_at c.args.starts.now c.args.letters.now) (conditions_from c.args.rows.now ((17 * c.args.x) + 1) 8) (conditions_from c.args.rows.now ((17 * c.args.y) + 1) 8) (depth_in c.args.rows.now (17 * c.args.x)) (depth_in c.args.rows.now (17 * c.args.y)))
+loop-i-init c = (c.depth_at-d.ensures, c.depth_at-e.ensures, decides-all (letters_in c.args.spelling) (conditions_from c.args.rows.now ((17 * c.args.x) + 1) 8) (conditions_from c.args.rows.now ((17 * c.args.y) + 1) 8) (depth_in c.args.rows.now (17 * c.args.x)) (depth_in c.args.rows.now (17 * c.args.y)))
 
-pub returns-then-e-i : goal.returns-then-e-i
-returns-then-e-i c = sym (chain_more (letters_at c.args.starts.now c.args.letters.now) (conditions_from c.args.rows.now ((17 * c.args.x) + 1) 8) (conditions_from c.args.rows.now ((17 * c.args.y) + 1) 8) (depth_in c.args.rows.now (17 * c.args.x)) (depth_in c.args.rows.now (17 * c.args.y)) c.loop-i.i c.loop-i.invariant.4 (under_same _ _ _ c.loop-i.invariant.2 c.loop-i-test.true) (over-same _ _ _ c.loop-i.invariant.3 c.if-e-i.true))
+-- the answer is that of the rows' i-th conditions
+compared : (c : goal.After-is_ne) → c.condition_order-o.result ≡ answer_of (condition_order (letters_in c.args.spelling) (at (conditions_from c.args.rows.now (17 * c.args.x + 1) 8) c.loop-i.i) (at (conditions_from c.args.rows.now (17 * c.args.y + 1) 8) c.loop-i.i))
+compared c =
+    conditions-both (letters_in c.args.spelling) _ _ _ _ c.condition_order-o.ensures
+    (row-condition c.args.rows.now _ c.args.x c.loop-i.i _ refl (omega (arith, c.loop-i.invariant.0, c.loop-i-test.true, c.min-i-end.ensures)) c.condition_at-k.ensures)
+    (row-condition c.args.rows.now _ c.args.y c.loop-i.i _ refl (omega (arith, c.loop-i.invariant.0, c.loop-i-test.true, c.min-i-end.ensures)) c.condition_at-l.ensures)
 
-pub overflow_mul-i : goal.overflow_mul-i
-overflow_mul-i c = omega (arith, c.loop-i.invariant.2, c.loop-i-test.true, c.wide-a.ensures, c.wide-b.ensures, c.ranges)
-
-pub overflow_add-a-in-loop-i : goal.overflow_add-a-in-loop-i
-overflow_add-a-in-loop-i c = omega (arith, c.loop-i.invariant.2, c.loop-i-test.true, c.wide-a.ensures, c.wide-b.ensures, c.ranges)
-
-pub overflow_mul-i-in-loop-i : goal.overflow_mul-i-in-loop-i
-overflow_mul-i-in-loop-i c = omega (arith, c.loop-i.invariant.2, c.loop-i-test.true, c.wide-a.ensures, c.wide-b.ensures, c.ranges)
-
-pub overflow_add-b-in-loop-i : goal.overflow_add-b-in-loop-i
-overflow_add-b-in-loop-i c = omega (arith, c.loop-i.invariant.2, c.loop-i-test.true, c.wide-a.ensures, c.wide-b.ensures, c.ranges)
-
-pub loop-i-smaller : goal.loop-i-smaller
-loop-i-smaller c = omega (arith, c.loop-i-test.true)
+pub returns-then-is_ne : goal.returns-then-is_ne
+returns-then-is_ne c =
+    chain-other (letters_in c.args.spelling) (conditions_from c.args.rows.now ((17 * c.args.x) + 1) 8) (conditions_from c.args.rows.now ((17 * c.args.y) + 1) 8) (depth_in c.args.rows.now (17 * c.args.x)) (depth_in c.args.rows.now (17 * c.args.y)) c.loop-i.i c.loop-i.invariant.2
+    (omega (arith, c.loop-i.invariant.0, c.loop-i-test.true, c.min-i-end.ensures)) (omega (arith, c.loop-i.invariant.1, c.loop-i-test.true, c.min-i-end.ensures))
+    (compared (goal.at.returns-then-is_ne c).After-is_ne) c.is_ne.ensures c.if-is_ne.true
 
 pub loop-i-preserved : goal.loop-i-preserved
-loop-i-preserved c = (omega arith, omega (arith, c.if-e-i.false), c.loop-i.invariant.2, c.loop-i.invariant.3, chain_same (letters_at c.args.starts.now c.args.letters.now) (conditions_from c.args.rows.now ((17 * c.args.x) + 1) 8) (conditions_from c.args.rows.now ((17 * c.args.y) + 1) 8) (depth_in c.args.rows.now (17 * c.args.x)) (depth_in c.args.rows.now (17 * c.args.y)) c.loop-i.i c.loop-i.invariant.4 (under_same _ _ _ c.loop-i.invariant.2 c.loop-i-test.true) (under_same _ _ _ c.loop-i.invariant.3 c.if-e-i.false) c.condition_order-o.result (conditions-both (letters_at c.args.starts.now c.args.letters.now) c.condition_order-o.result _ _ _ _ c.condition_order-o.ensures (row-condition c.args.rows.now _ c.args.x c.loop-i.i _ (ap (λ m. 17 * m) c.wide-a.ensures) (omega (arith, c.loop-i.invariant.2, c.loop-i-test.true)) c.condition_at-k.ensures) (row-condition c.args.rows.now _ c.args.y c.loop-i.i _ (ap (λ m. 17 * m) c.wide-b.ensures) (omega (arith, c.loop-i.invariant.2, c.loop-i-test.true)) c.condition_at-l.ensures)) (sym c.is_same-same.ensures ∙ c.if-same.true))
-
-pub returns-in-loop-i : goal.returns-in-loop-i
-returns-in-loop-i c = sym (chain-other (letters_at c.args.starts.now c.args.letters.now) (conditions_from c.args.rows.now ((17 * c.args.x) + 1) 8) (conditions_from c.args.rows.now ((17 * c.args.y) + 1) 8) (depth_in c.args.rows.now (17 * c.args.x)) (depth_in c.args.rows.now (17 * c.args.y)) c.loop-i.i c.loop-i.invariant.4 (under_same _ _ _ c.loop-i.invariant.2 c.loop-i-test.true) (under_same _ _ _ c.loop-i.invariant.3 c.if-e-i.false) c.condition_order-o.result (conditions-both (letters_at c.args.starts.now c.args.letters.now) c.condition_order-o.result _ _ _ _ c.condition_order-o.ensures (row-condition c.args.rows.now _ c.args.x c.loop-i.i _ (ap (λ m. 17 * m) c.wide-a.ensures) (omega (arith, c.loop-i.invariant.2, c.loop-i-test.true)) c.condition_at-k.ensures) (row-condition c.args.rows.now _ c.args.y c.loop-i.i _ (ap (λ m. 17 * m) c.wide-b.ensures) (omega (arith, c.loop-i.invariant.2, c.loop-i-test.true)) c.condition_at-l.ensures)) (sym c.is_same-same.ensures ∙ c.if-same.false))
-
-pub returns-then-i-e : goal.returns-then-i-e
-returns-then-i-e c = sym (chain-less (letters_at c.args.starts.now c.args.letters.now) (conditions_from c.args.rows.now ((17 * c.args.x) + 1) 8) (conditions_from c.args.rows.now ((17 * c.args.y) + 1) 8) (depth_in c.args.rows.now (17 * c.args.x)) (depth_in c.args.rows.now (17 * c.args.y)) c.loop-i.i c.loop-i.invariant.4 (over-same _ _ _ c.loop-i.invariant.2 c.loop-i-test.false) (under_same _ _ _ c.loop-i.invariant.3 c.if-i-e.true))
+loop-i-preserved c = (
+  c.loop-i.invariant.0,
+  c.loop-i.invariant.1,
+  chain_same (letters_in c.args.spelling) (conditions_from c.args.rows.now ((17 * c.args.x) + 1) 8) (conditions_from c.args.rows.now ((17 * c.args.y) + 1) 8) (depth_in c.args.rows.now (17 * c.args.x)) (depth_in c.args.rows.now (17 * c.args.y)) c.loop-i.i c.loop-i.invariant.2
+      (omega (arith, c.loop-i.invariant.0, c.loop-i-test.true, c.min-i-end.ensures)) (omega (arith, c.loop-i.invariant.1, c.loop-i-test.true, c.min-i-end.ensures))
+      (compared (goal.at.loop-i-preserved c).After-is_ne) c.is_ne.ensures c.if-is_ne.false,
+)
 
 pub returns : goal.returns
-returns c = sym (chain-end (letters_at c.args.starts.now c.args.letters.now) (conditions_from c.args.rows.now ((17 * c.args.x) + 1) 8) (conditions_from c.args.rows.now ((17 * c.args.y) + 1) 8) (depth_in c.args.rows.now (17 * c.args.x)) (depth_in c.args.rows.now (17 * c.args.y)) c.loop-i.i c.loop-i.invariant.4 (over-same _ _ _ c.loop-i.invariant.2 c.loop-i-test.false) (over-same _ _ _ c.loop-i.invariant.3 c.if-i-e.false))
+returns c =
+    let i : c.loop-i.i ≡ min (depth_in c.args.rows.now (17 * c.args.x)) (depth_in c.args.rows.now (17 * c.args.y)) = omega (arith, c.loop-i.invariant.0, c.loop-i.invariant.1, c.loop-i-test.false, c.loop-i.auto.i-end, c.min-i-end.ensures) in
+    c.cmp.ensures ∙ rw (c.loop-i.invariant.0, c.loop-i.invariant.1)
+    (chain-depths (letters_in c.args.spelling) (conditions_from c.args.rows.now ((17 * c.args.x) + 1) 8) (conditions_from c.args.rows.now ((17 * c.args.y) + 1) 8) (depth_in c.args.rows.now (17 * c.args.x)) (depth_in c.args.rows.now (17 * c.args.y)) c.loop-i.i c.loop-i.invariant.2 i)

@@ -1,13 +1,10 @@
 -- `chain_order::row_order` meets its contract. The conditions before i are alike. Assumes nothing.
-use Prim.Native.Nat.{◌≤◌, ◌-◌, ◌+◌, ◌*◌}
+use Prim.Native.Nat.{◌+◌, ◌*◌}
 use mathlib.Core.Path.{◌≡◌}
 use Rattle.clock_tables.specs.Flat.{depth_in, conditions_from}
-use Rattle.spelling.specs.Places.{letters_at}
+use Rattle.spelling.specs.Places.{letters_in}
 use Rattle.chain_order.proofs.Laws.{Decides}
 use Rattle.chain_order.proofs.row_order.Given as goal
 
 abbrev pub invariant-loop-i : goal.invariant-loop-i
-invariant-loop-i l = (l.i ≤ l.d) × (l.i ≤ l.e) × (l.d ≡ depth_in l.rows (17 * l.x)) × (l.e ≡ depth_in l.rows (17 * l.y)) × Decides (letters_at l.starts l.letters) (conditions_from l.rows (17 * l.x + 1) 8) (conditions_from l.rows (17 * l.y + 1) 8) (depth_in l.rows (17 * l.x)) (depth_in l.rows (17 * l.y)) l.i
-
-abbrev pub decreases-loop-i : goal.decreases-loop-i
-decreases-loop-i l = l.d - l.i
+invariant-loop-i l = (l.d ≡ depth_in l.rows (17 * l.x)) × (l.e ≡ depth_in l.rows (17 * l.y)) × Decides (letters_in l.spelling) (conditions_from l.rows (17 * l.x + 1) 8) (conditions_from l.rows (17 * l.y + 1) 8) (depth_in l.rows (17 * l.x)) (depth_in l.rows (17 * l.y)) l.i

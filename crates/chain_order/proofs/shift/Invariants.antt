@@ -5,7 +5,4 @@ use Rattle.chain_order.proofs.Laws.{Low, High}
 use Rattle.chain_order.proofs.shift.Given as goal
 
 abbrev pub invariant-loop-i : goal.invariant-loop-i
-invariant-loop-i l = (l.j ≤ l.i) × (l.i ≤ l.k) × (length l.order ≡ length l.initial.order) × Low l.initial.order l.order l.k l.i × High l.initial.order l.order l.k l.i
-
-abbrev pub decreases-loop-i : goal.decreases-loop-i
-decreases-loop-i l = l.i
+invariant-loop-i l = (l.j ≤ l.i) × (length l.order ≡ length l.initial.order) × Low l.initial.order l.order l.k l.i × High l.initial.order l.order l.k l.i

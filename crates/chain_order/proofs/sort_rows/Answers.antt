@@ -1,34 +1,25 @@
+-- `chain_order::sort_rows` meets its contract. Assumes nothing.
 use Prim.Native.Nat.{◌-◌}
 use mathlib.Core.Path.{refl, sym, ap, ◌∙◌}
 use native.Mathlib.Omega.{arith}
 use Rattle.definitions.specs.Clock.{insert}
-use Rattle.spelling.specs.Places.{letters_at}
+use Rattle.spelling.specs.Places.{letters_in}
 use Rattle.chain_order.specs.Order.{row_of}
-use Rattle.chain_order.proofs.Laws.{sort-none, sort-more, sort-all}
+use Rattle.chain_order.proofs.Laws.{sort-none, sort-more}
 use Rattle.chain_order.proofs.Total.{ordered}
 use Rattle.chain_order.proofs.sort_rows.Goals as goal
 
 pub loop-i-init : goal.loop-i-init
-loop-i-init c = (omega arith, omega arith, refl, sort-none (letters_at c.args.starts.now c.args.letters.now) c.args.rows.now c.args.n c.args.order.now, λ i u. absurd (omega arith))
+loop-i-init c = (omega arith, refl, sort-none (letters_in c.args.spelling) c.args.rows.now c.args.n c.args.order.now, λ i u. absurd (omega arith))
 
-pub insert_row-k-requires : goal.insert_row-k-requires
-insert_row-k-requires c =
-    record {
-      k_in_bounds = omega (arith, c.loop-i.invariant.0, c.loop-i.invariant.1, c.loop-i.invariant.2, c.requires, c.loop-i-test.true);
-      in_order = ordered (letters_at c.args.starts.now c.args.letters.now) c.args.rows.now c.loop-i.order c.loop-i.k _ c.loop-i.invariant.3;
-    }
+pub insert_row-k-requires-clause-in_order : goal.insert_row-k-requires-clause-in_order
+insert_row-k-requires-clause-in_order c = ordered (letters_in c.args.spelling) c.args.rows.now c.loop-i.order c.loop-i.k _ c.loop-i.invariant.2
 
 pub loop-i-preserved : goal.loop-i-preserved
-loop-i-preserved c = (omega arith, omega (arith, c.insert_row-k.ensures.upper_bound, c.loop-i.invariant.1, c.loop-i.invariant.0, c.loop-i-test.true), c.insert_row-k.ensures.order_len_unchanged ∙ c.loop-i.invariant.2, c.insert_row-k.ensures.result_after ∙ (ap (insert (letters_at c.args.starts.now c.args.letters.now) (row_of c.args.rows.now (c.loop-i.i - 1))) c.loop-i.invariant.3 ∙ sym (sort-more (letters_at c.args.starts.now c.args.letters.now) c.args.rows.now c.args.n c.loop-i.i c.loop-i-test.true c.loop-i.invariant.0)), c.insert_row-k.ensures.by_index c.args.n (omega (arith, c.loop-i.invariant.0, c.loop-i-test.true)) c.loop-i.invariant.4)
-
-pub shape_of-order : goal.shape_of-order
-shape_of-order c = c.loop-i.invariant.2
-
-pub returns : goal.returns
-returns c =
-    record {
-      order_len_unchanged = c.loop-i.invariant.2;
-      upper_bound = omega (arith, c.loop-i.invariant.1);
-      result_after = c.loop-i.invariant.3 ∙ sort-all (letters_at c.args.starts.now c.args.letters.now) c.args.rows.now c.args.n c.loop-i.i (omega arith);
-      first_below = c.loop-i.invariant.4;
-    }
+loop-i-preserved c =
+    let l = c.loop-i in (
+      omega (arith, c.insert_row-k.ensures.upper_bound, l.invariant.0, l.auto.i, c.loop-i-test.true),
+      c.insert_row-k.ensures.order_len_unchanged ∙ l.invariant.1,
+      c.insert_row-k.ensures.result_after ∙ (ap (insert (letters_in c.args.spelling) (row_of c.args.rows.now (l.i - 1))) l.invariant.2 ∙ sym (sort-more (letters_in c.args.spelling) c.args.rows.now c.args.n l.i (omega (arith, c.loop-i-test.true)) (omega (arith, l.auto.i)))),
+      c.insert_row-k.ensures.by_index c.args.n (omega (arith, l.auto.i, c.loop-i-test.true)) l.invariant.3,
+    )

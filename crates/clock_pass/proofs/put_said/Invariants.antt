@@ -1,12 +1,8 @@
--- The list has the first i records over its front. The measure is what is left of n.
+-- The list has the first i records over its front.
 use mathlib.Core.Path.{◌≡◌}
-use Prim.Native.Nat.{◌≤◌, ◌-◌}
 use Rattle.definitions.specs.Lists.{over}
 use Rattle.clock_pass.specs.Said.{records}
 use Rattle.clock_pass.proofs.put_said.Given as goal
 
 abbrev pub invariant-loop-i : goal.invariant-loop-i
-invariant-loop-i l = (l.i ≤ l.n) × (l.list ≡ over (records l.words l.i) l.initial.list)
-
-abbrev pub decreases-loop-i : goal.decreases-loop-i
-decreases-loop-i l = l.n - l.i
+invariant-loop-i l = l.list ≡ over (records l.words l.i) l.initial.list

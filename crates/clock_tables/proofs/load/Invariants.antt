@@ -1,4 +1,4 @@
-use Prim.Native.Nat.{◌≤◌, ◌-◌}
+use Prim.Native.Nat.{◌+◌}
 use mathlib.Core.Path.{◌≡◌}
 use lib.ListN.{length}
 use Rattle.clock_tables.specs.Value.{clock_at}
@@ -6,7 +6,4 @@ use Rattle.clock_tables.specs.Flat.{conditions_from}
 use Rattle.clock_tables.proofs.load.Given as goal
 
 abbrev pub invariant-loop-i : goal.invariant-loop-i
-invariant-loop-i l = (l.i ≤ l.d) × (length l.out.conditions ≡ 8) × (clock_at l.out.conditions l.i ≡ clock_at (conditions_from l.t l.f 8) l.i)
-
-abbrev pub decreases-loop-i : goal.decreases-loop-i
-decreases-loop-i l = l.d - l.i
+invariant-loop-i l = (length l.out.conditions ≡ 8) × (clock_at l.out.conditions l.i ≡ clock_at (conditions_from l.t (l.b + 1) 8) l.i)

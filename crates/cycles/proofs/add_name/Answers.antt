@@ -1,13 +1,10 @@
--- `cycles::add_name` meets its contract: by whether the name is defined, and marked already.
+-- `cycles::add_name` meets its contract: by whether the name is defined, and there already.
 -- Assumes nothing.
-use Rattle.cycles.proofs.Laws.{marked-unknown, marked-again, marked-known}
+use Rattle.cycles.proofs.Laws.{name-unknown, name-again}
 use Rattle.cycles.proofs.add_name.Goals as goal
 
-pub returns-then-n-k : goal.returns-then-n-k
-returns-then-n-k c = λ types xs t m. marked-unknown _ _ _ types t _ xs m _ _ (c.find_definition-k.ensures types t) c.if-n-k.true
+pub returns-in_default : goal.returns-in_default
+returns-in_default c = λ types xs t m. name-unknown _ _ _ types t _ xs m _ (c.in_default.ensures.first types t)
 
-pub returns-then-set-k-eq1 : goal.returns-then-set-k-eq1
-returns-then-set-k-eq1 c = λ types xs t m. marked-again _ _ _ types t _ xs m _ _ (c.find_definition-k.ensures types t) c.if-n-k.false c.if-set-k-eq1.true
-
-pub returns : goal.returns
-returns c = λ types xs t m. marked-known _ _ _ types t _ xs m _ _ _ (c.find_definition-k.ensures types t) c.mark_name-more.ensures c.if-n-k.false
+pub returns-then-set-first : goal.returns-then-set-first
+returns-then-set-first c = λ types xs t m. let f = c.in-Some.ensures.first types t in name-again _ _ _ types t _ xs m _ _ f.0 f.1 c.if-set-first.true

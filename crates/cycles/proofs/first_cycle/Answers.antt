@@ -1,10 +1,16 @@
--- `cycles::first_cycle` meets its contract: in an order where each goes on to earlier ones alone none reaches itself; else the search tells.
--- Assumes nothing.
-use Rattle.layout.proofs.TypedefsLaws.{named}
+-- `cycles::first_cycle` meets its contract: the search stops at the first that is a cycle. Assumes nothing.
+use Rattle.std.proofs.Common.{rules, true, false, List}
+use Rattle.std.proofs.lemmas.Iterator.{first_from_Range}
+use Rattle.definitions.specs.Tree.{TypeDef}
+use Rattle.grammar.specs.Read.{tokens_of}
+use Rattle.layout.specs.Table.{Table}
+use Rattle.cycles.specs.Edges.{Edges}
+use Rattle.cycles.proofs.Laws.{Told, first-found}
 use Rattle.cycles.proofs.first_cycle.Goals as goal
 
-pub returns-then-settles : goal.returns-then-settles
-returns-then-settles c = λ types t. c.settles.ensures c.if-settles.true types t.count (c.edges-graph.ensures.edges types t)
-
 pub returns : goal.returns
-returns c = λ types t. c.search_cycle.ensures types (named _ _ _ c.requires.values_len _ _ types t) (c.edges-graph.ensures.edges types t)
+returns c = λ types t.
+    let T = λ (ts : List TypeDef). Table c.args.source.now.names (tokens_of c.args.source.now) c.args.places.now.at c.args.places.now.count ts in
+    let E = λ (ts : List TypeDef). Edges ts c.edges-graph.result in
+    first-found types T E t (c.edges-graph.ensures.edges types t) _ c.find.result t.count
+    (first_from_Range _ _ _ _ (Told T E true) (Told T E false) c.find.ensures.ran (λ x q k. search rules) (λ x q k. search rules))

@@ -2,8 +2,8 @@
 use Rattle.declock.proofs.FlagsLaws.{condition-on, condition-not}
 use Rattle.declock.proofs.put_condition.Goals as goal
 
-pub returns-then-on : goal.returns-then-on
-returns-then-on c = condition-on _ _ c.args.k _ c.same_test-on.ensures c.if-on.true c.emit.ensures
+pub returns-in-On : goal.returns-in-On
+returns-in-On c = condition-on _ _ c.args.k c.in-On.is c.emit.ensures
 
-pub returns : goal.returns
-returns c = condition-not _ _ c.args.k _ c.same_test-on.ensures _ c.if-on.false c.emit-next.ensures c.emit-2.ensures
+pub returns-in-Not : goal.returns-in-Not
+returns-in-Not c = condition-not _ _ c.args.k c.in-Not.is c.emit_all.ensures

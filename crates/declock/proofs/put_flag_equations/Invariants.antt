@@ -1,14 +1,10 @@
--- `declock::put_flag_equations` meets its contract: what the rows left say makes the whole. The measure is the number left. Assumes nothing.
-use Prim.Native.Nat.{◌-◌}
-use Rattle.chain_order.specs.Order.{row_of, picked}
+-- `declock::put_flag_equations` meets its contract: what the rows left say makes the whole. Assumes nothing.
+use Rattle.chain_order.specs.Order.{row_of}
 use Rattle.stateless.specs.Yield.{Ids}
-use Rattle.emit.specs.Out.{out, emits}
-use Rattle.declock.specs.Tabled.{FlagIds}
+use Rattle.emit.specs.Out.{emits}
+use Rattle.declock.specs.Tabled.{FlagIds, ordered_clocks}
 use Rattle.declock.proofs.FlagsLaws.{Left, flag_equations}
 use Rattle.declock.proofs.put_flag_equations.Given as goal
 
 abbrev pub invariant-loop-i : goal.invariant-loop-i
-invariant-loop-i l = (j : Ids) → FlagIds l.rows l.n l.ids j.flag → Left (row_of l.rows) l.chain (flag_equations j) l.m (emits (out l.initial.otags l.initial.ovalues l.at) (flag_equations j (picked (row_of l.rows) l.chain 0 l.m))) (out l.otags l.ovalues l.next) l.i
-
-abbrev pub decreases-loop-i : goal.decreases-loop-i
-decreases-loop-i l = l.m - l.i
+invariant-loop-i l = (j : Ids) → FlagIds l.flags j.flag → Left (row_of l.flags.clocks.words.now) l.flags.names.now.order (flag_equations j) l.flags.names.now.ordered (emits l.initial.output (flag_equations j (ordered_clocks l.flags))) l.output l.i

@@ -1,87 +1,83 @@
 -- `defaults::emit_type` and the functions that it calls meet their contracts: the default is written by its parts.
 -- The measure falls with the depth at each type, then at each copy or field.
 -- Assumes nothing.
-use mathlib.Core.Path.{sym, ◌∙◌, ap}
-use mathlib.Core.List.{map}
+use mathlib.Core.Path.{sym, ◌∙◌}
 use native.Mathlib.Omega.{arith}
-use Rattle.definitions.specs.Tree.{Declared}
 use Rattle.definitions.specs.Types.{default_named}
 use Rattle.layout.specs.Table.{def_at}
-use Rattle.layout.proofs.TypedefsLaws.{named, name-value, type-not-refused, type-is-basic, type-is-named, type-is-array, field-read, field-not-refused, field_next, field-typed}
+use Rattle.layout.proofs.TypedefsLaws.{named, name-value, type-not-refused, type-is-basic, type-is-named, type-is-array, declared-read, declared-not-refused}
 use Rattle.emit.proofs.Laws.{emits-stuck}
-use Rattle.cycles.proofs.Laws.{nothing-described}
-use Rattle.defaults.proofs.Written.{wrote-basic, element-default, wrote-array, wrote-plain, wrote-same, plain-default, wrote_none, wrote_one, wrote-halves, named-default, not-unnamed, definition-default, wrote-variant, fields-default, alias-default, field-default, wrote-no-field, wrote-record, wrote-field}
+use Rattle.defaults.proofs.Written.{wrote-basic, element-default, wrote-array, wrote-plain, wrote-same, plain-default, copies-begin, copies-more, copies-none, named-default, not-unnamed, definition-default, wrote-variant, fields-default, alias-default, field-default, wrote-record, fields-begin, fields-next, fields-end}
 use Rattle.defaults.proofs.+emits.Goals as goal
 
-pub emit_array-returns-in-Constant : goal.emit_array-returns-in-Constant
-emit_array-returns-in-Constant t c = λ types f v y q e s h g d. wrote-plain e _ _ _ _ _ (plain-default (default_named types _) _ _ y e (c.literal_at-element.ensures _ y q g) c.in-Constant.is d) c.emit_two-first.ensures c.emit_literals.ensures
+pub emit_array-returns-in-Some : goal.emit_array-returns-in-Some
+emit_array-returns-in-Some t c = λ types f v y q e s h g d. wrote-plain e _ _ _ _ _ (plain-default (default_named types _) _ y e (c.in-Some.ensures _ y q g) d) c.emit_all.ensures c.emit_literals.ensures
 
-pub emit_array-returns-in-Other : goal.emit_array-returns-in-Other
-emit_array-returns-in-Other t c = λ types f v y q e s h g d. wrote-array e _ _ _ _ c.emit_two-first.ensures (c.emit_copies.ensures types f v y q e s h g d)
+pub emit_array-returns-in-None : goal.emit_array-returns-in-None
+emit_array-returns-in-None t c = λ types f v y q e s h g d. wrote-array e _ _ _ _ c.emit_all.ensures (c.emit_copies.ensures types f v y q e s h g d)
 
-pub emit_copies-returns-then-w-eq-FULL : goal.emit_copies-returns-then-w-eq-FULL
-emit_copies-returns-then-w-eq-FULL t c = λ types f v y q e s h g d. sym (emits-stuck _ _ c.if-w-eq-FULL.true)
+pub emit_copies-loop-init : goal.emit_copies-loop-init
+emit_copies-loop-init t c = λ types f v y q e s h g d. copies-begin e _ _
 
-pub emit_copies-returns-then-m-eq0 : goal.emit_copies-returns-then-m-eq0
-emit_copies-returns-then-m-eq0 t c = λ types f v y q e s h g d. wrote_none e _ _ c.if-m-eq0.true
+pub emit_copies-returns-then-is_full : goal.emit_copies-returns-then-is_full
+emit_copies-returns-then-is_full t c = λ types f v y q e s h g d. sym (c.loop.invariant types f v y q e s h g d ∙ emits-stuck _ _ (c.is_full.ensures.0 c.if-is_full.true))
 
-pub emit_copies-returns-then-m-eq1 : goal.emit_copies-returns-then-m-eq1
-emit_copies-returns-then-m-eq1 t c = λ types f v y q e s h g d. wrote_one e _ _ _ c.if-m-eq1.true (c.emit_type.ensures types f v y q e s h g d)
+pub emit_copies-loop-preserved : goal.emit_copies-loop-preserved
+emit_copies-loop-preserved t c = λ types f v y q e s h g d. copies-more e _ _ _ _ _ c.loop-test.true (c.emit_type.ensures types f v y q e s h g d) (c.loop.invariant types f v y q e s h g d)
 
 pub emit_copies-returns : goal.emit_copies-returns
-emit_copies-returns t c = λ types f v y q e s h g d. wrote-halves e _ _ _ _ (c.emit_copies-middle.ensures types f v y q e s h g d) (c.emit_copies.ensures types f v y q e s h g d)
+emit_copies-returns t c = λ types f v y q e s h g d. copies-none e _ _ _ _ c.loop-test.false (c.loop.invariant types f v y q e s h g d)
 
-pub emit_definition-returns-in-Enum : goal.emit_definition-returns-in-Enum
-emit_definition-returns-in-Enum t c = λ types f b q e s h g d. wrote-variant _ _ _ c.requires.values_len (default_named types _) b q _ (c.describe-found.ensures b q g) e d _ _ _ _ _ _ c.in-Enum.is c.value_at-v.ensures c.emit.ensures
+pub emit_definition-returns-in-Some-Enum : goal.emit_definition-returns-in-Some-Enum
+emit_definition-returns-in-Some-Enum t c = λ types f b q e s h g d. wrote-variant _ _ _ c.args.table.now.source.same_length (default_named types _) b q _ (c.in-Some-Enum.ensures b q g) e d _ _ _ _ _ _ c.in-Some-Enum.field-0-is c.value_at-v.ensures c.emit.ensures
 
-pub emit_definition-returns-in-Record : goal.emit_definition-returns-in-Record
-emit_definition-returns-in-Record t c = λ types f b q e s h g d. let a = fields-default _ _ _ c.requires.values_len (default_named types _) b q _ (c.describe-found.ensures b q g) e d _ _ _ c.in-Record.is in wrote-record (default_named types _) _ _ _ _ _ a.0 q a.1 e _ _ _ a.2 a.3 a.4 c.emit_two-next.ensures (c.emit_fields.ensures types f a.0 q a.1 s h a.2 a.3)
+pub emit_definition-returns-in-Some-Record : goal.emit_definition-returns-in-Some-Record
+emit_definition-returns-in-Some-Record t c = λ types f b q e s h g d. let a = fields-default _ _ _ c.args.table.now.source.same_length (default_named types _) b q _ (c.in-Some-Record.ensures b q g) e d _ _ _ c.in-Some-Record.field-0-is in wrote-record (default_named types _) _ _ _ _ _ a.0 q a.1 e _ _ _ a.2 a.3 a.4 c.emit_all.ensures (c.emit_fields.ensures types f a.0 q a.1 s h a.2 a.3)
 
-pub emit_definition-returns-in-Alias : goal.emit_definition-returns-in-Alias
-emit_definition-returns-in-Alias t c = λ types f b q e s h g d. let a = alias-default _ _ _ c.requires.values_len (default_named types _) b q _ (c.describe-found.ensures b q g) e d _ _ c.in-Alias.is in c.emit_type.ensures types f 8 a.0 q e s h a.1 a.2
+pub emit_definition-returns-in-Some-Alias : goal.emit_definition-returns-in-Some-Alias
+emit_definition-returns-in-Some-Alias t c = λ types f b q e s h g d. let a = alias-default _ _ _ c.args.table.now.source.same_length (default_named types _) b q _ (c.in-Some-Alias.ensures b q g) e d _ _ c.in-Some-Alias.field-0-is in c.emit_type.ensures types f 8 a.0 q e s h a.1 a.2
 
-pub emit_definition-returns-in-Nothing : goal.emit_definition-returns-in-Nothing
-emit_definition-returns-in-Nothing t c = λ types f b q e s h g d. absurd (nothing-described _ _ b q _ (c.describe-found.ensures b q g) c.in-Nothing.is)
+pub emit_fields-loop-init : goal.emit_fields-loop-init
+emit_fields-loop-init t c = λ types f fs q es s h g d. fields-begin (default_named types f) _ _ _ _ fs q es _ g d
 
-pub emit_fields-returns-then-w-eq-FULL : goal.emit_fields-returns-then-w-eq-FULL
-emit_fields-returns-then-w-eq-FULL t c = λ types f fs q es s h g d. sym (emits-stuck _ _ c.if-w-eq-FULL.true)
+pub emit_fields-returns-then-is_full : goal.emit_fields-returns-then-is_full
+emit_fields-returns-then-is_full t c = λ types f fs q es s h g d. sym ((c.loop.invariant types f fs q es s h g d).whole ∙ emits-stuck _ _ (c.is_full.ensures.0 c.if-is_full.true))
 
-pub emit_fields-returns-then-left-eq0 : goal.emit_fields-returns-then-left-eq0
-emit_fields-returns-then-left-eq0 t c = λ types f fs q es s h g d. wrote-no-field (default_named types _) _ _ _ _ fs q es _ c.if-left-eq0.true g d
+pub emit_fields-returns-in_default : goal.emit_fields-returns-in_default
+emit_fields-returns-in_default t c = λ types f fs q es s h g d. let a = c.loop.invariant types f fs q es s h g d in
+    absurd (declared-not-refused _ _ _ c.args.table.now.source.same_length _ _ a.rest q (omega (arith, c.loop-test.true)) a.reads _ c.read_declaration.ensures _ c.in_default.is)
 
-pub emit_fields-emit_fields-requires : goal.emit_fields-emit_fields-requires
-emit_fields-emit_fields-requires t c = (omega (arith, c.decreases, c.if-left-eq0.false), (c.requires.values_len, c.requires.n_bound))
+pub emit_fields-loop-preserved : goal.emit_fields-loop-preserved
+emit_fields-loop-preserved t c = λ types f fs q es s h g d. let a = c.loop.invariant types f fs q es s h g d in
+    let n = declared-read _ _ _ c.args.table.now.source.same_length _ _ a.rest q (omega (arith, c.loop-test.true)) a.reads _ c.read_declaration.ensures _ c.in-Ok.is _ c.behind-first.ensures in
+    let r = n.0 in
+    let b = field-default (default_named types f) a.rest _ r.rest a.values r.whole a.by in
+    fields-next (default_named types f) _ _ _ _ _ q _ _ a _ r _ n.1 b.0 b.1 b.3 b.4
+    _ _ _ (c.value_at-x.ensures ∙ sym (name-value _ _ _ c.args.table.now.source.same_length _ r.id _ r.label)) c.emit.ensures (c.emit_type.ensures types f 8 r.type r.next b.0 s h r.typed b.2)
 
-pub emit_fields-returns-in-Refused : goal.emit_fields-returns-in-Refused
-emit_fields-returns-in-Refused t c = λ types f fs q es s h g d. absurd (field-not-refused _ _ _ _ fs q c.if-left-eq0.false g _ c.read_name-label.ensures _ c.in-Refused.is)
+pub emit_fields-returns : goal.emit_fields-returns
+emit_fields-returns t c = λ types f fs q es s h g d. fields-end (default_named types f) _ _ _ _ _ q _ _ (c.loop.invariant types f fs q es s h g d) c.loop-test.false
 
-pub emit_fields-returns-in-Refused-rest : goal.emit_fields-returns-in-Refused-rest
-emit_fields-returns-in-Refused-rest t c = λ types f fs q es s h g d. let r = field-read _ _ _ _ fs q c.if-left-eq0.false g _ c.read_name-label.ensures _ c.in-Next.is in absurd (field-typed _ _ _ _ _ fs q r _ c.read_type-rest.ensures _ c.in-Refused-rest.is)
-
-pub emit_fields-returns-in-Next-rest : goal.emit_fields-returns-in-Next-rest
-emit_fields-returns-in-Next-rest t c = λ types f fs q es s h g d. let r = field-read _ _ _ _ fs q c.if-left-eq0.false g _ c.read_name-label.ensures _ c.in-Next.is in let a = field-default (default_named types _) fs _ r.rest es r.whole d in
-    wrote-field _ r.id a.0 a.1 es _ _ _ _ _ _ (c.value_at-x.ensures ∙ sym (name-value _ _ _ c.requires.values_len _ r.id _ r.label)) a.4 (ap (map (λ (k : Declared). k.name)) r.whole) c.emit-a.ensures (c.emit_type-b.ensures types f 8 r.type r.next a.0 s h r.typed a.2) (c.emit_fields.ensures types f r.rest q a.1 s h (field_next _ _ _ _ _ fs q r _ c.read_type-rest.ensures _ c.in-Next-rest.is) a.3)
-
-pub emit_named-returns-then-n-k : goal.emit_named-returns-then-n-k
-emit_named-returns-then-n-k t c = λ types f e s h d. absurd (not-unnamed _ _ _ _ types s _ _ f (c.find_definition-k.ensures types (named _ _ _ c.requires.values_len _ _ types s)) e d c.if-n-k.true)
+pub emit_named-returns-in_default : goal.emit_named-returns-in_default
+emit_named-returns-in_default t c = λ types f e s h d. absurd (not-unnamed _ _ _ _ types s _ f e d (c.in_default.ensures.first types (named _ _ _ c.args.table.now.source.same_length _ _ types s)))
 
 pub emit_named-returns : goal.emit_named-returns
-emit_named-returns t c = λ types f e s h d. let a = definition-default _ _ _ _ types s _ _ f (c.find_definition-k.ensures types (named _ _ _ c.requires.values_len _ _ types s)) e d c.if-n-k.false _ h in c.emit_definition.ensures types a.0 (def_at types c.find_definition-k.result) a.1 e s a.2 a.3 a.4
+emit_named-returns t c = λ types f e s h d. let k = c.in-Some.ensures.first types (named _ _ _ c.args.table.now.source.same_length _ _ types s) in let a = definition-default _ _ _ _ types s _ f e d c.in-Some.first k.0 k.1 _ h in c.emit_definition.ensures types a.0 (def_at types c.in-Some.first) a.1 e s a.2 a.3 a.4
 
-pub emit_type-returns-then-w-eq-FULL : goal.emit_type-returns-then-w-eq-FULL
-emit_type-returns-then-w-eq-FULL t c = λ types f v y q e s h g d. sym (emits-stuck _ _ c.if-w-eq-FULL.true)
+pub emit_type-returns-then-is_full : goal.emit_type-returns-then-is_full
+emit_type-returns-then-is_full t c = λ types f v y q e s h g d. sym (emits-stuck _ _ (c.is_full.ensures.0 c.if-is_full.true))
 
 pub emit_type-returns-then-depth-eq0 : goal.emit_type-returns-then-depth-eq0
 emit_type-returns-then-depth-eq0 t c = λ types f v y q e s h g d. absurd (omega (arith, h, c.if-depth-eq0.true))
 
-pub emit_type-returns-in-Refused : goal.emit_type-returns-in-Refused
-emit_type-returns-in-Refused t c = λ types f v y q e s h g d. absurd (type-not-refused _ _ _ _ c.type_head-head.ensures v y q g _ c.in-Refused.is)
+pub emit_type-returns-in_default : goal.emit_type-returns-in_default
+emit_type-returns-in_default t c = λ types f v y q e s h g d. absurd (type-not-refused _ _ _ _ c.type_head.ensures v y q g _ c.in_default.is)
 
 pub emit_type-returns-in-Basic : goal.emit_type-returns-in-Basic
-emit_type-returns-in-Basic t c = λ types f v y q e s h g d. wrote-basic (default_named types f) y e d _ _ _ _ (type-is-basic _ _ _ _ c.type_head-head.ensures v y q g _ _ c.in-Token.is _ c.in-Basic.is) c.default_literal-l.ensures c.emit_literal.ensures
+emit_type-returns-in-Basic t c = λ types f v y q e s h g d. wrote-basic (default_named types f) y e d _ _ _ _ (type-is-basic _ _ _ _ c.type_head.ensures v y q g _ _ c.in-Ok.is _ c.in-Basic.is) c.default_literal.ensures c.emit_literal.ensures
 
 pub emit_type-returns-in-Named : goal.emit_type-returns-in-Named
-emit_type-returns-in-Named t c = λ types f v y q e s h g d. c.emit_named.ensures types f e s (omega (arith, h, c.if-depth-eq0.false)) (named-default (default_named types f) y e _ d (type-is-named _ _ _ _ c.type_head-head.ensures v y q g _ _ c.in-Token.is _ c.in-Named.is))
+emit_type-returns-in-Named t c = λ types f v y q e s h g d. c.emit_named.ensures types f e s (omega (arith, h, c.if-depth-eq0.false)) (named-default (default_named types f) y e _ d (type-is-named _ _ _ _ c.type_head.ensures v y q g _ _ c.in-Ok.is _ c.in-Named.is))
 
 pub emit_type-returns-in-Array : goal.emit_type-returns-in-Array
-emit_type-returns-in-Array t c = λ types f v y q e s h g d. let a = type-is-array _ _ _ _ c.type_head-head.ensures v y q g _ _ c.in-Token.is _ c.in-Array.is in let b = element-default (default_named types f) y e d a.0 _ a.4 in wrote-same e _ _ _ b.2 (c.emit_array.ensures types f _ a.0 q b.0 s (omega (arith, h, a.1, c.if-depth-eq0.false)) a.3 b.1)
+emit_type-returns-in-Array t c = λ types f v y q e s h g d. let a = type-is-array _ _ _ _ c.type_head.ensures v y q g _ _ c.in-Ok.is _ c.in-Array.is in let b = element-default (default_named types f) y e d a.0 _ a.4 in wrote-same e _ _ _ b.2 (c.emit_array.ensures types f _ a.0 q b.0 s (omega (arith, h, a.1, c.if-depth-eq0.false)) a.3 b.1)

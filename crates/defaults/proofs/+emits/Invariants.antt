@@ -1,23 +1,49 @@
 -- `defaults::emit_type` and the functions that it calls meet their contracts: the default is written by its parts.
--- The measure falls with the depth at each type, then at each copy or field.
+-- The measure falls with the depth at each type. What is left to write makes the whole.
 -- Assumes nothing.
-use Prim.Native.Nat.{◌+◌, ◌*◌, ◌^◌}
+use mathlib.Core.Path.{◌≡◌}
+use mathlib.Core.List.{List, map}
+use mathlib.Core.Option.{some}
+use Prim.Native.Nat.{ℕ, suc, ◌+◌, ◌-◌, ◌*◌}
+use Rattle.grammar.specs.Read.{tokens_of}
+use Rattle.definitions.specs.Lists.{join}
+use Rattle.definitions.specs.Tree.{Ty, Declared, TypeDef, Expr, Exprs}
+use Rattle.definitions.specs.Reading.{got, times}
+use Rattle.definitions.specs.Grammar.{ty, declaration}
+use Rattle.definitions.specs.Types.{copies, default_by, defaults_by, default_named}
+use Rattle.definitions.specs.Output.{field_tokens, operand_tokens}
+use Rattle.layout.specs.Table.{Table}
+use Rattle.emit.specs.Out.{emits}
+use Rattle.defaults.specs.Depth.{Enough}
+use Rattle.defaults.proofs.Written.{FieldsLeft}
 use Rattle.defaults.proofs.+emits.Given as goal
 
 abbrev pub decreases-emit_array : goal.decreases-emit_array
-decreases-emit_array l = l.depth * 2 ^ 40 + 2 ^ 34
+decreases-emit_array l = 4 * l.depth + 2
 
 abbrev pub decreases-emit_copies : goal.decreases-emit_copies
-decreases-emit_copies l = l.depth * 2 ^ 40 + l.m + 1
+decreases-emit_copies l = 4 * l.depth + 1
 
 abbrev pub decreases-emit_definition : goal.decreases-emit_definition
-decreases-emit_definition l = l.depth * 2 ^ 40 + 2 ^ 34
+decreases-emit_definition l = 4 * l.depth + 2
 
 abbrev pub decreases-emit_fields : goal.decreases-emit_fields
-decreases-emit_fields l = l.depth * 2 ^ 40 + l.left + 1
+decreases-emit_fields l = 4 * l.depth + 1
 
 abbrev pub decreases-emit_named : goal.decreases-emit_named
-decreases-emit_named l = l.depth * 2 ^ 40 + 2 ^ 35
+decreases-emit_named l = 4 * l.depth + 3
 
 abbrev pub decreases-emit_type : goal.decreases-emit_type
-decreases-emit_type l = l.depth * 2 ^ 40
+decreases-emit_type l = 4 * l.depth
+
+abbrev pub invariant-emit_copies-loop : goal.invariant-emit_copies-loop
+invariant-emit_copies-loop l =
+    let s = l.table.source in
+    (types : List TypeDef) (fuel levels : ℕ) (t : Ty) (q : ℕ) (e : Expr) → Table s.names (tokens_of s) l.table.places.now.at l.table.places.now.count types → Enough l.depth fuel (suc levels) → ty s.names levels (tokens_of s) l.at ≡ got t q → default_by (default_named types fuel) t ≡ some e →
+    emits l.initial.output (join (operand_tokens (copies l.m e))) ≡ emits l.output (join (operand_tokens (copies (l.m - l.counter) e)))
+
+abbrev pub invariant-emit_fields-loop : goal.invariant-emit_fields-loop
+invariant-emit_fields-loop l =
+    let s = l.table.source in
+    (types : List TypeDef) (fuel : ℕ) (fs : List Declared) (q : ℕ) (es : Exprs) → Table s.names (tokens_of s) l.table.places.now.at l.table.places.now.count types → Enough l.depth fuel 9 → times l.count (declaration s.names) (tokens_of s) l.at ≡ got fs q → defaults_by (default_named types fuel) fs ≡ some es →
+    FieldsLeft (default_named types fuel) s.names (tokens_of s) (l.count - l.counter) l.place q (emits l.initial.output (field_tokens (map (λ f. f.name) fs) (operand_tokens es))) l.output

@@ -1,18 +1,9 @@
--- `defaults::emit_literals` meets its contract: what is left to write makes the whole. The measure is the number left.
--- Assumes nothing.
-use mathlib.Core.Path.{refl, sym, ◌∙◌}
-use Rattle.emit.proofs.Laws.{emits-stuck}
-use Rattle.defaults.proofs.Written.{literals-more, literals-none}
+-- `defaults::emit_literals` meets its contract: an int and a float have a high word. Assumes nothing.
+use Rattle.defaults.proofs.Written.{many-bool, many-char}
 use Rattle.defaults.proofs.emit_literals.Goals as goal
 
-pub loop-left-init : goal.loop-left-init
-loop-left-init c = refl
+pub returns-in-Bool : goal.returns-in-Bool
+returns-in-Bool c = many-bool _ _ _ _ _ c.in-Bool.is c.emit_many.ensures
 
-pub returns-then-next-eq-FULL : goal.returns-then-next-eq-FULL
-returns-then-next-eq-FULL c = sym (c.loop-left.invariant ∙ emits-stuck _ _ c.if-next-eq-FULL.true)
-
-pub loop-left-preserved : goal.loop-left-preserved
-loop-left-preserved c = literals-more _ _ _ _ _ c.loop-left-test.true c.emit_literal-next.ensures c.loop-left.invariant
-
-pub returns : goal.returns
-returns c = literals-none _ _ _ _ c.loop-left-test.false c.loop-left.invariant
+pub returns-in-Char : goal.returns-in-Char
+returns-in-Char c = many-char _ _ _ _ _ c.in-Char.is c.emit_many-in-Char.ensures

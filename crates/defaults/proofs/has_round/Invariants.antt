@@ -1,16 +1,9 @@
--- `defaults::has_round` meets its contract: the bytes so far are those of the next round. The measure is what is left of n.
+-- `defaults::has_round` meets its contract: those passed are right.
 -- Assumes nothing.
-use mathlib.Core.Path.{◌≡◌}
-use mathlib.Core.Bool.{◌&&◌}
-use Prim.Native.Nat.{ℕ, ◌-◌, ◌≤◌, ◌<◌}
-use lib.Dec.{eqb}
-use lib.ListN.{length, get_or}
-use Rattle.cycles.specs.Edges.{bit, inside}
+use Rattle.std.specs.Prelude.{◌≡◌, ◌↔◌, true, false, ℕ, ◌<◌, length, get_or}
+use Rattle.cycles.specs.Edges.{row_at, IsWithin}
 use Rattle.defaults.proofs.has_round.Given as goal
 
 abbrev pub invariant-loop-i : goal.invariant-loop-i
 invariant-loop-i l =
-    (l.i ≤ l.n) × (length l.more ≡ 32) × ((m : ℕ) → m < l.i → get_or l.more m 0 ≡ bit (eqb (get_or l.own m 0) 1 && inside l.go l.has m l.n))
-
-abbrev pub decreases-loop-i : goal.decreases-loop-i
-decreases-loop-i l = l.n - l.i
+    (length l.more ≡ 32) × ((k : ℕ) → k < l.i → (get_or l.more k false ≡ true) ↔ (((row_at l.graph k).own ≡ true) × IsWithin l.graph.count (row_at l.graph k).set l.has))

@@ -3,4 +3,4 @@ use Rattle.emit.proofs.NodePartsLaws.{front-types}
 use Rattle.emit.proofs.put_types.Goals as goal
 
 pub returns : goal.returns
-returns c = λ M s h. front-types M _ s _ _ _ _ h c.put_items-next.ensures c.emit.ensures
+returns c = λ M s h. front-types M _ s _ _ _ _ h c.put_items.ensures c.emit.ensures

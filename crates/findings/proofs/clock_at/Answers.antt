@@ -1,5 +1,5 @@
 -- Past the end of the table there is the base clock.
--- Assumes nothing.
+
 use mathlib.Core.Path.{sym, ◌∙◌}
 use native.Mathlib.Omega.{arith}
 use Rattle.clock_tables.proofs.FlatLaws.{clock-past}

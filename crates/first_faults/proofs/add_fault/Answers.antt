@@ -1,25 +1,16 @@
 -- `first_faults::add_fault` meets its contract. Assumes nothing.
 use native.Mathlib.Omega.{arith}
+use mathlib.Core.Path.{sym, ◌∙◌, ap}
+use Rattle.findings.specs.Value.{found_of}
 use Rattle.first_faults.proofs.Records.{record-none, record-past, record-more}
 use Rattle.first_faults.proofs.add_fault.Goals as goal
+use Rattle.first_faults.proofs.add_fault.Goals.{then-m-list, else-m-list}
 
-pub returns-then-room-m : goal.returns-then-room-m
-returns-then-room-m c =
-    record {
-      upper_bound = omega arith;
-      by_index = λ lent l fs h e. record-past lent l _ _ h _ fs _ _ _ e c.if-f.true (omega (arith, c.if-room-m.true));
-    }
+pub returns-in-None-clause-by_index : goal.returns-in-None-clause-by_index
+returns-in-None-clause-by_index c = λ lent l fs h e. record-none lent l _ _ h _ fs (sym (ap found_of c.in-None.is) ∙ e)
 
-pub returns-then-f : goal.returns-then-f
-returns-then-f c =
-    record {
-      upper_bound = omega arith;
-      by_index = λ lent l fs h e. record-more lent l _ _ h _ fs _ _ _ e c.if-f.true (omega (arith, c.if-room-m.false)) _ _ c.fault_number-number.ensures c.put_record.ensures;
-    }
-
-pub returns : goal.returns
-returns c =
-    record {
-      upper_bound = omega arith;
-      by_index = λ lent l fs h e. record-none lent l _ _ h _ fs _ _ _ e c.if-f.false;
-    }
+pub returns-after-m-list-clause-by_index : goal.returns-after-m-list-clause-by_index
+returns-after-m-list-clause-by_index c = elim c.if-m-list.branch [
+  | then-m-list w ↦ rw w.list-is (λ lent l fs h e. record-more lent l _ _ h _ fs _ (sym (ap found_of c.in-Some.is) ∙ e) (omega (arith, w.if-m-list.true)) _ _ w.fault_number-number.ensures w.put_record.ensures)
+  | else-m-list w ↦ rw w.list-is (λ lent l fs h e. record-past lent l _ _ h _ fs _ (sym (ap found_of c.in-Some.is) ∙ e) (omega (arith, w.if-m-list.false)))
+]

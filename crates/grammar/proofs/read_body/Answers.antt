@@ -1,10 +1,11 @@
--- `grammar::read_body` meets its contract: equations, then probes.
--- Assumes nothing.
-use Rattle.grammar.proofs.Parts.{body_more, body-stop, items-end}
+use Rattle.std.proofs.Common.{rules}
+use Rattle.definitions.specs.Grammar.{probe}
+use Rattle.grammar.specs.Outcome.{outcome}
+use Rattle.grammar.specs.Read.{tokens_of}
+use Rattle.grammar.proofs.Parts.{body_more, listed-all}
 use Rattle.grammar.proofs.read_body.Goals as goal
 
-pub returns-in-Next : goal.returns-in-Next
-returns-in-Next c = body_more _ _ _ _ c.read_equations-equations.ensures _ _ c.in-Next.is (items-end _ _ _ _ _ _ _ _ c.end_of.ensures c.read_list.ensures)
-
-pub returns-in-Refused : goal.returns-in-Refused
-returns-in-Refused c = body-stop _ _ _ _ c.read_equations-equations.ensures _ c.in-Refused.is
+pub returns : goal.returns
+returns c =
+    let a = c.args.source.now in
+    body_more _ _ _ _ c.read_equations.ensures _ _ c.in_ok-next.was (listed-all (probe a.names) _ _ _ _ _ _ c.read_count.ensures _ _ _ c.in_ok-n.was (c.read_times.ensures (λ q. outcome (probe a.names (tokens_of a) q)) (λ p s h. search rules)))

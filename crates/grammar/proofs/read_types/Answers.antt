@@ -1,25 +1,14 @@
--- `grammar::read_types` meets its contract: what is left to read has the outcome of the whole list. The measure is the number left.
--- Assumes nothing.
-use Rattle.definitions.specs.Bytes.{tokens}
+-- A count, then a list that is read in one loop.
 use Rattle.definitions.specs.Grammar.{type_def}
+use Rattle.grammar.specs.Outcome.{outcome}
 use Rattle.grammar.specs.Parts.{sheet_types}
-use Rattle.grammar.proofs.Laws.{times-ends, times_goes, times-stops}
-use Rattle.grammar.proofs.Parts.{listed_more, listed-stop}
+use Rattle.grammar.specs.Read.{tokens_of}
+use Rattle.std.proofs.Common.{rules}
+use Rattle.grammar.proofs.Parts.{listed-all}
 use Rattle.grammar.proofs.read_types.Goals as goal
 
-pub loop-left-init : goal.loop-left-init
+pub returns : goal.returns
 unfolding sheet_types
-loop-left-init c = let a = c.args in listed_more (type_def a.names) 1 0 32 (tokens a.tags.now a.values.now) a.at _ c.read_count-count.ensures _ _ c.in-Count.is
-
-pub loop-left-preserved : goal.loop-left-preserved
-loop-left-preserved c = times_goes _ _ _ _ _ _ _ c.loop-left-test.true c.read_definition-item.ensures c.in-Next.is c.loop-left.invariant
-
-pub returns-in-Refused-item : goal.returns-in-Refused-item
-returns-in-Refused-item c = times-stops _ _ _ _ _ _ _ c.loop-left-test.true c.read_definition-item.ensures c.in-Refused-item.is c.loop-left.invariant
-
-pub returns-after-loop-left : goal.returns-after-loop-left
-returns-after-loop-left c = times-ends _ _ _ _ _ c.loop-left-test.false c.loop-left.invariant
-
-pub returns-in-Refused : goal.returns-in-Refused
-unfolding sheet_types
-returns-in-Refused c = let a = c.args in listed-stop (type_def a.names) 1 0 32 (tokens a.tags.now a.values.now) a.at _ c.read_count-count.ensures _ c.in-Refused.is
+returns c =
+    let a = c.args.source.now in
+    listed-all (type_def a.names) 1 0 32 (tokens_of a) c.args.at _ c.read_count.ensures _ _ _ c.in_ok-n.was (c.read_times.ensures (λ q. outcome (type_def a.names (tokens_of a) q)) (λ p s h. search rules))

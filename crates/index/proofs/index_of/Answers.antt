@@ -1,12 +1,10 @@
 -- `index::index_of` meets its contract. Assumes nothing.
-use mathlib.Core.Path.{refl}
-use native.Mathlib.Omega.{arith}
-use Rattle.index.proofs.Laws.{indexed}
+use Rattle.layout.proofs.Laws.{types-placed, nodes-placed}
 use Rattle.index.proofs.index_of.Goals as goal
 
-pub returns : goal.returns
-returns c =
-    record {
-      names_value = (refl, omega (arith, c.least-nodes.ensures), omega (arith, c.least-types.ensures));
-      indexed = λ i q g e. indexed _ _ _ _ _ _ _ _ _ _ _ c.sheet_at-whole.result i (c.sheet_at-whole.ensures i.sheet q g) c.wide.ensures (omega (arith, c.least-types.ensures), λ h. omega (arith, c.least-types.ensures, h)) c.wide-2.ensures (omega (arith, c.least-nodes.ensures), λ h. omega (arith, c.least-nodes.ensures, h)) c.definition_places-defs.ensures c.has_defaults-has.ensures c.node_places-places.ensures e;
-    }
+pub returns-clause-indexed : goal.returns-clause-indexed
+returns-clause-indexed c = λ i q g e.
+    let l = c.sheet_at-whole.ensures i.sheet q g in
+    let t = types-placed _ _ i.sheet c.sheet_at-whole.result l c.min.result c.definition_places-types.result.count c.definition_places-types.result.at c.min.ensures c.definition_places-types.ensures.count c.definition_places-types.ensures.table in
+    let n = nodes-placed _ _ i.sheet c.sheet_at-whole.result l c.min-2.result c.node_places-nodes.result.count c.node_places-nodes.result.at c.min-2.ensures c.node_places-nodes.ensures.count c.node_places-nodes.ensures.places in
+    record { laid = l; nodes = record { count = n.0; each = n.1 }; types = t; defaulted = c.has_defaults-has.ensures i.sheet.types t; condact = e }

@@ -1,17 +1,20 @@
--- `infer_clocks::chain_rows` meets its contract: there are no more sites than findings. Assumes nothing.
+-- There are no more sites than findings.
+use mathlib.Core.Path.{◌≡◌}
 use native.Mathlib.Omega.{arith}
-use Rattle.infer_clocks.proofs.Laws.{has-none, sites-fit, chains-sorted}
+use Rattle.clock_tables.proofs.RowsLaws.{has-none}
+use Rattle.infer_clocks.proofs.Laws.{sites-fit, chains-sorted}
 use mathlib.Core.List.{[]}
 use Rattle.infer_clocks.proofs.chain_rows.Goals as goal
 
-pub returns-then-chain-m : goal.returns-then-chain-m
-returns-then-chain-m c =
-    λ u v w. let h = sites-fit c.args.table.now c.args.rows.now c.list_sites-m.new.rows _ _ u c.list_sites-m.ensures.rows_len_unchanged (c.list_sites-m.ensures.rows_hold [] (has-none _)) in absurd (omega (arith, h, v, c.if-chain-m.true))
+pub returns-then-chain-count : goal.returns-then-chain-count
+returns-then-chain-count c =
+    λ u v w. let h = sites-fit c.args.findings.words.now c.args.rows.now c.site_rows-count.new.rows _ _ u c.site_rows-count.ensures.same_length (c.site_rows-count.ensures.held [] (has-none _)) in absurd (omega (arith, h, v, c.if-chain-count.true))
 
-pub returns-then-m-gt4294967295 : goal.returns-then-m-gt4294967295
-returns-then-m-gt4294967295 c =
-    λ u v w. let h = sites-fit c.args.table.now c.args.rows.now c.list_sites-m.new.rows _ _ u c.list_sites-m.ensures.rows_len_unchanged (c.list_sites-m.ensures.rows_hold [] (has-none _)) in absurd (omega (arith, h, w, c.if-m-gt4294967295.true))
+pub returns-in-Ok : goal.returns-in-Ok
+returns-in-Ok c =
+    let e : c.in-Ok.n ≡ c.site_rows-count.result = omega (arith, c.in-Ok.ensures) in
+    λ u v w. chains-sorted c.args.findings.words.now c.args.rows.now c.site_rows-count.new.rows _ _ u c.site_rows-count.ensures.same_length (c.site_rows-count.ensures.held [] (has-none _)) _ _ (rw e at c.sort_rows.ensures.result_after)
 
-pub returns : goal.returns
-returns c =
-    λ u v w. chains-sorted c.args.table.now c.args.rows.now c.list_sites-m.new.rows _ _ u c.list_sites-m.ensures.rows_len_unchanged (c.list_sites-m.ensures.rows_hold [] (has-none _)) _ _ c.sort_rows.ensures.result_after
+pub returns-in-Err : goal.returns-in-Err
+returns-in-Err c =
+    λ u v w. let h = sites-fit c.args.findings.words.now c.args.rows.now c.site_rows-count.new.rows _ _ u c.site_rows-count.ensures.same_length (c.site_rows-count.ensures.held [] (has-none _)) in absurd (omega (arith, h, w, c.in-Err.ensures))

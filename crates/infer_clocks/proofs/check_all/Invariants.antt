@@ -1,4 +1,4 @@
--- `infer_clocks::check_all` meets its contract: what is found so far, then the rest, is all. The measure is the number left. Assumes nothing.
+-- What is found so far, then the rest, is all.
 use mathlib.Core.Path.{◌≡◌}
 use mathlib.Core.List.{List}
 use Prim.Native.Nat.{ℕ, ◌-◌, ◌*◌, ◌≤◌}
@@ -6,20 +6,17 @@ use lib.ListN.{length}
 use Rattle.definitions.specs.Bytes.{tokens}
 use Rattle.definitions.specs.Tree.{Equation, Node}
 use Rattle.definitions.specs.Reading.{got, times}
-use Rattle.definitions.specs.Grammar.{equation, node}
+use Rattle.definitions.specs.Grammar.{equation}
 use Rattle.definitions.specs.InferClocks.{Clocks, Clocked, formed, clocked_by}
 use Rattle.clock_tables.specs.Environment.{Agrees}
-use Rattle.checking.specs.Walk.{PortMarks}
+use Rattle.checking.specs.Walk.{PortMarks, Stays}
 use Rattle.infer_clocks.specs.Clocked.{found_from}
 use Rattle.infer_clocks.proofs.Laws.{Going}
 use Rattle.infer_clocks.proofs.Sites.{Siting}
 use Rattle.infer_clocks.proofs.check_all.Given as goal
 
-abbrev pub invariant-loop-k : goal.invariant-loop-k
-invariant-loop-k l =
-    (length l.table ≡ length l.initial.table) × (length l.sites ≡ length l.initial.sites)
-    × ((node : Node) (clocks : Clocks) (es : List Equation) (q : ℕ) → Agrees l.env l.names clocks → PortMarks l.ports l.names node → times l.count (equation l.names) (tokens l.tags l.values) l.at ≡ got es q → Going l.names (tokens l.tags l.values) node clocks l.table (l.count - l.k) l.k l.place l.n q (found_from node clocks 0 es))
-    × ((node : Node) (clocks : Clocks) (es : List Equation) (q : ℕ) (cs : List Clocked) → Agrees l.env l.names clocks → times l.count (equation l.names) (tokens l.tags l.values) l.at ≡ got es q → 17 * length l.tags ≤ length l.initial.sites → clocked_by clocks es ≡ formed cs → Siting l.names l.tags l.values l.sites node clocks (l.count - l.k) l.k l.place l.at q cs)
-
-abbrev pub decreases-loop-k : goal.decreases-loop-k
-decreases-loop-k l = l.count - l.k
+abbrev pub invariant-loop-equation : goal.invariant-loop-equation
+invariant-loop-equation l =
+    Stays l.initial.output l.output
+    × ((node : Node) (clocks : Clocks) (es : List Equation) (q : ℕ) → Agrees l.input.env.now l.input.source.names clocks → PortMarks l.input.ports.now l.input.source.names node → times l.fn.equations.count (equation l.input.source.names) (tokens l.input.source.tags.now l.input.source.values.now) l.fn.equations.at ≡ got es q → l.initial.output.findings.now.count ≡ 0 → Going l.input.source.names (tokens l.input.source.tags.now l.input.source.values.now) node clocks l.output (l.fn.equations.count - l.equation) l.equation l.place q (found_from node clocks 0 es))
+    × ((node : Node) (clocks : Clocks) (es : List Equation) (q : ℕ) (cs : List Clocked) → Agrees l.input.env.now l.input.source.names clocks → times l.fn.equations.count (equation l.input.source.names) (tokens l.input.source.tags.now l.input.source.values.now) l.fn.equations.at ≡ got es q → 17 * length l.input.source.tags.now ≤ length l.initial.output.sites.now → clocked_by clocks es ≡ formed cs → Siting l.input.source.names l.input.source.tags.now l.input.source.values.now l.output.sites.now node clocks (l.fn.equations.count - l.equation) l.equation l.place l.fn.equations.at q cs)

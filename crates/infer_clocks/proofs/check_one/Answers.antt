@@ -1,20 +1,21 @@
--- `infer_clocks::check_one` meets its contract: by whether the natural clock is too deep. Assumes nothing.
-use Rattle.definitions.specs.Grammar.{node}
-use Rattle.infer_clocks.proofs.Laws.{one-deep, one_found}
-use Rattle.infer_clocks.proofs.Sites.{formed-not-deep, stored_on}
-use mathlib.Core.Path.{◌∙◌}
+-- By whether the natural clock is too deep.
+use mathlib.Core.Path.{sym, ap, ◌∙◌}
+use Rattle.std.proofs.lemmas.Result.{err_from_is_err_and}
+use Rattle.definitions.specs.InferClocks.{or_base}
+use Rattle.clock_tables.specs.Value.{natural_of, option_of}
+use Rattle.infer_clocks.proofs.Laws.{or_value, one-deep, one_found}
+use Rattle.infer_clocks.proofs.Sites.{formed-value, stored_on}
 use Rattle.infer_clocks.proofs.check_one.Goals as goal
 
-pub returns-then-is_deep : goal.returns-then-is_deep
-returns-then-is_deep c =
-    record {
-      tallied = λ node clocks e q fs a b g h w. one-deep node clocks _ fs _ e _ _ (c.natural_clock-own.ensures e.right q clocks h a) c.is_deep.ensures c.if-is_deep.true;
-      equation_stored = λ clocks e q o a g h w. absurd (formed-not-deep _ _ o (c.natural_clock-own.ensures e.right q clocks h a ∙ w) c.is_deep.ensures c.if-is_deep.true);
-    }
+pub returns-in_err-own-clause-tallied : goal.returns-in_err-own-clause-tallied
+returns-in_err-own-clause-tallied c = λ node clocks e q fs a b g h w.
+    let v = err_from_is_err_and c.from_residual.result c.from_residual.ensures.1 in
+    rw v.1 (one-deep node clocks _ fs _ e _ _ _ _ (c.natural_clock.ensures e.right q clocks h a) c.in_err-own.was)
 
-pub returns : goal.returns
-returns c =
-    record {
-      tallied = λ node clocks e q fs a b g h w. one_found node clocks _ fs _ e _ _ _ _ (c.natural_clock-own.ensures e.right q clocks h a) c.is_deep.ensures c.if-is_deep.false c.or_base-c.ensures (c.check_equation-w.ensures.checked node clocks e q fs a b g w).holds;
-      equation_stored = λ clocks e q o a g h w. stored_on (c.or_base-c.ensures o (c.natural_clock-own.ensures e.right q clocks h a ∙ w)) (c.check_equation-w.ensures.equation_stored e q g);
-    }
+pub returns-clause-tallied : goal.returns-clause-tallied
+returns-clause-tallied c = λ node clocks e q fs a b g h w. one_found node clocks _ fs _ e _ _ _ _ (c.natural_clock.ensures e.right q clocks h a) c.in_ok-own.was (or_value _ _ _ c.base.ensures c.unwrap_or-on.ensures) (c.check_equation.ensures.held node clocks e q fs a b g w)
+
+pub returns-clause-equation_stored : goal.returns-clause-equation_stored
+returns-clause-equation_stored c = λ clocks e q o a g h w.
+    let k = formed-value _ (option_of c.in_ok-own.own) o (sym (c.natural_clock.ensures e.right q clocks h a) ∙ ap natural_of c.in_ok-own.was) w in
+    stored_on (or_value _ _ _ c.base.ensures c.unwrap_or-on.ensures ∙ ap or_base k) (c.check_equation.ensures.stored e q g)

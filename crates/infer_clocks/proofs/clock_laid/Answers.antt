@@ -1,49 +1,48 @@
--- `infer_clocks::clock_laid` meets its contract: its parts, one after another. Assumes nothing.
-use mathlib.Core.List.{[]}
-use Rattle.infer_clocks.proofs.Laws.{laid-deep, laid-sunk, laid-found, laid-told, still, room-stays}
-use Rattle.infer_clocks.proofs.Sites.{told-not-deep, inferred-here, node-parts, told-by}
+-- Its parts, one after another.
+use mathlib.Core.Path.{ap}
+use Rattle.std.specs.Prelude.{is_ok}
+use Rattle.std.proofs.lemmas.Result.{err_from_is_err_and}
+use Rattle.infer_clocks.proofs.Laws.{told-deep, formed-not-deep, laid-deep, laid-sunk, laid-found, laid-told, room-stays}
+use Rattle.infer_clocks.proofs.Sites.{inferred-here, node-parts, told-by}
 use Rattle.infer_clocks.proofs.clock_laid.Goals as goal
 
-pub returns-then-any_deep : goal.returns-then-any_deep
-returns-then-any_deep c =
-    record {
-      clocked_or_deep = λ n q l u v x y.
-          let f = c.infer-inferred.ensures n q l u v in
-          laid-found _ _ n _ c.infer-inferred.new.marks c.widen.new.ports _ _ _ _ _ _ _ c.in-Passes.is f.1 f.0 (c.widen.ensures (still _ _ _ v c.infer-inferred.auto.marks) x) l.equations.items c.check_all-found.ensures.tallied _ c.in-Count.is (room-stays c.args.tags.now c.args.values.now c.args.table.now c.check_all-found.new.table c.requires y c.check_all-found.auto.table) _ c.any_deep.ensures c.if-any_deep.true;
-      sites_told = λ n q k l g u v x y z.
-          absurd (told-not-deep _ _ _ n k g (let f = c.infer-inferred.ensures n q l u v in
-          laid-found _ _ n _ c.infer-inferred.new.marks c.widen.new.ports _ _ _ _ _ _ _ c.in-Passes.is f.1 f.0 (c.widen.ensures (still _ _ _ v c.infer-inferred.auto.marks) x) l.equations.items c.check_all-found.ensures.tallied _ c.in-Count.is (room-stays c.args.tags.now c.args.values.now c.args.table.now c.check_all-found.new.table c.requires y c.check_all-found.auto.table) _ c.any_deep.ensures c.if-any_deep.true));
-    }
+pub returns-in_err-passes-clause-clocked_or_deep : goal.returns-in_err-passes-clause-clocked_or_deep
+returns-in_err-passes-clause-clocked_or_deep c = λ n q l u v y.
+    let e = err_from_is_err_and c.from_residual.result c.from_residual.ensures.1 in
+    rw e.1 (told-deep _ _ _ n _ (laid-deep _ n _ _ _ c.in_err-passes.was (c.infer.ensures n q l u v).1))
 
-pub returns-in-Deep : goal.returns-in-Deep
-returns-in-Deep c =
-    record {
-      clocked_or_deep = λ n q l u v x y.
-          let f = c.infer-inferred.ensures n q l u v in laid-deep _ n _ _ _ _ c.in-Deep.is f.1;
-      sites_told = λ n q k l g u v x y z.
-          absurd (told-not-deep [] [] _ n k g (let f = c.infer-inferred.ensures n q l u v in laid-deep _ n _ [] [] _ c.in-Deep.is f.1));
-    }
+pub returns-in_err-passes-clause-sites_told : goal.returns-in_err-passes-clause-sites_told
+returns-in_err-passes-clause-sites_told c = λ n q k l g u v y z. absurd (formed-not-deep n k g (laid-deep _ n _ _ _ c.in_err-passes.was (c.infer.ensures n q l u v).1))
 
-pub returns-in-Deep-found : goal.returns-in-Deep-found
-returns-in-Deep-found c =
-    record {
-      clocked_or_deep = λ n q l u v x y.
-          let f = c.infer-inferred.ensures n q l u v in
-          laid-sunk _ _ n _ c.infer-inferred.new.marks c.widen.new.ports _ _ _ _ _ _ _ c.in-Passes.is f.1 f.0 (c.widen.ensures (still _ _ _ v c.infer-inferred.auto.marks) x) l.equations.items c.check_all-found.ensures.tallied c.in-Deep-found.is;
-      sites_told = λ n q k l g u v x y z.
-          absurd (told-not-deep _ _ _ n k g (let f = c.infer-inferred.ensures n q l u v in
-          laid-sunk _ _ n _ c.infer-inferred.new.marks c.widen.new.ports _ _ _ _ _ _ _ c.in-Passes.is f.1 f.0 (c.widen.ensures (still _ _ _ v c.infer-inferred.auto.marks) x) l.equations.items c.check_all-found.ensures.tallied c.in-Deep-found.is));
-    }
+pub returns-in_err-findings-clause-clocked_or_deep : goal.returns-in_err-findings-clause-clocked_or_deep
+returns-in_err-findings-clause-clocked_or_deep c = λ n q l u v y.
+    let f = c.infer.ensures n q l u v in
+    let e = err_from_is_err_and c.from_residual-in_err-findings.result c.from_residual-in_err-findings.ensures.1 in
+    rw e.1 (told-deep _ _ _ n _ (laid-sunk _ _ n _ c.infer.new.marks _ _ _ _ _ _ _ c.in_ok-passes.was f.1 f.0 l.equations.items c.check_node.ensures.counted _ c.in_err-findings.was))
 
-pub returns-else-any_deep : goal.returns-else-any_deep
-returns-else-any_deep c =
-    record {
-      clocked_or_deep = λ n q l u v x y.
-          let f = c.infer-inferred.ensures n q l u v in
-          laid-told _ _ n _ c.infer-inferred.new.marks c.widen.new.ports _ _ _ _ _ _ _ c.in-Passes.is f.1 f.0 (c.widen.ensures (still _ _ _ v c.infer-inferred.auto.marks) x) l.equations.items c.check_all-found.ensures.tallied _ c.in-Count.is (room-stays c.args.tags.now c.args.values.now c.args.table.now c.check_all-found.new.table c.requires y c.check_all-found.auto.table) _ c.any_deep.ensures c.if-any_deep.false;
-      sites_told = λ n q k l g u v x y z.
-          let f = c.infer-inferred.ensures n q l u v in
-          let m = inferred-here _ n _ _ _ c.in-Passes.is f.1 in
-          let t = node-parts n m.0 k m.1 g in
-          told-by t.1 (c.check_all-found.ensures.by_index _ n m.0.clocks n.equations _ k.equations c.in-Count.is m.2 l.equations.items z t.0);
-    }
+pub returns-in_err-findings-clause-sites_told : goal.returns-in_err-findings-clause-sites_told
+returns-in_err-findings-clause-sites_told c = λ n q k l g u v y z.
+    let f = c.infer.ensures n q l u v in
+    absurd (formed-not-deep n k g (laid-sunk _ _ n _ c.infer.new.marks _ _ _ _ _ _ _ c.in_ok-passes.was f.1 f.0 l.equations.items c.check_node.ensures.counted _ c.in_err-findings.was))
+
+pub returns-then-any_deep-clause-clocked_or_deep : goal.returns-then-any_deep-clause-clocked_or_deep
+returns-then-any_deep-clause-clocked_or_deep c = λ n q l u v y.
+    let f = c.infer.ensures n q l u v in
+    told-deep _ _ _ n _ (laid-found _ _ n _ c.infer.new.marks _ _ _ _ _ _ _ c.in_ok-passes.was f.1 f.0 l.equations.items c.check_node.ensures.counted _ c.in_ok-findings.was (room-stays c.args.source.now.tags.now c.args.source.now.values.now c.args.table.now _ c.args.source.now.same_length y c.check_node.auto.table) _ c.any_deep.ensures c.if-any_deep.true)
+
+pub returns-then-any_deep-clause-sites_told : goal.returns-then-any_deep-clause-sites_told
+returns-then-any_deep-clause-sites_told c = λ n q k l g u v y z.
+    let f = c.infer.ensures n q l u v in
+    absurd (formed-not-deep n k g (laid-found _ _ n _ c.infer.new.marks _ _ _ _ _ _ _ c.in_ok-passes.was f.1 f.0 l.equations.items c.check_node.ensures.counted _ c.in_ok-findings.was (room-stays c.args.source.now.tags.now c.args.source.now.values.now c.args.table.now _ c.args.source.now.same_length y c.check_node.auto.table) _ c.any_deep.ensures c.if-any_deep.true))
+
+pub returns-clause-clocked_or_deep : goal.returns-clause-clocked_or_deep
+returns-clause-clocked_or_deep c = λ n q l u v y.
+    let f = c.infer.ensures n q l u v in
+    laid-told _ _ n _ c.infer.new.marks _ _ _ _ _ _ _ c.in_ok-passes.was f.1 f.0 l.equations.items c.check_node.ensures.counted _ c.in_ok-findings.was (room-stays c.args.source.now.tags.now c.args.source.now.values.now c.args.table.now _ c.args.source.now.same_length y c.check_node.auto.table) _ c.any_deep.ensures c.if-any_deep.false
+
+pub returns-clause-sites_told : goal.returns-clause-sites_told
+returns-clause-sites_told c = λ n q k l g u v y z.
+    let f = c.infer.ensures n q l u v in
+    let m = inferred-here _ n _ _ _ c.in_ok-passes.was f.1 in
+    let t = node-parts n m.0 k m.1 g in
+    told-by t.1 (c.check_node.ensures.by_index n m.0.clocks n.equations _ k.equations (ap is_ok c.in_ok-findings.was) m.2 l.equations.items z t.0)

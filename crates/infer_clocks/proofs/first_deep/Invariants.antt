@@ -1,4 +1,4 @@
--- `infer_clocks::first_deep` meets its contract: the nodes left tell what is answered. The measure is the number left. Assumes nothing.
+-- The nodes left tell what is answered.
 use mathlib.Core.Path.{◌≡◌}
 use mathlib.Core.List.{List}
 use Prim.Native.Nat.{ℕ, ◌-◌, ◌*◌, ◌≤◌}
@@ -13,7 +13,4 @@ use Rattle.infer_clocks.proofs.first_deep.Given as goal
 
 abbrev pub invariant-loop-i : goal.invariant-loop-i
 invariant-loop-i l =
-    (length l.env ≡ length l.initial.env) × (length l.marks ≡ length l.initial.marks) × (length l.ports ≡ length l.initial.ports) × (length l.table ≡ length l.initial.table) × (length l.sites ≡ length l.initial.sites) × ((ns : List Node) (q : ℕ) → times l.count (node l.names) (tokens l.tags l.values) l.at ≡ got ns q → 17 * l.names ≤ length l.initial.env → l.names ≤ length l.initial.marks → l.names ≤ length l.initial.ports → 38 * length l.tags ≤ length l.initial.table → Nodes l.names (tokens l.tags l.values) (l.count - l.i) l.i l.place q (clockings 0 ns))
-
-abbrev pub decreases-loop-i : goal.decreases-loop-i
-decreases-loop-i l = l.count - l.i
+    (length l.env ≡ length l.initial.env) × (length l.marks ≡ length l.initial.marks) × (length l.table ≡ length l.initial.table) × (length l.sites ≡ length l.initial.sites) × ((ns : List Node) (q : ℕ) → times l.count (node l.source.names) (tokens l.source.tags.now l.source.values.now) l.at ≡ got ns q → 17 * l.source.names ≤ length l.initial.env → l.source.names ≤ length l.initial.marks → 38 * length l.source.tags.now ≤ length l.initial.table → Nodes l.source.names (tokens l.source.tags.now l.source.values.now) (l.count - l.i) l.i l.place q (clockings 0 ns))

@@ -2,7 +2,6 @@
 -- Assumes nothing.
 use mathlib.Core.Path.{refl, ◌∙◌}
 use native.Mathlib.Omega.{arith}
-use Prim.Native.Nat.{◌-◌}
 use lib.ListN.{length-set}
 use Rattle.inference.specs.Settled.{place_of}
 use Rattle.inference.proofs.PassesLaws.{ends_more}
@@ -12,23 +11,8 @@ pub loop-i-init : goal.loop-i-init
 unfolding place_of
 loop-i-init c = (refl, λ l q g. (refl, λ k h. absurd (omega arith)))
 
-pub offset_bounds-ends-i : goal.offset_bounds-ends-i
-offset_bounds-ends-i c = record { fits = omega (arith, c.least-most.ensures, c.loop-i-test.true) }
-
-pub bounds-ends-i : goal.bounds-ends-i
-bounds-ends-i c = omega (arith, c.least-most.ensures, c.loop-i-test.true)
-
-pub overflow_add-i : goal.overflow_add-i
-overflow_add-i c = record { fits = omega (arith, c.least-most.ensures, c.loop-i-test.true) }
-
-pub loop-i-smaller : goal.loop-i-smaller
-loop-i-smaller c = omega (arith, c.loop-i-test.true)
-
 pub loop-i-preserved : goal.loop-i-preserved
 loop-i-preserved c = (
   length-set c.loop-i.ends c.loop-i.i c.equation_end-place.result ∙ c.loop-i.invariant.0,
-  λ l q g. ends_more _ _ _ _ _ _ _ c.loop-i.ends l q g (omega (arith, c.least-most.ensures, c.loop-i-test.true)) (omega (arith, c.least-most.ensures, c.loop-i-test.true, c.loop-i.invariant.0)) (λ e u h. c.equation_end-place.ensures _ e u h) (c.loop-i.invariant.1 l q g),
+  λ l q g. ends_more _ _ _ _ _ _ _ c.loop-i.ends l q g (omega (arith, c.min-i-end.ensures, c.loop-i-test.true)) (omega (arith, c.min-i-end.ensures, c.loop-i-test.true, c.loop-i.invariant.0)) (λ e u h. c.equation_end-place.ensures _ e u h) (c.loop-i.invariant.1 l q g),
 )
-
-pub returns : goal.returns
-returns c = λ l q g. record { ends_at = λ k a b. (c.loop-i.invariant.1 l q g).1 k (omega (arith, c.least-most.ensures, a, b, c.loop-i-test.false)) }

@@ -2,7 +2,7 @@
 -- Assumes nothing.
 use mathlib.Core.Path.{◌≡◌}
 use mathlib.Core.List.{List}
-use Prim.Native.Nat.{ℕ, suc, ◌-◌, ◌<◌}
+use Prim.Native.Nat.{ℕ, suc, ◌<◌}
 use lib.ListN.{length, get_or}
 use Rattle.definitions.specs.Bytes.{tokens}
 use Rattle.definitions.specs.Tree.{Equation}
@@ -13,7 +13,4 @@ use Rattle.inference.proofs.equation_ends.Given as goal
 
 abbrev pub invariant-loop-i : goal.invariant-loop-i
 invariant-loop-i s =
-    (length s.ends ≡ 64) × ((l : List Equation) (q : ℕ) → times s.count (equation s.names) (tokens s.tags s.values) s.at ≡ got l q → (s.place ≡ place_of s.names (tokens s.tags s.values) s.at s.i) × ((k : ℕ) → k < s.i → get_or s.ends k 0 ≡ place_of s.names (tokens s.tags s.values) s.at (suc k)))
-
-abbrev pub decreases-loop-i : goal.decreases-loop-i
-decreases-loop-i l = l.most - l.i
+    (length s.ends ≡ 64) × ((l : List Equation) (q : ℕ) → times s.fn.equations.count (equation s.source.names) (tokens s.source.tags.now s.source.values.now) s.fn.equations.at ≡ got l q → (s.place ≡ place_of s.source.names (tokens s.source.tags.now s.source.values.now) s.fn.equations.at s.i) × ((k : ℕ) → k < s.i → get_or s.ends k 0 ≡ place_of s.source.names (tokens s.source.tags.now s.source.values.now) s.fn.equations.at (suc k)))

@@ -1,10 +1,11 @@
 -- `inference::give_names` meets its contract: what is left to do makes the whole. The measure is the number left.
 -- Assumes nothing.
 use mathlib.Core.Path.{◌≡◌}
-use Prim.Native.Nat.{ℕ}
+use Prim.Native.Nat.{ℕ, ◌-◌}
+use mathlib.Core.Bool.{Bool, ◌||◌}
 use mathlib.Core.List.{List}
 use lib.ListN.{length}
-use Rattle.definitions.specs.Bytes.{tokens}
+use Rattle.grammar.specs.Read.{tokens_of}
 use Rattle.definitions.specs.Tree.{Node}
 use Rattle.definitions.specs.Reading.{got, times}
 use Rattle.definitions.specs.Grammar.{name}
@@ -15,9 +16,6 @@ use Rattle.inference.specs.Settled.{dates}
 use Rattle.inference.proofs.PassesLaws.{Giving}
 use Rattle.inference.proofs.give_names.Given as goal
 
-abbrev pub invariant-loop-left : goal.invariant-loop-left
-invariant-loop-left l =
-    (length l.env ≡ length l.initial.env) × (length l.since ≡ length l.initial.since) × ((n : Node) (p : Pass) (xs : List ℕ) (q : ℕ) → Marked l.marks l.names (ports n) → times l.count (name l.names) (tokens l.tags l.values) l.at ≡ got xs q → PassSoFar l.initial.env l.names l.changed p → Giving l.names (tokens l.tags l.values) n (value_of l.c) l.present l.env l.since l.made l.left l.place q (give n (value_of l.c) xs p) (dates n (value_of l.c) l.present xs p l.initial.since))
-
-abbrev pub decreases-loop-left : goal.decreases-loop-left
-decreases-loop-left l = l.left
+abbrev pub invariant-loop : goal.invariant-loop
+invariant-loop l =
+    (length l.env ≡ length l.initial.env) × (length l.since ≡ length l.initial.since) × ((n : Node) (p : Pass) (xs : List ℕ) (q : ℕ) (b : Bool) → Marked l.round.marks.now l.round.source.now.names (ports n) → times l.fn.left.count (name l.round.source.now.names) (tokens_of l.round.source.now) l.fn.left.at ≡ got xs q → PassSoFar l.initial.env l.round.source.now.names b p → Giving l.round.source.now.names (tokens_of l.round.source.now) n (value_of l.c) l.round.present l.env l.since (l.changed || b) (l.fn.left.count - l.counter) l.place q (give n (value_of l.c) xs p) (dates n (value_of l.c) l.round.present xs p l.initial.since))

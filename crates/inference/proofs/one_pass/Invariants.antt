@@ -4,8 +4,7 @@ use mathlib.Core.Path.{◌≡◌}
 use Prim.Native.Nat.{ℕ, ◌-◌}
 use mathlib.Core.List.{List}
 use mathlib.Core.Bool.{false}
-use lib.ListN.{length}
-use Rattle.definitions.specs.Bytes.{tokens}
+use Rattle.grammar.specs.Read.{tokens_of}
 use Rattle.definitions.specs.Tree.{Equation, Node}
 use Rattle.definitions.specs.Reading.{got, times}
 use Rattle.definitions.specs.Grammar.{equation}
@@ -18,7 +17,4 @@ use Rattle.inference.proofs.one_pass.Given as goal
 
 abbrev pub invariant-loop-i : goal.invariant-loop-i
 invariant-loop-i l =
-    (length l.env ≡ length l.initial.env) × (length l.since ≡ length l.initial.since) × ((n : Node) (es : List Equation) (q : ℕ) (clocks : Clocks) → Marked l.marks l.names (ports n) → Ended l.names (tokens l.tags l.values) l.at l.count l.ends → times l.count (equation l.names) (tokens l.tags l.values) l.at ≡ got es q → Agrees l.initial.env l.names clocks → Calms n l.initial.since l.made clocks es → Going l.names (tokens l.tags l.values) n es l.made l.at l.env l.since l.changed l.count l.i l.place q (pass n es (record { changed = false; clocks = clocks })))
-
-abbrev pub decreases-loop-i : goal.decreases-loop-i
-decreases-loop-i l = l.count - l.i
+    (n : Node) (es : List Equation) (q : ℕ) (clocks : Clocks) → Marked l.round.marks.now l.round.source.now.names (ports n) → Ended l.round.source.now.names (tokens_of l.round.source.now) l.fn.equations.at l.fn.equations.count l.ends → times l.fn.equations.count (equation l.round.source.now.names) (tokens_of l.round.source.now) l.fn.equations.at ≡ got es q → Agrees l.initial.env l.round.source.now.names clocks → Calms n l.initial.since (l.round.present - 1) clocks es → Going l.round.source.now.names (tokens_of l.round.source.now) n es l.round.present l.fn.equations.at l.env l.since l.changed l.fn.equations.count l.i l.place q (pass n es (record { changed = false; clocks = clocks }))

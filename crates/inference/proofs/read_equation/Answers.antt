@@ -1,19 +1,23 @@
 -- `inference::read_equation` meets its contract: by what the natural clock of the right side is.
 -- Assumes nothing.
+use mathlib.Core.Path.{ap, ◌∙◌}
+use Rattle.std.specs.Prelude.{Ok}
+use Rattle.std.proofs.lemmas.Result.{err_from_is_err_and}
 use Rattle.inference.proofs.PassesLaws.{lies, equation-free, equation-on, equation-deep}
 use Rattle.inference.proofs.read_equation.Goals as goal
 
-pub returns-in-Free : goal.returns-in-Free
-returns-in-Free c = λ n p e q m g s.
-    let l = lies c.args.names c.args.tags.now c.args.values.now c.requires c.args.at _ c.names_at-left.ensures e q g in
-    equation-free n e p c.args.present _ _ (c.natural_clock-n.ensures e.right q p.clocks l.right s.agrees) _ _ _ c.in-Free.is s
+pub returns-in_err-c : goal.returns-in_err-c
+returns-in_err-c c = λ n p e q b m g s.
+    let l = lies c.args.round.now.source.now.names c.args.round.now.source.now.tags.now c.args.round.now.source.now.values.now c.args.round.now.source.now.same_length c.args.at _ c.names_at-left.ensures e q g in
+    let v = err_from_is_err_and c.from_residual.result c.from_residual.ensures.1 in
+    rw v.1 (equation-deep n e p c.args.round.now.present c.args.since.now _ (c.natural_clock.ensures e.right q p.clocks l.right s.agrees) _ _ _ _ _ b c.in_err-c.was)
 
-pub returns-in-On : goal.returns-in-On
-returns-in-On c = λ n p e q m g s.
-    let l = lies c.args.names c.args.tags.now c.args.values.now c.requires c.args.at _ c.names_at-left.ensures e q g in
-    equation-on n e p c.args.present _ _ (c.natural_clock-n.ensures e.right q p.clocks l.right s.agrees) _ _ _ _ c.in-On.is (c.give_names-made.ensures n p e.left _ m l.left.items s)
+pub returns-in_default : goal.returns-in_default
+returns-in_default c = λ n p e q b m g s.
+    let l = lies c.args.round.now.source.now.names c.args.round.now.source.now.tags.now c.args.round.now.source.now.values.now c.args.round.now.source.now.same_length c.args.at _ c.names_at-left.ensures e q g in
+    equation-free n e p c.args.round.now.present _ _ (c.natural_clock.ensures e.right q p.clocks l.right s.agrees) _ _ _ (c.in_ok-c.was ∙ ap Ok c.in_default.is) s
 
-pub returns-in-Deep : goal.returns-in-Deep
-returns-in-Deep c = λ n p e q m g s.
-    let l = lies c.args.names c.args.tags.now c.args.values.now c.requires c.args.at _ c.names_at-left.ensures e q g in
-    equation-deep n e p c.args.present c.args.since.now _ (c.natural_clock-n.ensures e.right q p.clocks l.right s.agrees) _ _ _ c.in-Deep.is
+pub returns : goal.returns
+returns c = λ n p e q b m g s.
+    let l = lies c.args.round.now.source.now.names c.args.round.now.source.now.tags.now c.args.round.now.source.now.values.now c.args.round.now.source.now.same_length c.args.at _ c.names_at-left.ensures e q g in
+    equation-on n e p c.args.round.now.present _ _ (c.natural_clock.ensures e.right q p.clocks l.right s.agrees) c.in-Some.c _ _ _ b _ (c.in_ok-c.was ∙ ap Ok c.in-Some.is) (c.give_names.ensures n p e.left _ b m l.left.items s)

@@ -2,7 +2,6 @@
 -- Assumes nothing.
 use mathlib.Core.Path.{◌≡◌}
 use Prim.Native.Nat.{ℕ, suc, ◌-◌}
-use lib.ListN.{length}
 use Rattle.definitions.specs.Bytes.{tokens}
 use Rattle.definitions.specs.Tree.{Node}
 use Rattle.definitions.specs.Reading.{got, times}
@@ -10,13 +9,9 @@ use Rattle.definitions.specs.Grammar.{equation}
 use Rattle.definitions.specs.InferClocks.{Clocks, ports, passes_from}
 use Rattle.clock_tables.specs.Environment.{Agrees}
 use Rattle.inference.specs.Passes.{Marked}
-use Rattle.inference.specs.Settled.{Ended}
 use Rattle.inference.proofs.PassesLaws.{Repeating}
 use Rattle.inference.proofs.repeat_passes.Given as goal
 
 abbrev pub invariant-loop-made : goal.invariant-loop-made
 invariant-loop-made l =
-    (length l.env ≡ length l.initial.env) × (length l.since ≡ length l.initial.since) × ((n : Node) (q : ℕ) (clocks : Clocks) → Marked l.marks l.names (ports n) → Ended l.names (tokens l.tags l.values) l.at l.count l.ends → times l.count (equation l.names) (tokens l.tags l.values) l.at ≡ got n.equations q → Agrees l.initial.env l.names clocks → Repeating l.names n l.env l.since (l.most - l.made) l.made (passes_from n (suc l.count) 0 clocks))
-
-abbrev pub decreases-loop-made : goal.decreases-loop-made
-decreases-loop-made l = l.most - l.made
+    (n : Node) (q : ℕ) (clocks : Clocks) → Marked l.marks l.source.names (ports n) → times l.fn.equations.count (equation l.source.names) (tokens l.source.tags.now l.source.values.now) l.fn.equations.at ≡ got n.equations q → Agrees l.initial.env l.source.names clocks → Repeating l.source.names n l.env l.since (l.most - l.made) l.made (passes_from n (suc l.fn.equations.count) 0 clocks)

@@ -1,31 +1,18 @@
 -- `inference::scanned` meets its contract: what is owed from here ends where the expression does, and no token that was passed gives a clock.
--- The measure is what is left of the tokens. Assumes nothing.
+-- Assumes nothing.
 use mathlib.Core.Path.{refl, sym, ◌∙◌}
-use Prim.Native.Nat.{◌-◌}
 use native.Mathlib.Omega.{arith}
 use Rattle.inference.proofs.Scan.{left-all, left-on, left-none, left-found}
 use Rattle.inference.proofs.scanned.Goals as goal
 
-pub loop-owed-init : goal.loop-owed-init
-loop-owed-init c = left-all
+pub loop-place-init : goal.loop-place-init
+loop-place-init c = (omega arith, left-all)
 
-pub returns-then-tags-place : goal.returns-then-tags-place
-returns-then-tags-place c = λ M e q clocks g a. tt
+pub returns-then-tag-eq54 : goal.returns-then-tag-eq54
+returns-then-tag-eq54 c = λ M e q clocks g a. left-found c.loop-place.invariant.1 c.args.source.now.same_length M e q clocks g a _ _ refl refl c.loop-place.invariant.0 (sym c.gives.ensures ∙ c.if-gives.true) c.if-tag-eq54.true
 
-pub returns-then-tags-owed : goal.returns-then-tags-owed
-returns-then-tags-owed c = λ M e q clocks g a. tt
+pub returns-then-owed-eq0 : goal.returns-then-owed-eq0
+returns-then-owed-eq0 c = λ M e q clocks g a. left-none (left-on c.loop-place.invariant.1 c.loop-place.invariant.0 (sym c.gives.ensures ∙ c.if-gives.false) _ c.follow-more.ensures) c.args.source.now.same_length M e q clocks g a c.if-owed-eq0.true
 
-pub returns-then-gives : goal.returns-then-gives
-returns-then-gives c = λ M e q clocks g a. left-found c.loop-owed.invariant c.requires M e q clocks g a _ _ _ refl refl c.loop-owed-test.true (sym c.gives.ensures ∙ c.if-gives.true) c.told_by.ensures
-
-pub follow-more-requires : goal.follow-more-requires
-follow-more-requires c = c.parts_table-table.ensures
-
-pub overflow_add-owed : goal.overflow_add-owed
-overflow_add-owed c = omega arith
-
-pub loop-owed-preserved : goal.loop-owed-preserved
-loop-owed-preserved c = left-on c.loop-owed.invariant c.loop-owed-test.true (sym c.gives.ensures ∙ c.if-gives.false) _ c.follow-more.ensures
-
-pub returns : goal.returns
-returns c = λ M e q clocks g a. left-none c.loop-owed.invariant c.requires M e q clocks g a c.loop-owed-test.false
+pub loop-place-preserved : goal.loop-place-preserved
+loop-place-preserved c = (omega (arith, c.if-owed-eq0.false), left-on c.loop-place.invariant.1 c.loop-place.invariant.0 (sym c.gives.ensures ∙ c.if-gives.false) _ c.follow-more.ensures)

@@ -1,12 +1,8 @@
 -- `inference::scanned` meets its contract: what is owed from here ends where the expression does, and no token that was passed gives a clock.
--- The measure is what is left of the tokens. Assumes nothing.
-use Prim.Native.Nat.{◌-◌}
-use lib.ListN.{length}
+-- Assumes nothing.
+use Prim.Native.Nat.{◌<◌}
 use Rattle.inference.proofs.Scan.{Left}
 use Rattle.inference.proofs.scanned.Given as goal
 
-abbrev pub invariant-loop-owed : goal.invariant-loop-owed
-invariant-loop-owed l = Left l.env l.tags l.values l.at l.owed l.place
-
-abbrev pub decreases-loop-owed : goal.decreases-loop-owed
-decreases-loop-owed l = length l.tags - l.place
+abbrev pub invariant-loop-place : goal.invariant-loop-place
+invariant-loop-place l = (0 < l.owed) × Left l.env l.source.tags.now l.source.values.now l.at l.owed l.place

@@ -2,14 +2,11 @@
 -- Assumes nothing.
 use mathlib.Core.Path.{◌≡◌}
 use mathlib.Core.Bool.{true}
-use Prim.Native.Nat.{ℕ, ◌-◌, ◌≤◌, ◌<◌}
+use Prim.Native.Nat.{ℕ, ◌≤◌, ◌<◌}
 use lib.ListN.{length, get_or}
 use Rattle.inference.specs.Settled.{named, Unchanged}
 use Rattle.inference.proofs.touched.Given as goal
 
 abbrev pub invariant-loop-i : goal.invariant-loop-i
 invariant-loop-i l =
-    (k : ℕ) → l.from ≤ k → k < l.i → k < length l.tags → named (get_or l.tags k 0) ≡ true → Unchanged l.since l.made (get_or l.values k 0)
-
-abbrev pub decreases-loop-i : goal.decreases-loop-i
-decreases-loop-i l = l.end - l.i
+    (k : ℕ) → l.from ≤ k → k < l.i → k < length l.source.tags.now → named (get_or l.source.tags.now k 0) ≡ true → Unchanged l.since l.made (get_or l.source.values.now k 0)

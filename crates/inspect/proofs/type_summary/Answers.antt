@@ -1,14 +1,13 @@
-use Rattle.inspect.proofs.Summaries.{summary-enum, summary-record, summary-alias, summary-none}
+use mathlib.Core.Path.{ap}
+use Rattle.std.proofs.Common.{Some}
+use Rattle.inspect.proofs.Summaries.{summary-enum, summary-record, summary-alias}
 use Rattle.inspect.proofs.type_summary.Goals as goal
 
-pub returns-in-Enum : goal.returns-in-Enum
-returns-in-Enum c = λ d q g. summary-enum _ _ d q _ (c.describe-found.ensures d q g) _ _ _ c.in-Enum.is
+pub returns-in-Some-Enum : goal.returns-in-Some-Enum
+returns-in-Some-Enum c = λ d q g. ap Some (summary-enum _ _ d q _ (c.in-Some-Enum.ensures d q g) _ _ _ c.in-Some-Enum.field-0-is)
 
-pub returns-in-Record : goal.returns-in-Record
-returns-in-Record c = λ d q g. summary-record _ _ d q _ (c.describe-found.ensures d q g) _ _ _ c.in-Record.is
+pub returns-in-Some-Record : goal.returns-in-Some-Record
+returns-in-Some-Record c = λ d q g. ap Some (summary-record _ _ d q _ (c.in-Some-Record.ensures d q g) _ _ _ c.in-Some-Record.field-0-is)
 
-pub returns-in-Alias : goal.returns-in-Alias
-returns-in-Alias c = λ d q g. summary-alias _ _ d q _ (c.describe-found.ensures d q g) _ _ c.in-Alias.is
-
-pub returns-in-Nothing : goal.returns-in-Nothing
-returns-in-Nothing c = λ d q g. absurd (summary-none _ _ d q _ (c.describe-found.ensures d q g) c.in-Nothing.is)
+pub returns-in-Some-Alias : goal.returns-in-Some-Alias
+returns-in-Some-Alias c = λ d q g. ap Some (summary-alias _ _ d q _ (c.in-Some-Alias.ensures d q g) _ _ c.in-Some-Alias.field-0-is)

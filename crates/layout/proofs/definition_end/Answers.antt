@@ -1,16 +1,12 @@
--- `layout::definition_end` meets its contract: by the kind of the definition.
--- Assumes nothing.
-use Rattle.layout.proofs.Ends.{enum-ends, record-ends, alias-ends, nothing_ends}
+-- A definition ends where the last of its parts does.
+use Rattle.layout.proofs.Ends.{enum-ends, record-ends, alias-ends}
 use Rattle.layout.proofs.definition_end.Goals as goal
 
-pub returns-in-Enum : goal.returns-in-Enum
-returns-in-Enum c = λ d q g. enum-ends _ _ c.requires _ d q _ (c.describe-found.ensures d q g) _ _ _ _ c.in-Enum.is c.names_end.ensures
+pub returns-in-Some-Enum : goal.returns-in-Some-Enum
+returns-in-Some-Enum c = λ d q g. enum-ends _ _ c.args.source.now.same_length _ d q _ (c.in-Some-Enum.ensures d q g) _ _ _ _ c.in-Some-Enum.field-0-is c.names_end.ensures
 
-pub returns-in-Record : goal.returns-in-Record
-returns-in-Record c = λ d q g. record-ends _ _ c.requires _ d q _ (c.describe-found.ensures d q g) _ _ _ _ c.in-Record.is c.declarations_end.ensures
+pub returns-in-Some-Record : goal.returns-in-Some-Record
+returns-in-Some-Record c = λ d q g. record-ends _ _ c.args.source.now.same_length _ d q _ (c.in-Some-Record.ensures d q g) _ _ _ _ c.in-Some-Record.field-0-is c.declarations_end.ensures
 
-pub returns-in-Alias : goal.returns-in-Alias
-returns-in-Alias c = λ d q g. alias-ends _ _ c.requires _ d q _ (c.describe-found.ensures d q g) _ _ _ c.in-Alias.is c.past.ensures
-
-pub returns-in-Nothing : goal.returns-in-Nothing
-returns-in-Nothing c = λ d q g. nothing_ends _ _ c.requires _ d q _ (c.describe-found.ensures d q g) _ c.in-Nothing.is
+pub returns-in-Some-Alias : goal.returns-in-Some-Alias
+returns-in-Some-Alias c = λ d q g. alias-ends _ _ c.args.source.now.same_length _ d q _ (c.in-Some-Alias.ensures d q g) _ _ _ c.in-Some-Alias.field-0-is c.past.ensures

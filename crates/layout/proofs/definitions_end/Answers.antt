@@ -1,14 +1,8 @@
--- `layout::definitions_end` meets its contract: the definitions left end where all do. The measure is their number.
--- Assumes nothing.
+-- `layout::definitions_end` meets its contract. Assumes nothing.
+use Rattle.std.proofs.Common.{rules}
 use Rattle.definitions.specs.Grammar.{type_def}
-use Rattle.layout.proofs.Ends.{more_left, none_left}
+use Rattle.layout.proofs.TypedefsLaws.{ended}
 use Rattle.layout.proofs.definitions_end.Goals as goal
 
-pub loop-left-init : goal.loop-left-init
-loop-left-init c = λ l q g. (l, g)
-
-pub loop-left-preserved : goal.loop-left-preserved
-loop-left-preserved c = λ l q g. more_left (type_def _) _ _ _ _ q c.loop-left-test.true c.definition_end-place.ensures (c.loop-left.invariant l q g)
-
 pub returns : goal.returns
-returns c = λ l q g. none_left (type_def _) _ _ _ q c.loop-left-test.false (c.loop-left.invariant l q g)
+returns c = λ l q g. ended (type_def _) _ _ (λ p r e a s h. search rules) _ _ l q g _ c.items_end.ensures

@@ -1,26 +1,10 @@
--- `layout::node_places` meets its contract: the places so far are those of the first nodes. The measure is what is left of n.
--- Assumes nothing.
-use mathlib.Core.Path.{refl, ◌∙◌}
+-- `layout::node_places` meets its contract. Assumes nothing.
+use Rattle.std.proofs.Common.{rules}
 use native.Mathlib.Omega.{arith}
-use lib.ListN.{length-set}
 use Rattle.definitions.specs.Grammar.{node}
-use Rattle.layout.proofs.TypedefsLaws.{place_at, placed-next}
-use Rattle.layout.proofs.Laws.{nowhere, places}
+use Rattle.layout.proofs.TypedefsLaws.{ended-at}
+use Rattle.layout.proofs.Laws.{places}
 use Rattle.layout.proofs.node_places.Goals as goal
 
-pub loop-i-init : goal.loop-i-init
-unfolding place_at
-loop-i-init c = (omega arith, refl, λ l q g. (refl, λ k h. absurd (omega arith)))
-
-pub bounds-places-i : goal.bounds-places-i
-bounds-places-i c = omega arith
-
-pub loop-i-preserved : goal.loop-i-preserved
-loop-i-preserved c = (
-  omega arith,
-  length-set c.loop-i.places c.loop-i.i c.loop-i.place ∙ c.loop-i.invariant.1,
-  λ l q g. placed-next (node _) _ _ _ _ _ _ nowhere c.loop-i.places l q g c.loop-i-test.true (omega arith) (λ a s r. (c.node_at-l.ensures a s r).ends) (c.loop-i.invariant.2 l q g),
-)
-
-pub returns : goal.returns
-returns c = λ l q g. places _ _ _ _ _ l q (λ k h. (c.loop-i.invariant.2 l q g).1 k (omega (arith, h, c.loop-i-test.false))) g
+pub returns-clause-places : goal.returns-clause-places
+returns-clause-places c = λ l q g. places _ _ _ _ _ l q (λ k h. ended-at (node _) _ _ (λ p r e a s j. search rules) _ _ l q g (c.places_of.ensures.each k h) (omega arith)) g

@@ -1,16 +1,12 @@
--- `lines::put_chains` meets its contract: the lines so far. The measure is the number left. Assumes nothing.
+-- `lines::put_chains` meets its contract: the lines so far. Assumes nothing.
 use mathlib.Core.List.{map}
-use Prim.Native.Nat.{◌-◌, ◌≤◌}
 use Rattle.definitions.specs.Lists.{join}
-use Rattle.spelling.specs.Places.{letters_at}
+use Rattle.spelling.specs.Places.{letters_in}
 use Rattle.chain_order.specs.Order.{row_of, picked}
-use Rattle.spelling.specs.Writing.{Put}
+use Rattle.spelling.specs.Written.{Wrote}
 use Rattle.lines.specs.Pieces.{chain_line}
 use Rattle.lines.proofs.put_chains.Given as goal
 
 abbrev pub invariant-loop-i : goal.invariant-loop-i
 invariant-loop-i l =
-    (l.i ≤ l.n) × Put (join (map (chain_line (letters_at l.starts l.letters)) (picked (row_of l.rows) l.chain 0 l.i))) l.at l.initial.out l.next l.out
-
-abbrev pub decreases-loop-i : goal.decreases-loop-i
-decreases-loop-i l = l.n - l.i
+    Wrote (join (map (chain_line (letters_in l.spelling)) (picked (row_of l.ordered.rows.now) l.ordered.order.now 0 l.i))) l.initial.text l.text

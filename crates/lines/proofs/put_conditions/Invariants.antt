@@ -1,17 +1,11 @@
 -- `lines::put_conditions` meets its contract. Once i are put, they stand behind whatever the first stands behind. Assumes nothing.
-use Prim.Native.Nat.{ℕ, ◌≤◌, ◌<◌, ◌-◌}
-use mathlib.Core.Path.{◌≡◌}
-use mathlib.Core.List.{List}
-use lib.ListN.{length}
 use Rattle.clock_tables.specs.Value.{clock_at}
-use Rattle.spelling.specs.Places.{letters_at}
-use Rattle.spelling.specs.Writing.{Put, farthest}
+use Rattle.spelling.specs.Places.{letters_in}
+use Rattle.spelling.specs.Written.{Wrote}
+use Rattle.spelling.specs.declared.text_writer.TextWriter.{TextWriter}
 use Rattle.lines.specs.Pieces.{words}
 use Rattle.lines.proofs.put_conditions.Given as goal
 
 abbrev pub invariant-loop-i : goal.invariant-loop-i
 invariant-loop-i l =
-    (l.i ≤ l.d) × ((0 < l.i) × ((length l.out ≡ length l.initial.out) × ((p : ℕ) (s : List ℕ) → length s ≤ farthest → Put (words (letters_at l.starts l.letters) (clock_at l.c.conditions 1)) p s l.initial.place l.initial.out → Put (words (letters_at l.starts l.letters) (clock_at l.c.conditions l.i)) p s l.place l.out)))
-
-abbrev pub decreases-loop-i : goal.decreases-loop-i
-decreases-loop-i l = l.d - l.i
+    (w : TextWriter) → Wrote (words (letters_in l.spelling) (clock_at l.c.conditions 1)) w l.initial.text → Wrote (words (letters_in l.spelling) (clock_at l.c.conditions l.i)) w l.text

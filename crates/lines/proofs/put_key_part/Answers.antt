@@ -1,8 +1,8 @@
 -- `lines::put_key_part` meets its contract. Assumes nothing.
-use Rattle.lines.proofs.Joining.{also}
 use Rattle.definitions.specs.Lists.{bytes}
+use Rattle.spelling.proofs.Writers.{wrote_then}
 use Rattle.lines.proofs.put_key_part.Goals as goal
 
 pub returns : goal.returns
 unfolding bytes
-returns c = also c.requires c.put-a.ensures λ h. also h c.put_name-b.ensures λ _. c.put_sign.ensures
+returns c = wrote_then c.put.ensures (wrote_then c.put_name.ensures c.put_sign.ensures)

@@ -1,9 +1,9 @@
 -- `lines::put_on_another` meets its contract. Assumes nothing.
-use Rattle.lines.proofs.Joining.{also}
 use Rattle.definitions.specs.Lists.{bytes}
 use Rattle.lines.specs.Pieces.{on_another}
+use Rattle.spelling.proofs.Writers.{wrote_then}
 use Rattle.lines.proofs.put_on_another.Goals as goal
 
 pub returns : goal.returns
 unfolding bytes on_another
-returns c = also c.requires c.put_quoted-a.ensures λ h. also h c.put_all-b.ensures λ h. also h c.put_clock_text-c.ensures λ h. also h c.put_all-d.ensures λ _. c.put_clock_text.ensures
+returns c = wrote_then c.put_quoted.ensures (wrote_then c.put_all.ensures (wrote_then c.put_clock_text.ensures (wrote_then c.put_all-2.ensures c.put_clock_text-2.ensures)))

@@ -1,23 +1,13 @@
 -- `listings::clocks_in` meets its contract. Assumes nothing.
-use mathlib.Core.Path.{refl}
-use Rattle.query.proofs.Listings.{told-own, ample-kept}
+use Rattle.std.proofs.lemmas.Result.{err_from_is_err_and}
+use Rattle.workspace.proofs.Kept.{list-kept}
+use Rattle.query.proofs.Listings.{told-own}
 use Rattle.listings.proofs.Given.{clocks-turned, node-there, clocks-given, same-below}
 use Rattle.listings.proofs.clocks_in.Goals as goal
 
-pub write_clocks-requires : goal.write_clocks-requires
-write_clocks-requires c = c.requires
+pub returns-in_err-told-clause-given : goal.returns-in_err-told-clause-given
+returns-in_err-told-clause-given c = λ i s r. let e = err_from_is_err_and c.from_residual.result c.from_residual.ensures.1 in
+    rw (e.1, e.2) (clocks-turned _ _ _ _ _ i _ _ _ _ _ (c.in_err-told.ensures.node_told i _ s.tree r.clocks))
 
-pub returns-in-Refused : goal.returns-in-Refused
-returns-in-Refused c = λ i s r a. clocks-turned _ _ _ _ _ i _ _ (c.clock_at-found.ensures i _ s.tree r) _ _ _ _ c.in-Refused.is
-
-pub shape_of-env-in-Node : goal.shape_of-env-in-Node
-shape_of-env-in-Node c = c.clock_at-found.auto.env
-
-pub shape_of-table-in-Node : goal.shape_of-table-in-Node
-shape_of-table-in-Node c = c.clock_at-found.auto.table
-
-pub shape_of-sites-in-Node : goal.shape_of-sites-in-Node
-shape_of-sites-in-Node c = c.clock_at-found.auto.sites
-
-pub returns-in-Node : goal.returns-in-Node
-returns-in-Node c = λ i s r a. let z = node-there _ _ _ _ _ i _ _ (c.clock_at-found.ensures i _ s.tree r) _ c.in-Node.is in clocks-given _ i _ _ z.0 _ _ _ _ _ _ _ s.named z.2.number z.1 (c.write_clocks.ensures z.0 (told-own _ _ _ _ _ _ _ _ z.2) (ample-kept _ _ _ a c.clock_at-found.new.table c.args.rows.now c.args.chain.now c.clock_at-found.auto.table refl refl) (same-below _ _ _ z.2.number z.3))
+pub returns-clause-given : goal.returns-clause-given
+returns-clause-given c = λ i s r. let z = node-there _ _ _ _ _ i _ _ (c.in_ok-told.ensures.node_told i _ s.tree r.clocks) in clocks-given _ i _ _ z.0 _ _ _ _ _ _ _ s.named z.2.number z.1 (c.write_clocked.ensures z.0 (told-own _ _ _ _ _ _ _ _ z.2) (list-kept c.clock_at.ensures.same_room r).chains (same-below _ _ _ z.2.number z.3))

@@ -1,14 +1,18 @@
 -- `listings::listing_in` meets its contract. Assumes nothing.
 use mathlib.Core.Path.{refl}
-use Rattle.query.proofs.Listings.{told-own, ample-kept}
-use Rattle.listings.proofs.Given.{listing-turned, node-there, listing-given}
+use Rattle.std.proofs.lemmas.Result.{err_from_is_err_and}
+use Rattle.workspace.proofs.Kept.{ample-room, list-kept}
+use Rattle.query.proofs.Listings.{told-own}
+use Rattle.listings.proofs.Given.{listing-turned, node-there, given, listing-given}
 use Rattle.listings.proofs.listing_in.Goals as goal
 
-pub listing_told-requires : goal.listing_told-requires
-listing_told-requires c = c.requires
+pub returns-in_err-told-clause-given : goal.returns-in_err-told-clause-given
+returns-in_err-told-clause-given c = λ i s r. let e = err_from_is_err_and c.from_residual.result c.from_residual.ensures.1 in
+    rw (e.1, e.2) (listing-turned _ _ _ _ _ i _ _ _ (c.in_err-told.ensures.node_told i _ s.tree r.clocks))
 
-pub returns-in-Refused : goal.returns-in-Refused
-returns-in-Refused c = λ i s r a. listing-turned _ _ _ _ _ i _ _ (c.clock_at-found.ensures i _ s.tree r) _ _ c.in-Refused.is
-
-pub returns-in-Node : goal.returns-in-Node
-returns-in-Node c = λ i s r a. let z = node-there _ _ _ _ _ i _ _ (c.clock_at-found.ensures i _ s.tree r) _ c.in-Node.is in listing-given _ i _ _ z.0 _ _ _ s.named z.2.number z.1 (c.listing_told.ensures z.0 (told-own _ _ _ _ _ _ _ _ z.2) (ample-kept _ _ _ a _ _ _ c.clock_at-found.auto.table refl refl) s.few-letters s.few-tokens)
+pub returns-clause-given : goal.returns-clause-given
+returns-clause-given c = λ i s r.
+    let z = node-there _ _ _ _ _ i _ _ (c.in_ok-told.ensures.node_told i _ s.tree r.clocks) in
+    let n = z.2 in
+    let room = ample-room _ _ _ (list-kept c.clock_at.ensures.same_room r).chains _ _ refl n.tells.room in
+    listing-given _ i _ _ z.0 _ _ _ s.named n.number z.1 (given _ _ _ _ (c.put_clocked.ensures z.0 (told-own _ _ _ _ _ _ _ _ n) room.0 room.1 s.few-letters s.few-tokens room.2))

@@ -1,29 +1,23 @@
 -- `listings::listings_lent` meets its contract: what was put aside is lent, and what is put again was measured. Assumes nothing.
-use mathlib.Core.Path.{sym}
 use native.Mathlib.Omega.{arith}
-use lib.Seq.{length-take-le}
-use Rattle.query.proofs.Listings.{roomy-kept, ample-kept}
-use Rattle.listings.proofs.All.{aside-deep, aside-lent, aside-few, put-again}
+use Rattle.std.proofs.lemmas.Result.{err_from_is_err_and}
+use Rattle.workspace.proofs.Kept.{list-kept}
+use Rattle.listings.proofs.All.{aside-deep, aside-lent, aside-few, never-again, put-again}
 use Rattle.listings.proofs.listings_lent.Goals as goal
 
-pub slice_bounds-aside-end : goal.slice_bounds-aside-end
-slice_bounds-aside-end c = omega (arith, c.if-m-le-ASIDE.true)
+pub returns-in_err-m-clause-given : goal.returns-in_err-m-clause-given
+returns-in_err-m-clause-given c = λ ns q g r x y. let e = err_from_is_err_and c.from_residual.result c.from_residual.ensures.1 in
+    rw (e.1, e.2) (aside-deep _ ns _ _ c.args.out.now _ (c.in_err-m.ensures.listings_stand ns q g r x y))
 
-pub slice_bounds-lend-end : goal.slice_bounds-lend-end
-slice_bounds-lend-end c = sym (length-take-le _ _ (omega (arith, c.if-m-le-ASIDE.true)))
+pub returns-then-m-le-ASIDE-clause-given : goal.returns-then-m-le-ASIDE-clause-given
+returns-then-m-le-ASIDE-clause-given c = λ ns q g r x y. aside-lent _ ns _ _ c.args.out.now _ (c.in_ok-m.ensures.listings_stand ns q g r x y) (omega (arith, c.if-m-le-ASIDE.true)) _ _ c.lend.ensures
 
-pub returns-then-m-le-ASIDE : goal.returns-then-m-le-ASIDE
-returns-then-m-le-ASIDE c = λ ns q g r a x y. aside-lent _ ns _ _ c.args.out.now _ (c.put_listings-put.ensures ns q g r a x y) _ c.in-Size.is (omega (arith, c.if-m-le-ASIDE.true)) _ _ c.lend.ensures
+pub returns-then-out-m-clause-given : goal.returns-then-out-m-clause-given
+returns-then-out-m-clause-given c = λ ns q g r x y. aside-few _ ns _ _ c.args.out.now _ (c.in_ok-m.ensures.listings_stand ns q g r x y) c.if-out-m.true
 
-pub returns-then-out-m : goal.returns-then-out-m
-returns-then-out-m c = λ ns q g r a x y. aside-few _ ns _ _ c.args.out.now _ (c.put_listings-put.ensures ns q g r a x y) _ c.in-Size.is c.if-out-m.true
+pub returns-in_err-put_listings-clause-given : goal.returns-in_err-put_listings-clause-given
+returns-in_err-put_listings-clause-given c = λ ns q g r x y. absurd (never-again _ ns _ _ c.args.out.now _ (c.in_ok-m.ensures.listings_stand ns q g r x y) _ _ (c.in_err-put_listings.ensures.listings_stand ns q g (list-kept c.put_listings.ensures.same_room r) x y))
 
-pub put_listings-requires : goal.put_listings-requires
-put_listings-requires c = c.requires
-
-pub returns-in-Deep : goal.returns-in-Deep
-returns-in-Deep c = λ ns q g r a x y. aside-deep _ ns _ _ c.args.out.now _ (c.put_listings-put.ensures ns q g r a x y) _ c.in-Deep.is
-
-pub returns-else-out-m : goal.returns-else-out-m
-returns-else-out-m c =
-    λ ns q g r a x y. put-again _ ns _ _ c.args.out.now _ (c.put_listings-put.ensures ns q g r a x y) _ c.in-Size.is _ _ c.if-out-m.false (c.put_listings.ensures ns q g (roomy-kept _ _ _ _ _ _ _ _ r c.put_listings-put.auto.env c.put_listings-put.auto.table c.put_listings-put.auto.sites) (ample-kept _ _ _ a _ _ _ c.put_listings-put.auto.table c.put_listings-put.auto.rows c.put_listings-put.auto.chain) x y)
+pub returns-clause-given : goal.returns-clause-given
+returns-clause-given c =
+    λ ns q g r x y. put-again _ ns _ _ c.args.out.now _ (c.in_ok-m.ensures.listings_stand ns q g r x y) _ _ c.if-out-m.false (c.in_ok-put_listings.ensures.listings_stand ns q g (list-kept c.put_listings.ensures.same_room r) x y)

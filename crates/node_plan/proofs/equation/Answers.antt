@@ -1,74 +1,19 @@
 -- `node_plan::equation` meets its contract.
 -- Assumes nothing.
-use mathlib.Core.Path.{sym, ◌∙◌}
-use native.Mathlib.Omega.{arith}
+use mathlib.Core.Path.{sym, ap, ◌∙◌}
+use Rattle.plan.proofs.Walk.{passes, sized}
+use Rattle.node_plan.specs.Noted.{told_of}
 use Rattle.node_plan.proofs.Ends.{equation-stopped, equation-base, equation-met, equation-flagged}
-use Rattle.node_plan.proofs.equation.Reads as reads
-use Rattle.node_plan.proofs.equation.Lts as lts
 use Rattle.node_plan.proofs.equation.Goals as goal
 
-pub returns-then-end-at : goal.returns-then-end-at
-returns-then-end-at c =
-    record {
-      plan_len_unchanged = c.expr-end.ensures.plan_len_unchanged;
-      flags_len_unchanged = c.expr-end.ensures.flags_len_unchanged;
-      firsts_len_unchanged = c.expr-end.ensures.firsts_len_unchanged;
-      holds_len_unchanged = c.expr-end.ensures.holds_len_unchanged;
-      walks_equation = equation-stopped _ _ c.requires.values_len _ _ _ _ _ c.names_at-left.ensures c.expr-end.ensures.walks c.if-end-at.true;
-    }
+pub returns-in_err-end-clause-walks_equation : goal.returns-in_err-end-clause-walks_equation
+returns-in_err-end-clause-walks_equation c = equation-stopped _ _ c.args.planning.now.index.now.source.same_length _ _ _ _ _ c.names_at-left.ensures c.expr.ensures.walks _ _ c.in_err-end.was (passes _ _ _ c.from_residual.ensures c.in_err-end.was)
 
-pub returns-then-on_base : goal.returns-then-on_base
-returns-then-on_base c =
-    record {
-      plan_len_unchanged = c.put_word.ensures.words_len_unchanged ∙ c.expr-end.ensures.plan_len_unchanged;
-      flags_len_unchanged = c.expr-end.ensures.flags_len_unchanged;
-      firsts_len_unchanged = c.expr-end.ensures.firsts_len_unchanged;
-      holds_len_unchanged = c.expr-end.ensures.holds_len_unchanged;
-      walks_equation = equation-base _ _ c.requires.values_len _ _ _ _ _ c.names_at-left.ensures c.expr-end.ensures.walks (omega (arith, c.if-end-at.false)) (record { plan = c.expr-end.ensures.plan_len_unchanged; flags = c.expr-end.ensures.flags_len_unchanged; firsts = c.expr-end.ensures.firsts_len_unchanged; holds = c.expr-end.ensures.holds_len_unchanged }) (sym c.on_base.ensures ∙ c.if-on_base.true) _ c.put_word.ensures.words_after;
-    }
+pub returns-then-on_base-clause-walks_equation : goal.returns-then-on_base-clause-walks_equation
+returns-then-on_base-clause-walks_equation c = equation-base _ _ c.args.planning.now.index.now.source.same_length _ _ _ _ _ c.names_at-left.ensures c.expr.ensures.walks _ c.in_ok-end.was (sized c.expr.ensures.still_lent) (sym c.on_base.ensures ∙ c.if-on_base.true) _ c.put_word.ensures.words_after
 
-pub shape_after-u-requires : goal.shape_after-u-requires
-shape_after-u-requires c =
-    record {
-      values_len = c.requires.values_len;
-      nodes_bound = c.requires.nodes_bound.0;
-    }
+pub returns-in-Some-clause-walks_equation : goal.returns-in-Some-clause-walks_equation
+returns-in-Some-clause-walks_equation c = equation-met _ _ c.args.planning.now.index.now.source.same_length _ _ _ _ _ c.names_at-left.ensures c.expr.ensures.walks _ c.in_ok-end.was (sized c.expr.ensures.still_lent) _ c.get-c.ensures (sym c.on_base.ensures ∙ c.if-on_base.false) _ c.called_after-called.ensures _ c.flagged_fault.ensures _ (ap told_of c.in-Some.is)
 
-pub flagged_fault-m-requires : goal.flagged_fault-m-requires
-flagged_fault-m-requires c =
-    record {
-      values_len = c.requires.values_len;
-      types_bound = c.requires.nodes_bound.1;
-    }
-
-pub returns-then-tell_met : goal.returns-then-tell_met
-returns-then-tell_met c =
-    record {
-      plan_len_unchanged = c.expr-end.ensures.plan_len_unchanged;
-      flags_len_unchanged = c.expr-end.ensures.flags_len_unchanged;
-      firsts_len_unchanged = c.expr-end.ensures.firsts_len_unchanged;
-      holds_len_unchanged = c.expr-end.ensures.holds_len_unchanged;
-      walks_equation = equation-met _ _ c.requires.values_len _ _ _ _ _ c.names_at-left.ensures c.expr-end.ensures.walks (omega (arith, c.if-end-at.false)) (record { plan = c.expr-end.ensures.plan_len_unchanged; flags = c.expr-end.ensures.flags_len_unchanged; firsts = c.expr-end.ensures.firsts_len_unchanged; holds = c.expr-end.ensures.holds_len_unchanged }) _ c.get-c.ensures (sym c.on_base.ensures ∙ c.if-on_base.false) _ c.shape_after-u.ensures _ c.flagged_fault-m.ensures (sym c.tell_met.ensures.value ∙ c.if-tell_met.true) _ c.tell_met.ensures.tally_after;
-    }
-
-pub shape_of-plan : goal.shape_of-plan
-shape_of-plan c = c.flag_equation.ensures.plan_len_unchanged ∙ c.expr-end.ensures.plan_len_unchanged
-
-pub shape_of-flags : goal.shape_of-flags
-shape_of-flags c = c.flag_equation.ensures.flags_len_unchanged ∙ c.expr-end.ensures.flags_len_unchanged
-
-pub shape_of-firsts : goal.shape_of-firsts
-shape_of-firsts c = c.expr-end.ensures.firsts_len_unchanged
-
-pub shape_of-holds : goal.shape_of-holds
-shape_of-holds c = c.expr-end.ensures.holds_len_unchanged
-
-pub returns : goal.returns
-returns c =
-    record {
-      plan_len_unchanged = c.flag_equation.ensures.plan_len_unchanged ∙ c.expr-end.ensures.plan_len_unchanged;
-      flags_len_unchanged = c.flag_equation.ensures.flags_len_unchanged ∙ c.expr-end.ensures.flags_len_unchanged;
-      firsts_len_unchanged = c.expr-end.ensures.firsts_len_unchanged;
-      holds_len_unchanged = c.expr-end.ensures.holds_len_unchanged;
-      walks_equation = equation-flagged _ _ c.requires.values_len _ _ _ _ _ c.names_at-left.ensures c.expr-end.ensures.walks (omega (arith, c.if-end-at.false)) (record { plan = c.expr-end.ensures.plan_len_unchanged; flags = c.expr-end.ensures.flags_len_unchanged; firsts = c.expr-end.ensures.firsts_len_unchanged; holds = c.expr-end.ensures.holds_len_unchanged }) _ c.get-c.ensures (sym c.on_base.ensures ∙ c.if-on_base.false) _ c.shape_after-u.ensures _ c.flagged_fault-m.ensures (sym c.tell_met.ensures.value ∙ c.if-tell_met.false) _ (c.tell_met.ensures.tally_unchanged c.if-tell_met.false) _ c.gates_right-gated.ensures _ _ _ c.flag_equation.ensures.flags_len_unchanged c.flag_equation.ensures.by_index;
-    }
+pub returns-in-None-clause-walks_equation : goal.returns-in-None-clause-walks_equation
+returns-in-None-clause-walks_equation c = equation-flagged _ _ c.args.planning.now.index.now.source.same_length _ _ _ _ _ c.names_at-left.ensures c.expr.ensures.walks _ c.in_ok-end.was (sized c.expr.ensures.still_lent) _ c.get-c.ensures (sym c.on_base.ensures ∙ c.if-on_base.false) _ c.called_after-called.ensures _ c.flagged_fault.ensures (ap told_of c.in-None.is) _ c.gates_right-gated.ensures _ c.flag_equation.ensures.still_lent.flags-long c.flag_equation.ensures.flagged

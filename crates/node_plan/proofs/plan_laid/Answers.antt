@@ -1,21 +1,14 @@
 -- `node_plan::plan_laid` meets its contract.
 -- Assumes nothing.
 use native.Mathlib.Omega.{arith}
-use Rattle.node_plan.proofs.Outcomes.{begun-none, plans-node}
-use Rattle.node_plan.proofs.plan_laid.Reads as reads
-use Rattle.node_plan.proofs.plan_laid.Lts as lts
+use mathlib.Core.Path.{refl}
+use Rattle.std.proofs.Common.{rules}
+use Rattle.plan.proofs.Walk.{sized}
+use Rattle.node_plan.proofs.Outcomes.{begun-none, plans-fault, plans-whole, plans-lent}
 use Rattle.node_plan.proofs.plan_laid.Goals as goal
 
-pub shape_of-types : goal.shape_of-types
-shape_of-types c = c.declared_types.ensures.types_len_unchanged
+pub returns-in_err-equations-clause-plans_node : goal.returns-in_err-equations-clause-plans_node
+returns-in_err-equations-clause-plans_node c = λ tys ns node cs N names few room. let P = plans-fault _ _ _ _ (sized c.equations.ensures.still_lent) _ _ c.equations.ensures.walks_equations (begun-none _ _) tys ns node _ cs N.laid (record { few = omega arith; standing = N.standing; table = N.table; defaulted = N.defaulted; declares = c.declared_types.ensures.declares node N.end N.laid names few }) N.sited N.many room _ c.in_err-equations.was _ c.from_residual.ensures in plans-lent P (search rules) (search rules) (search rules) (search rules)
 
-pub returns : goal.returns
-returns c =
-    record {
-      types_len_unchanged = c.declared_types.ensures.types_len_unchanged;
-      plan_len_unchanged = c.plan_node-m.ensures.plan_len_unchanged;
-      flags_len_unchanged = c.plan_node-m.ensures.flags_len_unchanged;
-      firsts_len_unchanged = c.plan_node-m.ensures.firsts_len_unchanged;
-      holds_len_unchanged = c.plan_node-m.ensures.holds_len_unchanged;
-      plans_node = λ types ns node u cs N D t d S n names few room. plans-node _ _ _ _ (record { plan = c.plan_node-m.ensures.plan_len_unchanged; flags = c.plan_node-m.ensures.flags_len_unchanged; firsts = c.plan_node-m.ensures.firsts_len_unchanged; holds = c.plan_node-m.ensures.holds_len_unchanged }) _ _ c.plan_node-m.ensures.walks_equations _ c.word_below-i.ensures _ c.outcome_in.ensures.result_value c.outcome_in.ensures.counts_value (begun-none _ _) types ns node u cs N (record { few = omega arith; standing = D; table = t; defaulted = d; declares = c.declared_types.ensures.declares node u N names few }) S n room;
-    }
+pub returns-clause-plans_node : goal.returns-clause-plans_node
+returns-clause-plans_node c = λ tys ns node cs N names few room. let P = plans-whole _ _ _ _ (sized c.equations.ensures.still_lent) _ _ c.equations.ensures.walks_equations (begun-none _ _) tys ns node _ cs N.laid (record { few = omega arith; standing = N.standing; table = N.table; defaulted = N.defaulted; declares = c.declared_types.ensures.declares node N.end N.laid names few }) N.sited N.many room _ c.in_ok-equations.was _ _ _ _ (search rules) (search rules) (search rules) refl in plans-lent P (search rules) (search rules) (search rules) (search rules)

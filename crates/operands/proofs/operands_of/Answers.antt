@@ -4,4 +4,4 @@ use Rattle.operands.proofs.Laws.{laid_of}
 use Rattle.operands.proofs.operands_of.Goals as goal
 
 pub returns : goal.returns
-returns c = laid_of _ _ _ _ _ _ c.shape_of-shape.ensures c.laid.ensures
+returns c = laid_of _ _ _ _ _ _ c.shape_of.ensures c.laid.ensures

@@ -1,46 +1,51 @@
 -- `parts::read_parts` meets its contract. Assumes nothing.
-use mathlib.Core.Path.{◌≡◌, sym, ◌∙◌}
+use mathlib.Core.Path.{◌∙◌}
+use Prim.Native.Nat.{◌+◌}
 use native.Mathlib.Omega.{arith}
-use Rattle.parts.specs.declared.PartsAnswer.{PartsAnswer}
-use Rattle.parts.specs.Answers.{parts_answer}
+use Rattle.parts.proofs.Words.{tags-copied, words-left, words-copied}
 use Rattle.parts.proofs.Laws.{SizesFit, fit, answer-sized, tags-over, values-over, tags-kept, values-kept}
 use Rattle.parts.proofs.read_parts.Goals as goal
-use Rattle.parts.proofs.read_parts.Goals.{In-Parts}
+use Rattle.parts.proofs.read_parts.Goals.{In_ok-sizes}
 
 -- where the sheet is accepted
-accepted : (c : goal.In-Parts) → PartsAnswer.Parts c.in-Parts.s ≡ parts_answer c.args.sheet.now
-accepted c = sym c.in-Parts.is ∙ c.check_parts-a.ensures
-
-fits : (c : goal.In-Parts) → SizesFit c.args.sheet.now c.in-Parts.s
-fits c = fit c.args.sheet.now c.in-Parts.s (answer-sized c.args.sheet.now c.in-Parts.s (accepted c))
+fits : (c : goal.In_ok-sizes) → SizesFit c.args.sheet.now c.in_ok-sizes.sizes
+fits c = fit c.args.sheet.now c.in_ok-sizes.sizes (answer-sized c.args.sheet.now c.in_ok-sizes.sizes c.in_ok-sizes.ensures)
 
 pub overflow_add-at : goal.overflow_add-at
-overflow_add-at c = omega (arith, fits (goal.at.overflow_add-at c).In-Parts)
+overflow_add-at c = omega (arith, fits (goal.at.overflow_add-at c).In_ok-sizes)
 
-pub overflow_add-at-in-Parts : goal.overflow_add-at-in-Parts
-overflow_add-at-in-Parts c = omega (arith, fits (goal.at.overflow_add-at-in-Parts c).In-Parts)
+pub overflow_add-at-2 : goal.overflow_add-at-2
+overflow_add-at-2 c = omega (arith, fits (goal.at.overflow_add-at-2 c).In_ok-sizes)
 
-pub copy_tags-requires : goal.copy_tags-requires
-copy_tags-requires c = omega (arith, fits (goal.at.copy_tags-requires c).In-Parts)
+pub returns-in_err-sizes-clause-tags : goal.returns-in_err-sizes-clause-tags
+returns-in_err-sizes-clause-tags c = tags-kept c.args.sheet.now _ c.in_err-sizes.ensures c.args.tags.now
 
-pub overflow_add-at-in-Parts-2 : goal.overflow_add-at-in-Parts-2
-overflow_add-at-in-Parts-2 c = omega (arith, fits (goal.at.overflow_add-at-in-Parts-2 c).In-Parts)
+pub returns-in_err-sizes-clause-values : goal.returns-in_err-sizes-clause-values
+returns-in_err-sizes-clause-values c = values-kept c.args.sheet.now _ c.in_err-sizes.ensures c.args.values.now
 
-pub copy_values-requires : goal.copy_values-requires
-copy_values-requires c = omega (arith, fits (goal.at.copy_values-requires c).In-Parts)
+pub slice_bounds-copy_from_slice-end : goal.slice_bounds-copy_from_slice-end
+slice_bounds-copy_from_slice-end c = omega (arith, fits (goal.at.slice_bounds-copy_from_slice-end c).In_ok-sizes)
 
-pub returns-in-Refused : goal.returns-in-Refused
-returns-in-Refused c =
-    record {
-      answer = (sym c.in-Refused.is ∙ c.check_parts-a.ensures);
-      tags = tags-kept c.args.sheet.now c.in-Refused.r (sym c.in-Refused.is ∙ c.check_parts-a.ensures) c.args.tags.now;
-      values = values-kept c.args.sheet.now c.in-Refused.r (sym c.in-Refused.is ∙ c.check_parts-a.ensures) c.args.values.now;
-    }
+pub slice_bounds-copy_from_slice-end-3 : goal.slice_bounds-copy_from_slice-end-3
+slice_bounds-copy_from_slice-end-3 c = omega (arith, fits (goal.at.slice_bounds-copy_from_slice-end-3 c).In_ok-sizes)
 
-pub returns-in-Parts : goal.returns-in-Parts
-returns-in-Parts c =
-    record {
-      answer = (accepted (goal.at.returns-in-Parts c).In-Parts);
-      tags = c.copy_tags.ensures ∙ tags-over c.args.sheet.now _ (accepted (goal.at.returns-in-Parts c).In-Parts) c.args.tags.now;
-      values = c.copy_values.ensures ∙ values-over c.args.sheet.now _ (accepted (goal.at.returns-in-Parts c).In-Parts) c.args.values.now;
-    }
+pub overflow_add-at-3 : goal.overflow_add-at-3
+overflow_add-at-3 c = omega (arith, fits (goal.at.overflow_add-at-3 c).In_ok-sizes)
+
+pub overflow_add-at-4 : goal.overflow_add-at-4
+overflow_add-at-4 c = omega (arith, fits (goal.at.overflow_add-at-4 c).In_ok-sizes)
+
+pub slice_bounds-read_words-count : goal.slice_bounds-read_words-count
+slice_bounds-read_words-count c = omega (arith, fits (goal.at.slice_bounds-read_words-count c).In_ok-sizes)
+
+pub slice_bounds-read_words-start : goal.slice_bounds-read_words-start
+slice_bounds-read_words-start c = omega (arith, fits (goal.at.slice_bounds-read_words-start c).In_ok-sizes)
+
+pub read_words-requires : goal.read_words-requires
+read_words-requires c = let f = fits (goal.at.read_words-requires c).In_ok-sizes in words-left c.args.sheet.now c.args.values.now (12 + c.in_ok-sizes.sizes.names + c.in_ok-sizes.sizes.letters + c.in_ok-sizes.sizes.tokens) c.in_ok-sizes.sizes.tokens (omega (arith, f)) (omega (arith, f, c.told-values))
+
+pub returns-clause-tags : goal.returns-clause-tags
+returns-clause-tags c = let f = fits (goal.at.returns-clause-tags c).In_ok-sizes in tags-copied c.args.sheet.now c.args.tags.now _ (12 + c.in_ok-sizes.sizes.names + c.in_ok-sizes.sizes.letters) c.in_ok-sizes.sizes.tokens (omega (arith, f)) (omega (arith, f, c.told-tags)) (cc) ∙ tags-over c.args.sheet.now _ c.in_ok-sizes.ensures c.args.tags.now
+
+pub returns-clause-values : goal.returns-clause-values
+returns-clause-values c = let f = fits (goal.at.returns-clause-values c).In_ok-sizes in words-copied c.args.sheet.now c.args.values.now (12 + c.in_ok-sizes.sizes.names + c.in_ok-sizes.sizes.letters + c.in_ok-sizes.sizes.tokens) c.in_ok-sizes.sizes.tokens (omega (arith, f)) (omega (arith, f, c.told-values)) _ c.read_words.ensures ∙ values-over c.args.sheet.now _ c.in_ok-sizes.ensures c.args.values.now

@@ -1,7 +1,7 @@
 -- `parts::write_bytes` meets its contract. Assumes nothing.
 use mathlib.Core.Path.{refl, ◌∙◌}
 use native.Mathlib.Omega.{arith}
-use Rattle.parts.proofs.Stores.{sets_over}
+use Rattle.parts.proofs.Words.{bytes_over}
 use Rattle.parts.proofs.Whole.{enough, too_few, filled, untouched}
 use Rattle.parts.proofs.write_bytes.Goals as goal
 
@@ -12,10 +12,8 @@ returns-then-out-n c = let s = c.args in
       out_after = untouched s.bytes.now s.out.now _ refl (omega (arith, c.if-out-n.true));
     }
 
-pub returns : goal.returns
-returns c = let s = c.args in
-    let k = c.if-out-n.false in
-    record {
-      value = enough s.bytes.now s.out.now _ refl (omega (arith, k));
-      out_after = c.put_bytes.ensures ∙ (sets_over s.out.now s.bytes.now ∙ filled s.bytes.now s.out.now _ refl (omega (arith, k)));
-    }
+pub returns-clause-value : goal.returns-clause-value
+returns-clause-value c = enough c.args.bytes.now c.args.out.now _ refl (omega (arith, c.if-out-n.false))
+
+pub returns-clause-out_after : goal.returns-clause-out_after
+returns-clause-out_after c = rw c.copy_bytes.ensures (bytes_over c.args.out.now c.args.bytes.now (omega (arith, c.if-out-n.false)) ∙ filled c.args.bytes.now c.args.out.now _ refl (omega (arith, c.if-out-n.false)))

@@ -5,4 +5,4 @@ use lib.ListN.{length}
 use Rattle.planned.proofs.+put_type_at.Given as goal
 
 abbrev pub decreases-put_type_at : goal.decreases-put_type_at
-decreases-put_type_at l = length l.tags.now - l.at
+decreases-put_type_at l = length l.source.now.tags.now - l.at

@@ -2,9 +2,9 @@
 -- Assumes nothing.
 use mathlib.Core.List.{List}
 use Rattle.definitions.specs.Tokens.{TagValue}
-use Rattle.emit.specs.Out.{out, puts}
-use Rattle.planned.specs.Writes.{Writer, Writes}
-use Rattle.planned.specs.Opening.{WriterStands}
+use Rattle.emit.specs.Out.{puts}
+use Rattle.planned.specs.Writes.{Writer}
+use Rattle.planned.specs.Opening.{WritesIn, WriterStands}
 use Rattle.planned.proofs.Walk.{Left}
 use Prim.Native.Nat.{ℕ, ◌≤◌, ◌-◌, ◌*◌, ◌^◌, ◌+◌}
 use Rattle.planned.proofs.+walk.Given as goal
@@ -15,9 +15,6 @@ decreases-expr l = 2 * (2 ^ 64 - l.at)
 abbrev pub decreases-exprs : goal.decreases-exprs
 decreases-exprs l = 2 * (2 ^ 64 - l.at) + 1
 
-abbrev pub invariant-exprs-loop-left : goal.invariant-exprs-loop-left
-invariant-exprs-loop-left s =
-    (s.at ≤ s.from) × ((W : Writer) (q : ℕ) (l : List TagValue) → WriterStands s.tags s.values s.places s.type_places s.flag_ids s.first_ids s.hold_ids s.k W → Writes s.tags s.values W s.plan s.at s.many q l → Left s.tags s.values W s.plan q (puts (out s.initial.otags s.initial.ovalues s.w) l) (out s.otags s.ovalues s.to) s.from s.left)
-
-abbrev pub decreases-exprs-loop-left : goal.decreases-exprs-loop-left
-decreases-exprs-loop-left l = l.left
+abbrev pub invariant-exprs-loop : goal.invariant-exprs-loop
+invariant-exprs-loop s =
+    (s.at ≤ s.from) × ((W : Writer) (q : ℕ) (l : List TagValue) → WriterStands s.written W → WritesIn s.written W s.at s.many q l → Left s.written W q (puts s.initial.output l) s.output s.from (s.many - s.counter))

@@ -1,17 +1,10 @@
 -- `planned::put_before` meets its contract: by the frame.
 -- Assumes nothing.
-use Rattle.planned.proofs.FramesLaws.{before-plain, before-choice, before-gate}
-use Rattle.planned.proofs.put_before.Reads as reads
-use Rattle.planned.proofs.put_before.Lts as lts
-use Rattle.defaults.proofs.emit_two.Reads as emit-two-reads
-use Rattle.planned.proofs.put_gate.Reads as put-gate-reads
+use Rattle.planned.proofs.FramesLaws.{before-plain, before-gate}
 use Rattle.planned.proofs.put_before.Goals as goal
 
 pub returns-in-Plain : goal.returns-in-Plain
 returns-in-Plain c = before-plain _ _ _ _ c.in-Plain.is
-
-pub returns-in-Choose : goal.returns-in-Choose
-returns-in-Choose c = before-choice _ _ _ _ _ _ c.in-Choose.is c.emit_two.ensures
 
 pub returns-in-Gate : goal.returns-in-Gate
 returns-in-Gate c = before-gate _ _ _ _ _ _ c.in-Gate.is c.put_gate.ensures

@@ -2,27 +2,19 @@
 -- Assumes nothing.
 use mathlib.Core.Path.{◌≡◌}
 use mathlib.Core.List.{List}
-use Prim.Native.Nat.{ℕ, ◌-◌}
+use Prim.Native.Nat.{ℕ}
 use lib.ListN.{length, get_or}
-use Rattle.definitions.specs.Bytes.{tokens}
+use Rattle.grammar.specs.Read.{tokens_of}
 use Rattle.definitions.specs.Declock.{Hold, declared}
 use Rattle.typing.specs.Found.{Declares}
 use Rattle.stateless.specs.Yield.{Ids}
-use Rattle.emit.specs.Out.{out, emits}
+use Rattle.emit.specs.Out.{emits}
 use Rattle.planned.specs.Writes.{Writer}
 use Rattle.planned.specs.Held.{HeldFrom}
 use Rattle.planned.specs.Shown.{hold_declarations}
 use Rattle.planned.proofs.HoldsLaws.{Left}
-use Rattle.planned.proofs.put_hold_declarations.Reads as reads
-use Rattle.planned.proofs.put_hold_declarations.Lts as lts
-use Rattle.planned.proofs.hold_word.Reads as hold-word-reads
-use Rattle.planned.proofs.put_declaration.Reads as put-declaration-reads
-use Rattle.clock_tables.proofs.word_at.Reads as word-at-reads
 use Rattle.planned.proofs.put_hold_declarations.Given as goal
 
 abbrev pub invariant-loop-j : goal.invariant-loop-j
 invariant-loop-j l =
-    (W : Writer) (plan : List ℕ) (hs : List Hold) (ids : Ids) → length hs ≡ l.count → HeldFrom l.names l.tags l.values W plan l.holds 0 hs → Declares l.names (tokens l.tags l.values) l.types (declared W.node) → ((j : ℕ) → ids.hold j ≡ get_or l.hold_ids j 0) → Left l.names l.tags l.values W plan l.holds (hold_declarations ids) (emits (out l.initial.otags l.initial.ovalues l.w) (hold_declarations ids 0 hs)) (out l.otags l.ovalues l.to) l.count l.j
-
-abbrev pub decreases-loop-j : goal.decreases-loop-j
-decreases-loop-j l = l.count - l.j
+    (W : Writer) (plan : List ℕ) (hs : List Hold) (ids : Ids) → length hs ≡ l.count → HeldFrom l.written.index.now.source.names l.written.index.now.source.tags.now l.written.index.now.source.values.now W plan l.written.holds.now 0 hs → Declares l.written.index.now.source.names (tokens_of l.written.index.now.source) l.written.types.now (declared W.node) → ((j : ℕ) → ids.hold j ≡ get_or l.written.hold_ids.now j 0) → Left l.written.index.now.source.names l.written.index.now.source.tags.now l.written.index.now.source.values.now W plan l.written.holds.now (hold_declarations ids) (emits l.initial.output (hold_declarations ids 0 hs)) l.output l.count l.j

@@ -1,5 +1,4 @@
--- `query::put_listings` meets its contract: the listings of the nodes so far are put, and no clock of theirs is too deep. The measure is the
--- number of nodes left. Assumes nothing.
+-- `query::put_listings` meets its contract: the listings of the nodes so far are put, and no clock of theirs is too deep.  Assumes nothing.
 use mathlib.Core.Path.{◌≡◌}
 use mathlib.Core.List.{List}
 use Prim.Native.Nat.{ℕ, ◌-◌, ◌*◌, ◌≤◌}
@@ -9,15 +8,12 @@ use Rattle.definitions.specs.Tree.{Node}
 use Rattle.definitions.specs.Reading.{got, times}
 use Rattle.definitions.specs.Grammar.{node}
 use Rattle.definitions.specs.Answer.{clockings}
-use Rattle.spelling.specs.Places.{letters_at}
-use Rattle.query.specs.Standing.{Roomy, Ample}
+use Rattle.spelling.specs.Places.{letters_in}
+use Rattle.workspace.specs.Room.{SameRoom, RoomToList}
 use Rattle.query.proofs.Listings.{Putting}
 use Rattle.query.proofs.put_listings.Given as goal
 
 abbrev pub invariant-loop-i : goal.invariant-loop-i
 invariant-loop-i l =
-    (length l.out ≡ length l.initial.out) × (length l.env ≡ length l.initial.env) × (length l.table ≡ length l.initial.table) × (length l.rows ≡ length l.initial.rows) × (length l.chain ≡ length l.initial.chain) × (length l.sites ≡ length l.initial.sites) × (l.at ≤ 4294967296 * l.i)
-    × ((ns : List Node) (q : ℕ) → times l.n (node l.names) (tokens l.tags l.values) l.from ≡ got ns q → Roomy l.names (length l.tags) l.initial.env l.initial.table l.initial.sites → Ample l.initial.table l.initial.rows l.initial.chain → length l.letters ≤ 16384 → length l.tags ≤ 4096 → Putting l.names (tokens l.tags l.values) (letters_at l.starts l.letters) (l.n - l.i) l.i l.place q l.initial.out l.at l.out (clockings 0 ns))
-
-abbrev pub decreases-loop-i : goal.decreases-loop-i
-decreases-loop-i l = l.n - l.i
+    (length l.out ≡ length l.initial.out) × SameRoom l.initial.working l.working × (l.at ≤ 4294967296 * l.i)
+    × ((ns : List Node) (q : ℕ) → times l.n (node l.source.names) (tokens l.source.tags.now l.source.values.now) l.from ≡ got ns q → RoomToList l.source.names (length l.source.tags.now) l.initial.working → length l.spelling.letters.now ≤ 16384 → length l.source.tags.now ≤ 4096 → Putting l.source.names (tokens l.source.tags.now l.source.values.now) (letters_in l.spelling) (l.n - l.i) l.i l.place q l.initial.out l.at l.out (clockings 0 ns))

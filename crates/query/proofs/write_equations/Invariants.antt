@@ -1,7 +1,7 @@
 -- `query::write_equations` meets its contract: the clocks of the first i equations are written. Assumes nothing.
 use mathlib.Core.Path.{◌≡◌}
 use mathlib.Core.List.{List}
-use Prim.Native.Nat.{ℕ, ◌-◌, ◌≤◌}
+use Prim.Native.Nat.{ℕ}
 use lib.ListN.{length}
 use Rattle.definitions.specs.InferClocks.{Clocked}
 use Rattle.skeleton.specs.Sites.{EquationsOn}
@@ -10,7 +10,4 @@ use Rattle.query.proofs.write_equations.Given as goal
 
 abbrev pub invariant-loop-i : goal.invariant-loop-i
 invariant-loop-i l =
-    (length l.list ≡ length l.initial.list) × (l.i ≤ l.most) × ((M : ℕ) (cs : List Clocked) (q : ℕ) → EquationsOn M l.tags l.values l.sites cs l.initial.place q → length cs ≡ l.n → Equations M l.tags l.values l.sites cs q l.place l.initial.list l.i l.list)
-
-abbrev pub decreases-loop-i : goal.decreases-loop-i
-decreases-loop-i l = l.most - l.i
+    (length l.list ≡ length l.initial.list) × ((M : ℕ) (cs : List Clocked) (q : ℕ) → EquationsOn M l.source.tags.now l.source.values.now l.sites cs l.initial.place q → length cs ≡ l.fn.s.count → Equations M l.source.tags.now l.source.values.now l.sites cs q l.place l.initial.list l.i l.list)

@@ -1,24 +1,16 @@
--- `query::write_faults` meets its contract: the faults of the first rows are written. The measure is the number of rows left. Assumes nothing.
-use Prim.Native.Nat.{◌-◌}
+-- `query::write_faults` meets its contract: the faults of the first rows are written. Assumes nothing.
+use mathlib.Core.Path.{refl}
 use native.Mathlib.Omega.{arith}
-use Rattle.query.proofs.Entries.{faults-none, fault-written, fault-passed, faults-length, faults-all}
+use Rattle.findings.proofs.Laws.{not-fault}
+use Rattle.query.proofs.Entries.{faults-none, fault-written, fault-passed}
 use Rattle.query.proofs.write_faults.Goals as goal
+use Rattle.query.proofs.write_faults.Goals.{in-Fault, in_default}
 
 pub loop-i-init : goal.loop-i-init
-loop-i-init c = (omega arith, omega arith, faults-none _ c.args.table.now _)
-
-pub loop-i-preserved-then-faulty : goal.loop-i-preserved-then-faulty
-loop-i-preserved-then-faulty c = (omega (arith, c.loop-i-test.true), omega (arith, c.loop-i.invariant.1), fault-written _ c.args.table.now _ _ _ _ c.loop-i.invariant.2 _ c.is_fault-faulty.ensures _ _ _ c.if-faulty.true c.found_in-f.ensures c.fault_number-number.ensures c.put_fault.ensures)
+loop-i-init c = (omega arith, faults-none _ _ _)
 
 pub loop-i-preserved : goal.loop-i-preserved
-loop-i-preserved c = (omega (arith, c.loop-i-test.true), omega (arith, c.loop-i.invariant.1), fault-passed _ c.args.table.now _ _ _ _ c.loop-i.invariant.2 _ c.is_fault-faulty.ensures c.if-faulty.false)
-
-pub shape_of-list : goal.shape_of-list
-shape_of-list c = faults-length _ c.args.table.now _ _ _ _ c.loop-i.invariant.2
-
-pub returns : goal.returns
-returns c = let w = faults-all _ c.args.table.now _ _ _ _ c.loop-i.invariant.2 _ c.loop-i.invariant.0 c.loop-i-test.false in
-    record {
-      value = w.count;
-      list_after = w.written;
-    }
+loop-i-preserved c = elim c.match-finding_at.branch [
+  | in-Fault w ↦ rw (w.m-is, w.list-is) (omega (arith, c.loop-i.invariant.0), fault-written _ _ _ _ _ _ c.loop-i.invariant.1 _ w.in-Fault.ensures _ _ _ refl w.fault_number-number.ensures w.put_fault.ensures)
+  | in_default w ↦ rw (w.m-is, w.list-is) (omega (arith, c.loop-i.invariant.0), fault-passed _ _ _ _ _ _ c.loop-i.invariant.1 _ c.finding_at.ensures (not-fault _ w.in_default.not-Fault))
+]

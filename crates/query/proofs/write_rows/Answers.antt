@@ -1,24 +1,20 @@
 -- `query::write_rows` meets its contract: the first i clocks are written. Assumes nothing.
 use mathlib.Core.Path.{refl, ◌∙◌}
-use Prim.Native.Nat.{◌-◌}
 use native.Mathlib.Omega.{arith}
 use Rattle.query.proofs.Entries.{entered-none, row-entered, rows-entered}
 use Rattle.query.proofs.write_rows.Goals as goal
 
 pub loop-i-init : goal.loop-i-init
-loop-i-init c = (refl, omega arith, entered-none _ _ _)
+loop-i-init c = (refl, entered-none _ _ _)
 
 pub overflow_mul-i : goal.overflow_mul-i
 overflow_mul-i c = omega arith
 
 pub put_clock-requires : goal.put_clock-requires
-put_clock-requires c = omega (arith, c.loop-i.invariant.0, c.loop-i-test.true, c.least-most.ensures)
+put_clock-requires c = omega (arith, c.loop-i.invariant.0, c.loop-i-test.true, c.min-i-end.ensures)
 
 pub loop-i-preserved : goal.loop-i-preserved
-loop-i-preserved c = (c.put_clock.auto.list ∙ c.loop-i.invariant.0, omega (arith, c.loop-i-test.true), row-entered _ _ _ _ _ _ _ _ _ _ (omega (arith, c.loop-i-test.true, c.least-most.ensures)) c.word_at.ensures c.wide-row.ensures c.get-c.ensures c.put_clock.ensures c.loop-i.invariant.2)
-
-pub shape_of-list : goal.shape_of-list
-shape_of-list c = c.loop-i.invariant.0
+loop-i-preserved c = (c.put_clock.auto.list ∙ c.loop-i.invariant.0, row-entered _ _ _ _ _ _ _ _ _ _ (omega (arith, c.loop-i-test.true, c.min-i-end.ensures)) refl refl c.get.ensures c.put_clock.ensures c.loop-i.invariant.1)
 
 pub returns : goal.returns
-returns c = rows-entered _ _ _ _ _ _ _ _ refl c.least-most.ensures c.loop-i.invariant.1 c.loop-i-test.false c.loop-i.invariant.2
+returns c = rows-entered _ _ _ _ _ _ _ _ refl c.min-i-end.ensures c.loop-i.auto.i-end c.loop-i-test.false c.loop-i.invariant.1

@@ -4,4 +4,4 @@ use Rattle.listings.specs.Answers.{ClocksInWords}
 use Rattle.questions.proofs.clocks.Goals as goal
 
 pub returns : goal.returns
-returns c = subst⁻¹ (ClocksInWords _ _ _ _ _ _ _ _) c.clocks_answer.ensures c.ask-reply.ensures
+returns c = subst⁻¹ (ClocksInWords _ _ _ _ _ _ _ _) c.clocks_answer.ensures c.ask.ensures

@@ -4,4 +4,4 @@ use Rattle.listings.specs.Answers.{ListingGiven}
 use Rattle.questions.proofs.listing.Goals as goal
 
 pub returns : goal.returns
-returns c = subst⁻¹ (ListingGiven _ _ _) c.listing_answer.ensures c.ask-reply.ensures
+returns c = subst⁻¹ (ListingGiven _ _ _) c.bytes_answer.ensures c.ask.ensures

@@ -7,7 +7,7 @@ use Rattle.questions.proofs.rewrite.Goals as goal
 
 pub returns : goal.returns
 returns c = let b = c.args.sheet.now in
-    let g = subst⁻¹ (RewriteInWords _ _ _ _ _) c.rewrite_answer.ensures c.ask-reply.ensures in
+    let g = subst⁻¹ (RewriteInWords _ _ _ _ _) c.bytes_answer.ensures c.ask.ensures in
     record {
       rewrite_in_words = g;
       demand_three = written-demand b _ _ _ _ _ (bytes_below b (λ k. omega (arith, c.shared_slice_known-1.given k))) g;

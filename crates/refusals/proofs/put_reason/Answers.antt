@@ -1,11 +1,8 @@
 -- `refusals::put_reason` meets its contract. Assumes nothing.
 use Rattle.definitions.specs.Lists.{bytes}
-use Rattle.spelling.proofs.Writing.{put_then}
-use Rattle.refusals.proofs.Telling.{explained}
+use Rattle.spelling.proofs.Writers.{wrote_then}
 use Rattle.refusals.proofs.put_reason.Goals as goal
 
 pub returns : goal.returns
 unfolding bytes
-returns c =
-    explained c.args.r
-    (put_then c.requires (put_then c.requires (put_then c.requires c.put_refused-a.ensures c.put_all-b.ensures) c.put_why-c.ensures) c.put.ensures)
+returns c = wrote_then c.put_refused.ensures (wrote_then c.put_all.ensures (wrote_then (rw c.reason.ensures at c.put_all-2.ensures) c.put.ensures))

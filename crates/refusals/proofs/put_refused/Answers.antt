@@ -1,11 +1,8 @@
 -- `refusals::put_refused` meets its contract. Assumes nothing.
 use Rattle.definitions.specs.Lists.{bytes}
-use Rattle.spelling.proofs.Writing.{put_then}
-use Rattle.refusals.proofs.Telling.{told}
+use Rattle.spelling.proofs.Writers.{wrote_then}
 use Rattle.refusals.proofs.put_refused.Goals as goal
 
 pub returns : goal.returns
 unfolding bytes
-returns c =
-    told c.args.r _ _ c.number-n.ensures c.place-p.ensures
-    (put_then c.requires (put_then c.requires c.put_all-a.ensures c.put_number-b.ensures) c.put_number.ensures)
+returns c = wrote_then c.put_all.ensures (wrote_then (rw c.number.ensures at c.put_number.ensures) (rw c.place.ensures at c.put_number-2.ensures))

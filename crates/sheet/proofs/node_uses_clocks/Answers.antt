@@ -5,4 +5,4 @@ use Rattle.sheet.proofs.node_uses_clocks.Goals as goal
 
 pub returns : goal.returns
 unfolding uses_clocks
-returns c = λ n q g. c.equations_use_clocks.ensures _ n.equations _ (c.node_at-whole.ensures n q g).equations.items
+returns c = λ n q g. c.equations_use_clocks.ensures _ n.equations _ (c.node_at.ensures n q g).equations.items

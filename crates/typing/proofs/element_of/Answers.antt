@@ -1,25 +1,21 @@
 -- `typing::element_of` meets its contract.
 -- Assumes nothing.
-use Rattle.typing.proofs.Laws.{element-of-basic, element-of-array, element-of-named, element-refused, element-basic, element-unknown}
-use Rattle.typing.proofs.element_of.Reads as reads
-use Rattle.typing.proofs.element_of.Lts as lts
-use Rattle.grammar.proofs.type_head.Reads as type-head-reads
+use mathlib.Core.Path.{◌∙◌, ap}
+use Rattle.std.specs.Prelude.{Some}
+use Rattle.typing.proofs.Laws.{element-of-array, element-other, element-refused, element-basic, element-unknown}
 use Rattle.typing.proofs.element_of.Goals as goal
 
-pub returns-in-Basic-t : goal.returns-in-Basic-t
-returns-in-Basic-t c = λ o h. element-of-basic _ _ _ _ c.in-At.is _ c.type_head-head.ensures _ _ c.in-Token.is _ c.in-Basic-t.is o h
+pub returns-in_default : goal.returns-in_default
+returns-in_default c = λ o h. element-unknown _ _ o _ c.in_default.is h
 
-pub returns-in-Array : goal.returns-in-Array
-returns-in-Array c = λ o h. element-of-array _ _ _ _ c.in-At.is _ c.type_head-head.ensures _ _ c.in-Token.is _ c.in-Array.is o h
+pub returns-in_default-f : goal.returns-in_default-f
+returns-in_default-f c = λ o h. element-basic _ _ o _ _ (c.in-Some.is ∙ ap Some c.in_default-f.is) h
 
-pub returns-in-Named : goal.returns-in-Named
-returns-in-Named c = λ o h. element-of-named _ _ _ _ c.in-At.is _ c.type_head-head.ensures _ _ c.in-Token.is _ c.in-Named.is o h
+pub returns-in_default-type_head : goal.returns-in_default-type_head
+returns-in_default-type_head c = λ o h. element-refused _ _ _ _ (c.in-Some.is ∙ ap Some c.in-At.is) _ c.type_head.ensures _ c.in_default-type_head.is o h
 
-pub returns-in-Refused : goal.returns-in-Refused
-returns-in-Refused c = λ o h. element-refused _ _ _ _ c.in-At.is _ c.type_head-head.ensures _ c.in-Refused.is o h
+pub returns-in_default-t : goal.returns-in_default-t
+returns-in_default-t c = λ o h. element-other _ _ _ _ (c.in-Some.is ∙ ap Some c.in-At.is) _ c.type_head.ensures _ _ c.in-Ok.is c.in_default-t.not-Array o h
 
-pub returns-in-Basic : goal.returns-in-Basic
-returns-in-Basic c = λ o h. element-basic _ _ o _ _ c.in-Basic.is h
-
-pub returns-in-Unknown : goal.returns-in-Unknown
-returns-in-Unknown c = λ o h. element-unknown _ _ o _ c.in-Unknown.is h
+pub returns : goal.returns
+returns c = λ o h. element-of-array _ _ _ _ (c.in-Some.is ∙ ap Some c.in-At.is) _ c.type_head.ensures _ _ c.in-Ok.is _ c.in-Array.is o h

@@ -5,4 +5,4 @@ use Rattle.vectors.proofs.Hex.{Left}
 use Rattle.vectors.proofs.put_hex.Given as goal
 
 abbrev pub invariant-loop-b : goal.invariant-loop-b
-invariant-loop-b l = Left (hex l.part) (hex (drop l.b-index l.part)) l.initial.place l.initial.out l.place l.out
+invariant-loop-b l = Left (hex l.part) (hex (drop l.b-index l.part)) l.initial.text l.text

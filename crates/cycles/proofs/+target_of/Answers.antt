@@ -1,0 +1,20 @@
+-- `cycles::target_of` meets its contract: the first token decides, and the depth falls at an element.
+-- Assumes nothing.
+use Rattle.layout.proofs.TypedefsLaws.{type-not-refused, type-is-basic, type-is-named, type-is-array}
+use Rattle.cycles.proofs.Laws.{target-basic, target-named, target-array}
+use Rattle.cycles.proofs.+target_of.Goals as goal
+
+pub returns-in_default : goal.returns-in_default
+returns-in_default t c = λ y q g. absurd (type-not-refused _ _ _ _ c.type_head.ensures _ y q g _ c.in_default.is)
+
+pub returns-in-Basic : goal.returns-in-Basic
+returns-in-Basic t c = λ y q g. target-basic y _ (type-is-basic _ _ _ _ c.type_head.ensures _ y q g _ _ c.in-Ok.is _ c.in-Basic.is)
+
+pub returns-in-Named : goal.returns-in-Named
+returns-in-Named t c = λ y q g. target-named y _ (type-is-named _ _ _ _ c.type_head.ensures _ y q g _ _ c.in-Ok.is _ c.in-Named.is)
+
+pub returns-then-depth-eq0 : goal.returns-then-depth-eq0
+returns-then-depth-eq0 t c = λ y q g. absurd ((type-is-array _ _ _ _ c.type_head.ensures _ y q g _ _ c.in-Ok.is _ c.in-Array.is).1 c.if-depth-eq0.true)
+
+pub returns-else-depth-eq0 : goal.returns-else-depth-eq0
+returns-else-depth-eq0 t c = λ y q g. let a = type-is-array _ _ _ _ c.type_head.ensures _ y q g _ _ c.in-Ok.is _ c.in-Array.is in rw (target-array y a.0 _ a.4) (c.target_of.ensures a.0 q a.3)

@@ -1,6 +1,0 @@
--- `layout::types_at` meets its contract.
--- Assumes nothing.
-use Rattle.layout.proofs.types_at.Goals as goal
-
-pub returns : goal.returns
-returns c = record { first = c.behind-first.ensures; counted = c.value_at-count.ensures; ended = c.definitions_end-end.ensures }

@@ -1,0 +1,35 @@
+-- A clocked node that is listed.
+use Rattle.std.specs.Prelude.{ℕ, ◌≤◌, ◌≡◌, length}
+use Rattle.definitions.specs.Lists.{Letters}
+use Rattle.definitions.specs.InferClocks.{formed, clocking, chains}
+use Rattle.definitions.specs.Output.{ClockedNode}
+use Rattle.definitions.specs.Answer.{node_listing}
+use Rattle.grammar.specs.Read.{tokens_of}
+use Rattle.spelling.specs.Places.{letters_in}
+use Rattle.layout.specs.Laid.{LaidNode}
+use Rattle.findings.specs.Findings.{findings_in}
+use Rattle.chain_order.specs.Order.{ordered_clocks}
+use Rattle.chain_order.specs.declared.OrderedClocks.{OrderedClocks}
+use Rattle.lines.specs.ToldClocks.{ToldClocks}
+use Rattle.lines.specs.declared.ListedNode.{ListedNode}
+
+-- the node that is listed, with its clocks, is n: laid out so, and what was told and found is of its clocks
+pub record Lists (l : ListedNode) (n : ClockedNode) : Type 0 where
+  pub end : ℕ
+  pub laid : LaidNode l.told.names (tokens_of l.source) n.node end l.told.layout
+  pub formed : clocking n.node ≡ formed n.clocking
+  pub tells : ToldClocks l.source.tags.now l.source.values.now l.table.now l.sites.now l.told n.clocking
+
+-- these are its chains, in order
+abbrev pub AreChains : ListedNode → OrderedClocks → Type 0
+AreChains l o = ordered_clocks o ≡ chains (letters_in l.spelling) (findings_in l.table.now l.told.findings)
+
+-- it has no more letters, tokens and findings than a sheet may have
+pub record IsSmall (l : ListedNode) : Type 0 where
+  pub letters : length l.spelling.letters.now ≤ 16384
+  pub tokens : length l.source.tags.now ≤ 4096
+  pub findings : l.told.findings ≤ 4096
+
+-- its listing
+abbrev pub listed : ListedNode → ClockedNode → Letters
+listed l n = node_listing (letters_in l.spelling) l.told.number n

@@ -1,7 +1,0 @@
--- `spelling::word_at` meets its contract. Assumes nothing.
-use mathlib.Core.Path.{sym}
-use lib.ListN.{get_or-eq_default}
-use Rattle.spelling.proofs.word_at.Goals as goal
-
-pub returns : goal.returns
-returns c = sym (get_or-eq_default c.args.ws.now 0 c.if-i-ws.false)

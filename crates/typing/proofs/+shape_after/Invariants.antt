@@ -1,8 +1,0 @@
--- `typing::shape_after` meets its contract.
--- Assumes nothing.
-use Prim.Native.Nat.{◌-◌}
-use lib.ListN.{length}
-use Rattle.typing.proofs.+shape_after.Given as goal
-
-abbrev pub decreases-shape_after : goal.decreases-shape_after
-decreases-shape_after l = length l.tags.now - l.at

@@ -1,0 +1,2 @@
+-- What the working tables have room for.
+pub mod Room

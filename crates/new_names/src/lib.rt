@@ -125,7 +125,6 @@ impl FlagNames {
 }
 
 // The first n names of a stem added.
-// Stays (proof): that so many numbers stand there is known of a filled node alone, so that they cannot be cut off before.
 fn add_counted(table: &mut OutputNames, stem: StemName, numbers: &[u32], n: usize)
     ensures { (all : List Letters) → NamesHeld table.old all → NamesHeld table.new (add_names all (counted_names (stem_of stem) numbers.now n)) }
 {
@@ -224,7 +223,6 @@ pub fn condact_id<const PLACES: usize, const LETTERS: usize>(
 }
 
 // The ids of the first n names of a stem among the names of a table.
-// Stays (proof): as above.
 pub fn fill_ids<const PLACES: usize, const LETTERS: usize>(
     table: &NameTable<PLACES, LETTERS>,
     stem: StemName,

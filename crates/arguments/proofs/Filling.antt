@@ -1,8 +1,11 @@
 -- Laws on bytes that are filled from a reader.
 -- Assumes nothing.
-use Rattle.std.proofs.Common.{◌≡◌, ℕ, ◌+◌, ◌≤◌, List, ◌++◌, Option, length, take, drop, subst, sym, ap, ◌∙◌, length-take-le}
+use Rattle.std.proofs.Common.{◌≡◌, ℕ, ◌+◌, ◌≤◌, ◌<◌, List, ◌++◌, Option, Result, length, take, drop, subst, sym, ap, ◌∙◌, length-take-le}
 use Rattle.std.proofs.Math.Seq.{take-append-add, take-append-le, drop-append_seam}
+use Rattle.std.proofs.lemmas.List.{take_all, take-append-drop}
 use Rattle.std.specs.Io.KnownBytes.{Consumes}
+use Rattle.std.specs.Result.{OnOk}
+use Rattle.std.proofs.lemmas.Result.{on_ok_weaker}
 use Rattle.std.proofs.KnownBytes.{Consumes-trans}
 use borrow.Rule.Slice.PartMut.{put_mid, post_of}
 
@@ -23,3 +26,14 @@ module _ (a k n : ℕ) (xs ys : List ℕ) where
       let front : length (take a xs) ≡ a = length-take-le a xs h in
       let behind : drop a (take (a + n) (put_mid a k xs ys)) ≡ take n ys = ap (drop a) (take-put_mid-more h f) ∙ ap (λ (m : ℕ). drop m (take a xs ++ take n ys)) (sym front) ∙ drop-append_seam (take a xs) (take n ys) in
       subst (Consumes old new) (sym behind) p
+
+-- what is read on behind bytes that were read first makes with them all that is read
+pub read_whole : (n : ℕ) (start sheet : List ℕ) (old mid new : Option (List ℕ)) → length start ≤ n → Consumes old mid (take n start) → take (length start) sheet ≡ start → Consumes mid new (drop (length start) sheet) → Consumes old new sheet
+read_whole n start sheet old mid new h p e q =
+    let whole : start ++ drop (length start) sheet ≡ sheet = ap (λ (l : List ℕ). l ++ drop (length start) sheet) (sym e) ∙ take-append-drop (length start) sheet in
+    subst (Consumes old new) whole (Consumes-trans old mid new start (drop (length start) sheet) (subst (Consumes old mid) (take_all n start h) p) q)
+
+pub on_ok_whole : {E B : Type 0} (now : B → List ℕ) (End : Type 0) (Post : B → Type 0) (n : ℕ) (start : List ℕ) (old mid new : Option (List ℕ)) (r : Result (Unit {0}) E) → length start ≤ n → Consumes old mid (take n start)
+    → OnOk r ((s : B) × (take (length start) (now s) ≡ start) × Consumes mid new (drop (length start) (now s)) × (length (now s) < 65536 → End) × Post s)
+    → OnOk r ((s : B) × Consumes old new (now s) × (length (now s) < 65536 → End) × Post s)
+on_ok_whole {B = B} now End Post n start old mid new r h p o = on_ok_weaker {Q = (s : B) × Consumes old new (now s) × (length (now s) < 65536 → End) × Post s} r (λ z. (z.0, read_whole n start (now z.0) old mid new h p z.1 z.2, z.3, z.4)) o

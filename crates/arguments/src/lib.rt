@@ -136,7 +136,7 @@ pub fn read_full<R: Read>(reader: &mut R, bytes: &mut [u8]) -> io::Result<usize>
 }
 
 // The rest of a sheet of which the start is read: the whole over the front of these bytes, and how long it is.
-pub fn read_on<R: Read>(reader: &mut R, start: &[u8], sheet: &mut [u8]) -> io::Result<usize>
+fn read_on<R: Read>(reader: &mut R, start: &[u8], sheet: &mut [u8]) -> io::Result<usize>
     requires { length start.now ≤ length sheet.old }
     ensures prefix_len { ReadsAtMost result sheet.new }
     ensures start_kept { take (length start.now) sheet.new ≡ start.now }
@@ -148,6 +148,38 @@ pub fn read_on<R: Read>(reader: &mut R, start: &[u8], sheet: &mut [u8]) -> io::R
     sheet[..n].copy_from_slice(start);
     let m = read_full(reader, &mut sheet[n..])?;
     Ok(n + m)
+}
+
+// Answers a longer sheet, of which these bytes are read. Never inlined, so that only a run that comes here has these bytes on its stack.
+#[inline(never)]
+fn with_long_sheet<R: Read, F: FnOnce(&[u8]) -> io::Result<()>>(
+    input: &mut R,
+    start: &[u8],
+    answer: F,
+) -> io::Result<()>
+    requires callable { F.IsAlwaysCallable answer }
+    requires few { length start.now ≤ 4096 }
+    ensures { OnOk result ((sheet : _) × (take (length start.now) sheet.now ≡ start.now) × Consumes (R.remaining input.old) (R.remaining input.new) (drop (length start.now) sheet.now) × (length sheet.now < 65536 → IsAtEnd (R.remaining input.new)) × F.post answer sheet result) }
+{
+    let mut sheet = [0u8; 65536];
+    let n = read_on(input, start, &mut sheet)?;
+    answer(&sheet[..n])
+}
+
+// Answers a sheet that is read to its end, or until 65,536 bytes are read. A short one is read into few bytes.
+pub fn with_sheet<R: Read, F: FnOnce(&[u8]) -> io::Result<()>>(
+    input: &mut R,
+    answer: F,
+) -> io::Result<()>
+    requires { F.IsAlwaysCallable answer }
+    ensures { OnOk result ((sheet : _) × Consumes (R.remaining input.old) (R.remaining input.new) sheet.now × (length sheet.now < 65536 → IsAtEnd (R.remaining input.new)) × F.post answer sheet result) }
+{
+    let mut start = [0u8; 4096];
+    let n = read_full(input, &mut start)?;
+    if n < 4096 {
+        return answer(&start[..n]);
+    }
+    with_long_sheet(input, &start, answer)
 }
 
 #[cfg(test)]

@@ -77,8 +77,8 @@ module _ (clocks : Clocks) (i : ℕ) (c : Clock) (F : Clock → Fault) where
     met-other d f h j = ap (λ (g : Fault). found (record { equation = i; fault = g }) ∷ []) j ∙ sym (told-by ∙ ap (λ (u : maybe.Option struct.Clock). told (option_of u)) h)
 
 -- ---- one row of sites
-pub site-in : (t t' : List ℕ) (c : Clock) (p : ℕ) → length t' ≡ length t → clock_in t' (17 * p) ≡ c → Within t t' (17 * p) 17 → SiteStored t t' true c p
-site-in t t' c p n e w = record { long = n; here = λ b l. e; elsewhere = λ j m. clock-same t t' (17 * j) (λ i u v. w i (apart i j u v m)) }
+pub site-in : (t t' : List ℕ) (c : Clock) (p : ℕ) → length t' ≡ length t → (17 * p + 17 ≤ length t → clock_in t' (17 * p) ≡ c) → Within t t' (17 * p) 17 → SiteStored t t' true c p
+site-in t t' c p n e w = record { long = n; here = λ b. e; elsewhere = λ j m. clock-same t t' (17 * j) (λ i u v. w i (apart i j u v m)) }
   where
     apart : (i j : ℕ) → 17 * j ≤ i → i < 17 * j + 17 → (j ≡ p → ⊥) → (i < 17 * p) ⊎ (17 * p + 17 ≤ i)
     apart i j u v m = go (ltb i (17 * p)) refl

@@ -3,28 +3,30 @@ use mathlib.Core.Path.{◌≡◌, refl, sym, ◌∙◌, ap, subst}
 use mathlib.Core.List.{List, [], ◌∷◌, ◌++◌, append_assoc, append-nil}
 use mathlib.Core.Bool.{Bool, true, false}
 use mathlib.Core.Option.{none, some}
-use Prim.Native.Nat.{ℕ, zero, suc, ◌+◌, ◌-◌, ◌<◌}
+use Prim.Native.Nat.{ℕ, zero, suc, ◌+◌, ◌-◌, ◌≤◌, ◌<◌}
 use native.Mathlib.Omega.{arith}
-use native.Mathlib.Numerals.{sub-one}
+use native.Mathlib.Numerals.{add-one, sub-one}
 use lib.Dec.{eqb, ltb}
-use lib.ListN.{length, get_or}
-use borrow.Author.Tests.{ltb-true}
-use Rattle.definitions.specs.declared.Refusal.{Refusal}
+use lib.ListN.{length, get_or, drop, drop_of_length-le}
+use lib.Seq.{drop-cons}
+use borrow.Author.Tests.{ltb-true, lt-ltb}
 use Rattle.definitions.specs.Lists.{choose}
 use Rattle.definitions.specs.Bytes.{tokens}
 use Rattle.definitions.specs.Tokens.{TagValue, given}
 use Rattle.definitions.specs.Tree.{Expr, Equation, Node}
-use Rattle.definitions.specs.Reading.{got, rejected, Reader, times}
+use Rattle.definitions.specs.Reading.{got, Reader, times}
 use Rattle.definitions.specs.Grammar.{counted, value_at, tagged, name, equation, most_left}
 use Rattle.definitions.specs.Clock.{Clock}
 use Rattle.definitions.specs.InferClocks.{Clocks, clock_of, is_port, left_elsewhere, Finding, must_be_on, check, check_left, check_equation}
 use Rattle.findings.specs.Findings.{FindingsHeld}
 use Rattle.grammar.proofs.Laws.{after-got, wrap-got, tokens-length}
 use Rattle.grammar.proofs.Longer.{token-got, counted-grows}
-use Rattle.grammar.proofs.Got.{counted-value}
 use Rattle.operands.specs.Spread.{tree}
 use Rattle.operands.proofs.Laws.{token-there}
 use Rattle.clock_tables.specs.Environment.{env_at, Agrees}
+use Rattle.layout.specs.Spans.{Spanned}
+use Rattle.layout.specs.declared.Span.{Span}
+use Rattle.inference.proofs.PassesLaws.{lies}
 use Rattle.checking.specs.Walk.{PortMarks}
 
 -- no reading, and one before others
@@ -67,52 +69,37 @@ left-more ports i c xs clocks node so_far fs x y rest all e j b h =
     ap (λ (l : List Finding). (so_far ++ l) ++ check_left clocks i node c rest) p
     ∙ (append_assoc so_far (must_be_on clocks i c x (λ d. left_elsewhere x d c (is_port node x))) (check_left clocks i node c rest) ∙ (rw e at h))
 
--- what is still to do where some left names were gone over: those left stand there, and what is met of them is met behind all before
-pub record LeftGoing (M : ℕ) (gs vs env : List ℕ) (ports : List Bool) (i : ℕ) (c : Clock) (t : List ℕ) (n : ℕ) (t' : List ℕ) (n' : ℕ) (xs : List ℕ) (q left place : ℕ) : Type 0 where
-  pub rest : List ℕ
-  pub items : times left (name M) (tokens gs vs) place ≡ got rest q
-  pub held : (node : Node) (clocks : Clocks) (fs : List Finding) → Agrees env M clocks → PortMarks ports M node → FindingsHeld t n fs →
-      (so_far : List Finding) × FindingsHeld t' n' so_far × (so_far ++ check_left clocks i node c rest ≡ fs ++ check_left clocks i node c xs)
+-- what is met where some left names were gone over: behind it comes what is met of the names left
+pub record LeftGoing (M : ℕ) (env : List ℕ) (ports : List Bool) (i : ℕ) (c : Clock) (t : List ℕ) (n : ℕ) (t' : List ℕ) (n' : ℕ) (names rest : List ℕ) : Type 0 where
+  pub held : (node : Node) (clocks : Clocks) (fs : List Finding) → Agrees env M clocks → PortMarks ports M node → ((k : ℕ) → k < length names → get_or names k 0 < M) → FindingsHeld t n fs →
+      (so_far : List Finding) × FindingsHeld t' n' so_far × (so_far ++ check_left clocks i node c rest ≡ fs ++ check_left clocks i node c names)
 
-module _ (M : ℕ) (gs vs env : List ℕ) (ports : List Bool) (i : ℕ) (c : Clock) (t : List ℕ) (n : ℕ) where
-  pub left-start : (count at : ℕ) (xs : List ℕ) (q : ℕ) → times count (name M) (tokens gs vs) at ≡ got xs q → LeftGoing M gs vs env ports i c t n t n xs q (count - 0) at
-  left-start count at xs q g = let k : count - 0 ≡ count = omega arith in record { rest = xs; items = rw k g; held = λ node clocks fs a b h. (fs, h, refl) }
+module _ (M : ℕ) (env : List ℕ) (ports : List Bool) (i : ℕ) (c : Clock) (t : List ℕ) (n : ℕ) (names : List ℕ) where
+  pub left-start : LeftGoing M env ports i c t n t n names names
+  left-start = record { held = λ node clocks fs a b d h. (fs, h, refl) }
 
-  module _ (t' : List ℕ) (n' : ℕ) (xs : List ℕ) (q count k place : ℕ) (l : k < count) (same : length vs ≡ length gs) (w : LeftGoing M gs vs env ports i c t n t' n' xs q (count - k) place) where
-    first-left : (a : ℕ) × (s : ℕ) × (rest : List ℕ) × (name M (tokens gs vs) place ≡ got a s) × (times (count - k - 1) (name M) (tokens gs vs) s ≡ got rest q) × (w.rest ≡ a ∷ rest)
-    first-left = times-cons (name M) (tokens gs vs) (count - k) place w.rest q (λ z. omega (arith, z)) w.items
-
-    pub left-there : place < length gs
-    left-there = let a = first-left in (name-there M gs vs same place a.0 a.1 a.3).1
-
+  module _ (t' : List ℕ) (n' k : ℕ) (w : LeftGoing M env ports i c t n t' n' names (drop k names)) where
     -- one more
-    pub left_step : (t'' : List ℕ) (n'' : ℕ) →
-        ((clocks : Clocks) (fs : List Finding) → env_at env (get_or vs place 0) ≡ clock_of clocks (get_or vs place 0) → FindingsHeld t' n' fs → FindingsHeld t'' n'' (fs ++ must_be_on clocks i c (get_or vs place 0) (λ d. left_elsewhere (get_or vs place 0) d c (get_or ports (get_or vs place 0) false)))) →
-        LeftGoing M gs vs env ports i c t n t'' n'' xs q (count - (k + 1)) (place + 1)
-    left_step t'' n'' f =
-        let a = first-left in
-        let b = name-there M gs vs same place a.0 a.1 a.3 in
-        let u : count - k - 1 ≡ count - (k + 1) = omega arith in
+    pub left_step : (t'' : List ℕ) (n'' x : ℕ) → k < length names → x ≡ get_or names k 0 →
+        ((clocks : Clocks) (fs : List Finding) → env_at env x ≡ clock_of clocks x → FindingsHeld t' n' fs → FindingsHeld t'' n'' (fs ++ must_be_on clocks i c x (λ d. left_elsewhere x d c (get_or ports x false)))) →
+        LeftGoing M env ports i c t n t'' n'' names (drop (k + 1) names)
+    left_step t'' n'' x l e f =
+        let a : drop k names ≡ x ∷ drop (k + 1) names = rw (add-one k, e) (drop-cons names k 0 l) in
         record {
-          rest = a.2;
-          items = rw u at (rw b.0 at a.4);
-          held = λ node clocks fs g h e.
-              let z = w.held node clocks fs g h e in
-              let y = f clocks z.0 (rw b.2 (g.same a.0 b.3)) z.1 in
-              (_, y, left-more ports i c xs clocks node z.0 fs a.0 (get_or vs place 0) a.2 w.rest a.5 b.2 (ap (λ (x : ℕ). get_or ports x false) b.2 ∙ h.same a.0 b.3) z.2);
+          held = λ node clocks fs g h d u.
+              let z = w.held node clocks fs g h d u in
+              let b : x < M = rw e (d k l) in
+              let y = f clocks z.0 (g.same x b) z.1 in
+              (_, y, left-more ports i c names clocks node z.0 fs x x (drop (k + 1) names) (drop k names) a refl (h.same x b) z.2);
         }
 
-  pub left-end : (t' : List ℕ) (n' : ℕ) (xs : List ℕ) (q left place : ℕ) → left ≡ 0 → LeftGoing M gs vs env ports i c t n t' n' xs q left place →
-      (place ≡ q) × ((node : Node) (clocks : Clocks) (fs : List Finding) → Agrees env M clocks → PortMarks ports M node → FindingsHeld t n fs → FindingsHeld t' n' (fs ++ check_left clocks i node c xs))
-  unfolding check_left
-  left-end t' n' xs q left place z w =
-      let a = times-nil (name M) (tokens gs vs) left place w.rest q z w.items in (
-        sym a.1,
-        λ node clocks fs g h e.
-            let y = w.held node clocks fs g h e in
-            let b : y.0 ≡ fs ++ check_left clocks i node c xs = sym (append-nil y.0) ∙ (ap (λ (l : List ℕ). y.0 ++ check_left clocks i node c l) (sym a.0) ∙ y.2) in
-            rw b at y.1,
-      )
+    pub left-end : length names ≤ k → (node : Node) (clocks : Clocks) (fs : List Finding) → Agrees env M clocks → PortMarks ports M node → ((j : ℕ) → j < length names → get_or names j 0 < M) → FindingsHeld t n fs → FindingsHeld t' n' (fs ++ check_left clocks i node c names)
+    unfolding check_left
+    left-end l node clocks fs g h d u =
+        let y = w.held node clocks fs g h d u in
+        let a : drop k names ≡ [] = drop_of_length-le names l in
+        let b : y.0 ≡ fs ++ check_left clocks i node c names = sym (append-nil y.0) ∙ (ap (λ (r : List ℕ). y.0 ++ check_left clocks i node c r) (sym a) ∙ y.2) in
+        rw b at y.1
 
 -- an equation's parts
 pub equation-parts : (M : ℕ) (ts : List TagValue) (p : ℕ) (e : Equation) (q n s : ℕ) → equation M ts p ≡ got e q → counted 3 1 most_left ts p ≡ got n s →
@@ -142,27 +129,22 @@ names-end M gs vs same (suc n) s l u g =
     let k = ap length a.5 in
     omega (arith, b.0)
 
--- where an equation's right side stands: behind its count and its left names
-pub equation-right : (M : ℕ) (gs vs : List ℕ) → length vs ≡ length gs → (p : ℕ) (e : Equation) (q n s : ℕ) → equation M (tokens gs vs) p ≡ got e q → counted 3 1 most_left (tokens gs vs) p ≡ got n s →
-    (u : ℕ) × (times n (name M) (tokens gs vs) s ≡ got e.left u) × (tree M (tokens gs vs) u ≡ got e.right q) × (u ≡ p + 1 + length e.left) × (p < length gs)
-equation-right M gs vs same p e q n s g h =
-    let a = equation-parts M (tokens gs vs) p e q n s g h in
-    let b = counted-grows 3 1 most_left (tokens gs vs) p n s h in
-    let l = tokens-length gs vs same in
-    let there : p < length gs = omega arith in
-    let d = counted-value gs vs same p 3 1 most_left n s there h in
-    let f = names-end M gs vs same n s e.left a.0 a.1 in
-    (a.0, a.1, a.2, omega (arith, d.2), there)
-
 -- an equation that was read has a count of left names
 pub equation-count : (M : ℕ) (ts : List TagValue) (p : ℕ) (e : Equation) (q : ℕ) → equation M ts p ≡ got e q → (n : ℕ) × (s : ℕ) × (counted 3 1 most_left ts p ≡ got n s)
 unfolding equation
 equation-count M ts p e q g = let a = after-got (counted 3 1 most_left ts p) _ e q g in (a.0, a.1, a.2)
 
-pub equation-none : (M : ℕ) (ts : List TagValue) (p : ℕ) (e : Equation) (q : ℕ) (t : Refusal) → equation M ts p ≡ got e q → counted 3 1 most_left ts p ≡ rejected t → ⊥
-equation-none M ts p e q t g h =
-    let a = equation-count M ts p e q g in
-    let z : ◌≡◌ {A = ℕ} 0 1 = cc a.2 in omega arith
+-- its left names stand behind their count, and its right side behind them
+pub left-laid : (M : ℕ) (gs vs : List ℕ) → length vs ≡ length gs → (p : ℕ) (l : Span) → Spanned (name M) gs vs p l → (e : Equation) (q : ℕ) → equation M (tokens gs vs) p ≡ got e q →
+    (times l.count (name M) (tokens gs vs) l.at ≡ got e.left l.end) × (tree M (tokens gs vs) l.end ≡ got e.right q) × (l.end ≡ p + 1 + length e.left) × (p < length gs)
+left-laid M gs vs same p l laid e q g =
+    let x = lies M gs vs same p l laid e q g in
+    let n = equation-count M (tokens gs vs) p e q g in
+    let b = counted-grows 3 1 most_left (tokens gs vs) p n.0 n.1 n.2 in
+    let k = tokens-length gs vs same in
+    let there : p < length gs = omega arith in
+    let f : l.at ≡ p + 1 = laid.first ∙ ap (λ (b : Bool). choose b (p + 1) p) (lt-ltb p (length gs) there) in
+    (x.left.items, x.right, omega (arith, names-end M gs vs same l.count l.at e.left l.end x.left.items), there)
 
 -- its left names, then its right side
 pub equation-whole : (node : Node) (clocks : Clocks) (i : ℕ) (c : Clock) (e : Equation) (t : List ℕ) (n : ℕ) (fs : List Finding)

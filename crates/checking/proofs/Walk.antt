@@ -13,8 +13,8 @@ use Rattle.definitions.specs.declared.Condition.{Condition}
 use Rattle.definitions.specs.Lists.{choose}
 use Rattle.definitions.specs.Bytes.{tokens}
 use Rattle.definitions.specs.Tree.{Expr, Exprs, Equation}
-use Rattle.definitions.specs.Reading.{got, times}
-use Rattle.definitions.specs.Grammar.{append, counted, name, equation, most_left}
+use Rattle.definitions.specs.Reading.{got}
+use Rattle.definitions.specs.Grammar.{append, equation}
 use Rattle.definitions.specs.Clock.{Clock, base, ◌↓◌, depth, deepest, parent, is_on, is_not, ends_in}
 use Rattle.definitions.specs.InferClocks as rules
 use Rattle.definitions.specs.InferClocks.{Clocks, clock_of, deep, formed, condition_over, natural, Finding, found, when_elsewhere, clock_name_elsewhere, too_deep, one_down, on_natural, must_be_on, check, checks}
@@ -33,7 +33,6 @@ use Rattle.skeleton.proofs.Reading.{reads-lie}
 use Rattle.checking.specs.Walk.{CheckedTo, only_sites, is_site_tag, meets, SiteStored, Traversed, EquationStored}
 use Rattle.checking.proofs.Laws.{meets-none, one_down_lem, when-match, when-other}
 use Rattle.checking.proofs.Only.{only-both}
-use Rattle.checking.proofs.Left.{equation-right}
 use Rattle.checking.proofs.Flatten.{lies-join, lies-apart, read-ends, name-is, when-is, when-not-is, merge-is, not-sampled, sampled-range, Opened, opened}
 
 -- ---- what is met in lists of expressions
@@ -341,22 +340,18 @@ module _ (M : ℕ) (gs vs env : List ℕ) where
             (trav-then (λ cs. one_down c (is_on x) (λ d. check cs i d a)) (λ cs. one_down c (is_not x) (λ d. check cs i d b)) (λ later. LiesAt gs vs (Sited M gs vs later) (c ↓ is_on x) a at s) (λ later. LiesAt gs vs (Sited M gs vs later) (c ↓ is_not x) b s q) t' t'' t''' sites sites' sites'' m at s q w r len (omega arith) (omega arith) A D)
 
       -- ---- an equation: its clock in its count's row, then its right side
-      pub equation-stored : (t t' sites sites' sites'' : List ℕ) (c : Clock) (n p next : ℕ) (r : CheckedTo) → SiteStored sites sites' true c p → length sites'' ≡ length sites' → Walks t t' sites' sites'' c n next r → (e : Equation) (q k s : ℕ) → equation M (tokens gs vs) p ≡ got e q → counted 3 1 most_left (tokens gs vs) p ≡ got k s →
-          ((u : ℕ) → times k (name M) (tokens gs vs) s ≡ got e.left u → next ≡ u) → EquationStored M gs vs sites sites'' i c e p q
-      equation-stored t t' sites sites' sites'' c n p next r stored len W e q k s g h f =
-          let a = equation-right M gs vs same p e q k s g h in
-          let b = f a.0 a.1 in
-          let w = W e.right q (subst (λ (z : ℕ). tree M (tokens gs vs) z ≡ got e.right q) (sym b) a.2) in
-          let y = owed-on (lies-owed (read-lies a.0 e.right q a.2 base)) in
-          let there = a.4 in
-          let j : next ≡ p + 1 + length e.left = b ∙ a.3 in
+      pub equation-stored : (t t' sites sites' sites'' : List ℕ) (c : Clock) (n p next : ℕ) (r : CheckedTo) → SiteStored sites sites' true c p → length sites'' ≡ length sites' → Walks t t' sites' sites'' c n next r → (e : Equation) (q : ℕ) → equation M (tokens gs vs) p ≡ got e q → tree M (tokens gs vs) next ≡ got e.right q
+          → next ≡ p + 1 + length e.left → p < length gs → EquationStored M gs vs sites sites'' i c e p q
+      equation-stored t t' sites sites' sites'' c n p next r stored len W e q g a j there =
+          let w = W e.right q a in
+          let y = owed-on (lies-owed (read-lies next e.right q a base)) in
           let row : 17 * length gs ≤ length sites → clock_in sites'' (17 * p) ≡ c = λ room. w.kept p (inl (omega arith)) ∙ stored.here refl (omega arith) in
           record {
-            kept = kept w y b there j;
+            kept = kept w y there j;
             row = row;
             sited = λ cs room only later agree. record { stands = g; row = agree p (omega arith) (omega arith) ∙ row room; right = subst (λ (z : ℕ). LiesAt gs vs (Sited M gs vs later) c e.right z q) j (w.sited cs (omega (arith, stored.long)) only later (λ m u v. agree m (omega arith) v)) };
           }
         where
-          kept : {P : List ℕ → Type 0} {F : Clocks → List Finding} {u : ℕ} → Traversed M gs vs env t t' sites' sites'' n F P next q r → u + 1 ≤ q → next ≡ u → p < length gs → next ≡ p + 1 + length e.left → (m : ℕ) → (m < p) ⊎ (q ≤ m) → clock_in sites'' (17 * m) ≡ clock_in sites (17 * m)
-          kept w y b there j m (inl v) = w.kept m (inl (omega arith)) ∙ stored.elsewhere m (λ z. omega arith)
-          kept w y b there j m (inr v) = w.kept m (inr v) ∙ stored.elsewhere m (λ z. omega arith)
+          kept : {P : List ℕ → Type 0} {F : Clocks → List Finding} → Traversed M gs vs env t t' sites' sites'' n F P next q r → next + 1 ≤ q → p < length gs → next ≡ p + 1 + length e.left → (m : ℕ) → (m < p) ⊎ (q ≤ m) → clock_in sites'' (17 * m) ≡ clock_in sites (17 * m)
+          kept w y there j m (inl v) = w.kept m (inl (omega arith)) ∙ stored.elsewhere m (λ z. omega arith)
+          kept w y there j m (inr v) = w.kept m (inr v) ∙ stored.elsewhere m (λ z. omega arith)

@@ -7,7 +7,7 @@ ghost use Rattle.std.proofs.Math.Option.{some};
 ghost use Rattle.definitions.specs.Lists.{choose};
 ghost use Rattle.grammar.specs.Read.{tokens_of};
 ghost use Rattle.definitions.specs.Tree.{Expr, Exprs, Equation, Node};
-ghost use Rattle.definitions.specs.Reading.{got, times};
+ghost use Rattle.definitions.specs.Reading.{got};
 ghost use Rattle.definitions.specs.Grammar as grammar;
 ghost use Rattle.definitions.specs.Clock as clocked;
 ghost use Rattle.definitions.specs.Clock.{◌↓◌, parent, is_on, is_not};
@@ -22,9 +22,9 @@ ghost use Rattle.skeleton.specs.Sites.{WasRead, Sited};
 ghost use Rattle.checking.specs.Walk.{other_than, Makes, is_site_tag, meets, SiteStored, Stays, Stands, Walked, PortMarks, EquationStored};
 
 use clock_tables::{Clock, Natural};
-use definitions::{Condition, MOST_LEFT, Test};
+use definitions::{Condition, Test};
 use findings::{ClockFault, Finding, Findings};
-use grammar::Source;
+use grammar::{Source, tags};
 use layout::PartsTable;
 
 // What checking an equation reads: the sheet, the table of parts, the names' clocks, which names are inputs or outputs, its number.
@@ -51,9 +51,7 @@ impl CheckOutput<'_, '_> {
         ensures same_findings { self.new.findings.now ≡ self.old.findings.now }
         ensures stored { SiteStored self.old.sites.now self.new.sites.now true (value_of on) at }
     {
-        if at < self.sites.len() / clock_tables::WORDS {
-            clock_tables::store(self.sites, clock_tables::WORDS * at, on);
-        }
+        clock_tables::put_row(self.sites, at, on);
     }
 }
 
@@ -107,7 +105,7 @@ fn samples_on(input: &CheckInput<'_>, findings: &mut Findings<'_>, x: u32, on: C
 }
 
 // What is met at a token of an expression, which is that of no when and no merge.
-// Stays (speed): numbers of tags, here and below; by whole tokens 32 counters take 3 instructions in 100 more.
+// Stays (speed): by tags, here and below; by whole tokens 32 counters take 3 instructions in 100 more.
 fn enter(
     input: &CheckInput<'_>,
     output: &mut CheckOutput<'_, '_>,
@@ -121,18 +119,18 @@ fn enter(
     ensures held { (clocks : Clocks) (fs : List rules.Finding) → (tag ≡ 54 → env_at input.now.env.now value ≡ clock_of clocks value) → FindingsHeld output.old.findings.now.words.now output.old.findings.now.count fs → FindingsHeld output.new.findings.now.words.now output.new.findings.now.count (fs ++ meets clocks input.now.equation (value_of on) tag value) }
 {
     match tag {
-        54 => must_be_on(input, output.findings, value, on, |own| {
+        tags::VAR => must_be_on(input, output.findings, value, on, |own| {
             ClockFault::UsedElsewhere {
                 name: value,
                 on: own,
                 expected: on,
             }
         }),
-        58 | 59 => {
+        tags::PRE | tags::ARROW => {
             output.put_site(at, on);
             output.findings.push(Finding::Site(on));
         }
-        60 => output.put_site(at, on),
+        tags::CALL => output.put_site(at, on),
         _ => {}
     }
 }
@@ -141,7 +139,11 @@ fn enter(
 fn sampled_by(tag: u8, name: u32) -> Condition
     ensures { result ≡ choose (eqb tag 67) (is_on name) (is_not name) }
 {
-    let test = if tag == 67 { Test::On } else { Test::Not };
+    let test = if tag == tags::WHEN {
+        Test::On
+    } else {
+        Test::Not
+    };
     Condition { name, test }
 }
 
@@ -161,7 +163,7 @@ fn check_expr(
     }
     let tag = input.source.tags[at];
     let value = input.source.values[at];
-    if tag == 69 {
+    if tag == tags::MERGE {
         return check_merge(input, output, on, value, at + 1);
     }
     if layout::is_sample(tag) {
@@ -332,28 +334,15 @@ fn left_on(input: &CheckInput<'_>, findings: &mut Findings<'_>, x: u32, on: Cloc
     );
 }
 
-// So many left names that stand there, of an equation on that clock: where they end.
-fn check_left(
-    input: &CheckInput<'_>,
-    findings: &mut Findings<'_>,
-    on: Clock,
-    count: u32,
-    at: usize,
-) -> usize
+// The left names of an equation on that clock.
+fn check_left(input: &CheckInput<'_>, findings: &mut Findings<'_>, on: Clock, names: &[u32])
     ensures same_reference { findings.new.words.ghost_name ≡ findings.old.words.ghost_name }
     ensures same_length { length findings.new.words.now ≡ length findings.old.words.now }
-    ensures ends { (xs : List ℕ) (q : ℕ) → times count (grammar.name input.now.source.names) (tokens_of input.now.source) at ≡ got xs q → result ≡ q }
-    ensures held { (node : Node) (clocks : Clocks) (xs : List ℕ) (q : ℕ) (fs : List rules.Finding) → Agrees input.now.env.now input.now.source.names clocks → PortMarks input.now.ports.now input.now.source.names node → times count (grammar.name input.now.source.names) (tokens_of input.now.source) at ≡ got xs q → FindingsHeld findings.old.words.now findings.old.count fs → FindingsHeld findings.new.words.now findings.new.count (fs ++ check_left clocks input.now.equation node (value_of on) xs) }
+    ensures held { (node : Node) (clocks : Clocks) (fs : List rules.Finding) → Agrees input.now.env.now input.now.source.names clocks → PortMarks input.now.ports.now input.now.source.names node → ((i : ℕ) → i < length names.now → get_or names.now i 0 < input.now.source.names) → FindingsHeld findings.old.words.now findings.old.count fs → FindingsHeld findings.new.words.now findings.new.count (fs ++ check_left clocks input.now.equation node (value_of on) names.now) }
 {
-    let mut place = at;
-    for _ in 0..count {
-        if input.source.tags.len() <= place {
-            return place;
-        }
-        left_on(input, findings, input.source.values[place], on);
-        place += 1;
+    for &x in names {
+        left_on(input, findings, x, on);
     }
-    place
 }
 
 // The equation that stands there, on that clock: its left names, then its right side; where it ends.
@@ -368,12 +357,9 @@ pub fn check_equation(
     ensures held { (node : Node) (clocks : Clocks) (e : Equation) (q : ℕ) (fs : List rules.Finding) → Agrees input.now.env.now input.now.source.names clocks → PortMarks input.now.ports.now input.now.source.names node → grammar.equation input.now.source.names (tokens_of input.now.source) at ≡ got e q → FindingsHeld output.old.findings.now.words.now output.old.findings.now.count fs → FindingsHeld output.new.findings.now.words.now output.new.findings.now.count (fs ++ check_equation node clocks input.now.equation (record { clock = value_of on; equation = e })) }
     ensures stored { (e : Equation) (q : ℕ) → grammar.equation input.now.source.names (tokens_of input.now.source) at ≡ got e q → EquationStored input.now.source.names input.now.source.tags.now input.now.source.values.now output.old.sites.now output.new.sites.now input.now.equation (value_of on) e at q }
 {
-    match grammar::read_count(&input.source, 3, 1, MOST_LEFT, at) {
-        Ok((count, first)) => {
-            output.put_site(at, on);
-            let next = check_left(input, output.findings, on, count, first);
-            check_expr(input, output, on, next)
-        }
-        Err(_) => at,
-    }
+    let left = layout::names_at(&input.source, at);
+    output.put_site(at, on);
+    let names = layout::names_in(&input.source, left);
+    check_left(input, output.findings, on, names);
+    check_expr(input, output, on, left.end)
 }

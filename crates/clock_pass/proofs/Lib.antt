@@ -1,4 +1,2 @@
--- What the proofs of several functions use.
-pub mod Laws
-pub mod Bounds
-pub mod Given
+-- Fault records in words.
+pub mod Said

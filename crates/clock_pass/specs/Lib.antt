@@ -1,4 +1,3 @@
--- Fault records in words.
--- What the entry points that lend a list of fault records give.
-pub mod Said
+-- What a list of fault records has before it is lent; such a list in words.
 pub mod Given
+pub mod Said

@@ -1,7 +1,8 @@
--- Fault records in words, three words a record. No fault has the number 0, which ends the records; there are at most 4,096.
-use Rattle.std.specs.Prelude.{ℕ, zero, suc, ◌+◌, ◌*◌, List, [], ◌∷◌, eqb, get_or, drop}
+-- Fault records in words, three words a record, as they lie in memory for callers in C. No fault has the number 0, which ends the records;
+-- there are at most 4,096.
+use Rattle.std.specs.Prelude.{ℕ, zero, suc, ◌+◌, ◌*◌, ◌/◌, List, [], ◌∷◌, eqb, get_or, length, take, drop}
 use Rattle.definitions.specs.declared.FaultRecord.{FaultRecord}
-use Rattle.definitions.specs.Lists.{choose}
+use Rattle.definitions.specs.Lists.{choose, join, over}
 
 -- record i of some words: "A fault record holds node, fault and equation."
 abbrev pub record_at : List ℕ → ℕ → FaultRecord
@@ -26,3 +27,11 @@ count words = count_of 4096 words
 unfoldable pub said : List ℕ → List FaultRecord
 unfolding count
 said words = records words (count words)
+
+-- a fault in three words: "A fault record holds node, fault and equation."
+abbrev pub record_words : FaultRecord → List ℕ
+record_words r = r.node ∷ r.fault ∷ r.equation ∷ []
+
+-- entries of so many words each over the front of a list, as many as it has whole places for; later words keep their values
+unfoldable pub entries_over : ℕ → List (List ℕ) → List ℕ → List ℕ
+entries_over size entries lent = over (join (take (length lent / size) entries)) lent

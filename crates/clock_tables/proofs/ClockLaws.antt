@@ -2,16 +2,19 @@
 -- Assumes nothing.
 use mathlib.Core.Path.{◌≡◌, refl, sym, ◌∙◌, ap}
 use mathlib.Core.List.{List, [], ◌∷◌, ◌++◌}
-use mathlib.Core.Bool.{Bool, true, false, ◌&&◌}
+use mathlib.Core.Bool.{Bool, true, false, true≢false, ◌&&◌}
 use mathlib.Core.Option.{none, some}
 use Prim.Native.Nat.{ℕ, zero, suc, ◌+◌, ◌-◌, ◌≤◌, ◌<◌}
 use native.Mathlib.Omega.{arith}
 use native.Mathlib.Numerals.{add-one, sub-one}
 use lib.ListN.{length, set, take}
 use lib.Pointwise.{pointwise}
-use lib.Seq.{get_or-set_same, get_or-set_other, take-suc}
+use lib.Seq.{get_or-set_same, get_or-set_other, take-suc, take-length}
 use lib.Dec.{eqb}
-use Rattle.std.proofs.lemmas.List.{length-take-le}
+use Rattle.std.specs.Prelude.{Some, None}
+use Rattle.std.specs.List.{slice_get}
+use Rattle.std.proofs.lemmas.List.{get_or-take, length-take-le}
+use Rattle.std.proofs.lemmas.Option.{none-some, slice_get-get_or, slice_get_within, get_or_from_slice_get}
 use borrow.Author.Tests.{ne_eqb, eqb-true, eq-eqb, lt-ltb}
 use Rattle.definitions.specs.declared.Test.{Test}
 use Rattle.definitions.specs.declared.Condition.{Condition}
@@ -40,11 +43,33 @@ unfolding clock_at
 base_depth ks zero = refl
 base_depth ks (suc n) = let e : capped (suc n) ≡ suc (capped (suc n) - 1) = omega arith in rw (ne_eqb (suc n) 0 (omega arith), e)
 
+-- conditions that are left out are no part of the first d
+clock-take : (ks : List Condition) (n d : ℕ) → d ≤ n → clock_at (take n ks) d ≡ clock_at ks d
+unfolding clock_at
+clock-take ks n zero h = refl
+clock-take ks n (suc d) h = rw (get_or-take n ks d (record { name = 0; test = Test.On }) (omega arith), clock-take ks n d (omega arith))
+
+-- the conditions in use are the clock's
+pub clock-listed : (ks : List Condition) (d : ℕ) → d ≤ length ks → clock_at (take d ks) (length (take d ks)) ≡ clock_at ks d
+clock-listed ks d h = rw (length-take-le d ks h) (clock-take ks d d (omega arith))
+
 -- the last condition, over the others
 pub last-at : (ks : List Condition) (d : ℕ) → (d ≡ 0 → ⊥) → clock_at ks d ≡ clock_at ks (d - 1) ↓ at ks (d - 1)
 unfolding clock_at
 last-at ks zero z = absurd (z refl)
 last-at ks (suc d) z = rw (sub-one (suc d))
+
+-- a clock without a last condition is base
+pub none-last : (ks : List Condition) → None ≡ slice_get ks (length ks - 1) → clock_at ks (length ks) ≡ base
+unfolding clock_at
+none-last [] n = refl
+none-last (k ∷ ks) n = absurd (none-some _ (n ∙ slice_get-get_or (k ∷ ks) (length (k ∷ ks) - 1) k (omega arith)))
+
+-- a clock is its last condition over the others
+pub last-over : (ks : List Condition) (k : Condition) (c : Clock) → Some k ≡ slice_get ks (length ks - 1) → clock_at ks (length ks) ≡ c → c ≡ clock_at ks (length ks - 1) ↓ k
+last-over ks k c e q =
+    let within : length ks - 1 < length ks = slice_get_within ks (length ks - 1) k (sym e) in
+    sym q ∙ (last-at ks (length ks) (λ z. omega (arith, within)) ∙ ap (λ (l : Condition). clock_at ks (length ks - 1) ↓ l) (get_or_from_slice_get ks (length ks - 1) k _ (sym e)))
 
 -- one less is the parent
 pub parent_at : (ks : List Condition) (n : ℕ) → clock_at ks (capped (capped n - 1)) ≡ parent (clock_at ks (capped n))
@@ -162,11 +187,26 @@ same_taken ks ls (suc d) h j =
     let n : length (take d ks) ≡ length (take d ls) = omega (arith, length-take-le d ks (omega arith), length-take-le d ls (omega arith)) in
     rw (take-suc ks d (record { name = 0; test = Test.On }) (omega arith), take-suc ls d (record { name = 0; test = Test.On }) (omega arith), pointwise-last derived.eq-value.it (take d ks) (take d ls) (at ks d) (at ls d) n, condition-eq (at ks d) (at ls d), same_taken ks ls d (omega arith) (omega arith))
 
+pointwise-other : (E : Condition → Condition → Bool) (ks ls : List Condition) → (length ks ≡ length ls → ⊥) → pointwise E ks ls ≡ false
+pointwise-other E [] [] h = absurd (h refl)
+pointwise-other E [] (b ∷ ls) h = refl
+pointwise-other E (a ∷ ks) [] h = refl
+pointwise-other E (a ∷ ks) (b ∷ ls) h = rw (pointwise-other E ks ls (λ e. h (ap suc e))) (&&-false (E a b))
+
+-- what `==` of all of each answers
+pub same_listed : (ks ls : List Condition) → pointwise derived.eq-value.it ks ls ≡ same_clock (clock_at ks (length ks)) (clock_at ls (length ls))
+same_listed ks ls = go (eqb (length ks) (length ls)) refl
+  where
+    go : (b : Bool) → eqb (length ks) (length ls) ≡ b → pointwise derived.eq-value.it ks ls ≡ same_clock (clock_at ks (length ks)) (clock_at ls (length ls))
+    go true e =
+        let n : length ks ≡ length ls = eqb-true _ _ e in
+        let r = same_taken ks ls (length ks) (omega arith) (omega arith) in
+        (rw (take-length ks, ap (λ m. take m ls) n ∙ take-length ls) at r) ∙ ap (λ m. same_clock (clock_at ks (length ks)) (clock_at ls m)) n
+    go false e =
+        let n : length ks ≡ length ls → ⊥ = λ q. true≢false (sym (eq-eqb _ _ q) ∙ e) in
+        pointwise-other derived.eq-value.it ks ls n ∙ sym (other-depth _ _ (λ q. n (sym (depth-at ks (length ks)) ∙ q ∙ depth-at ls (length ls))))
+
 -- ---- parents
 pub parent-none : (c : Clock) → is_base c ≡ true → parent_of (formed (some c)) ≡ formed none
 parent-none base h = refl
 parent-none (c ↓ k) h = absurd (let n : ◌≡◌ {A = ℕ} 0 1 = cc in omega arith)
-
-pub parent-some : (c : Clock) → is_base c ≡ false → parent_of (formed (some c)) ≡ formed (some (parent c))
-parent-some base h = absurd (let n : ◌≡◌ {A = ℕ} 0 1 = cc in omega arith)
-parent-some (c ↓ k) h = refl

@@ -15,7 +15,9 @@ use Rattle.definitions.specs.Declock.{clock_place, add, add_with_parents}
 use Rattle.clock_tables.proofs.ClockLaws.{clock-same}
 use Rattle.clock_tables.specs.Flat.{clock_in}
 use Rattle.clock_tables.specs.Rows.{clocks_in, RowsHold}
-use Rattle.clock_tables.proofs.RowsLaws.{from_at, length_from, has_all}
+use Rattle.std.specs.Prelude.{Some, position}
+use Rattle.std.specs.List.{range_with_len}
+use Rattle.clock_tables.proofs.RowsLaws.{from_at, length_from, has-own, has_all, place_found}
 
 -- each clock's place is its own
 abbrev pub Distinct : List Clock → Type 0
@@ -37,6 +39,17 @@ module _ (p : Clock → Bool) where
       go : (b : Bool) → (any p l ≡ false → place_by p (l ++ (c ∷ [])) ≡ length l) → (b || any p l) ≡ false → choose b 0 (suc (place_by p (l ++ (c ∷ [])))) ≡ suc (length l)
       go true r u = absurd (let n : ◌≡◌ {A = ℕ} 0 1 = cc in omega arith)
       go false r u = ap suc (r u)
+
+-- the row of a clock that is added: where it is found, or behind the others
+module _ (t : List ℕ) (n : ℕ) (c : Clock) (cs : List Clock) where
+  pub row-found : (row : ℕ) → Some row ≡ position (λ j. same_clock c (clock_in t (17 * j))) (range_with_len 0 n) → 17 * n ≤ length t → RowsHold t n cs → row ≡ clock_place c cs
+  row-found row e l h = place_found t c n (Some row) e ∙ ap (clock_place c) (has_all t n cs l h)
+
+  pub row-behind : (t' : List ℕ) (m : ℕ) → 17 * n ≤ length t → any (same_clock c) (clocks_in t n) ≡ false → (RowsHold t n (clocks_in t n) → RowsHold t' m (clocks_in t n ++ (c ∷ [])))
+      → 17 * m ≤ length t' → RowsHold t' m cs → n ≡ clock_place c cs
+  row-behind t' m room gone grown l h =
+      let e : clocks_in t n ++ (c ∷ []) ≡ cs = sym (has_all t' m _ l (grown (has-own t n room))) ∙ has_all t' m cs l h in
+      sym (length_from t 0 n) ∙ sym (place-back (same_clock c) (clocks_in t n) c gone (clock-same c)) ∙ ap (clock_place c) e
 
 pub distinct_none : Distinct []
 distinct_none j h = absurd (omega arith)

@@ -1,13 +1,14 @@
 -- Laws of the clocks of names in a table.
 -- Assumes nothing.
 use mathlib.Core.Path.{◌≡◌, refl, sym, ◌∙◌, ap}
-use mathlib.Core.List.{List, ◌∷◌}
+use mathlib.Core.List.{List, ◌∷◌, ◌++◌}
 use mathlib.Core.Bool.{Bool, true, false}
 use mathlib.Core.Option.{none, some}
 use mathlib.Core.Logic.{inl, inr}
 use Prim.Native.Nat.{ℕ, ◌+◌, ◌*◌, ◌≤◌, ◌<◌}
 use native.Mathlib.Omega.{arith}
-use lib.ListN.{length, get_or}
+use lib.ListN.{length, get_or, take, drop, replicate, length-append, length-drop, get_or-append}
+use Rattle.std.proofs.lemmas.List.{length-take-le, length-replicate, get_or-replicate}
 use lib.Dec.{eqb, ltb}
 use borrow.Author.Tests.{ne_eqb, eqb-true, eqb-false, ltb-true, ltb-false}
 use Rattle.definitions.specs.Lists.{choose}
@@ -34,9 +35,10 @@ env-same t t' x h =
     ap (λ (n : ℕ). choose (eqb n 0) none (some (clock_in t' (17 * x)))) a ∙ ap (λ (c : Clock). choose (eqb (get_or t (17 * x) 0) 0) none (some c)) (clock-same t t' (17 * x) h)
 
 -- ---- assigning
-pub assign-in : (t t' : List ℕ) (x : ℕ) (c : Clock) → length t' ≡ length t → 0 < get_or t' (17 * x) 0 → clock_in t' (17 * x) ≡ c → Within t t' (17 * x) 17 → Assigned t t' x c
+pub assign-in : (t t' : List ℕ) (x : ℕ) (c : Clock) → length t' ≡ length t → (17 * x + 17 ≤ length t → 0 < get_or t' (17 * x) 0) → (17 * x + 17 ≤ length t → clock_in t' (17 * x) ≡ c) → Within t t' (17 * x) 17
+    → Assigned t t' x c
 assign-in t t' x c n z e w =
-    record { same_length = n; here = λ l. env-some t' x (omega arith) ∙ ap some e; elsewhere = λ y m. env-same t t' y (other y m) }
+    record { same_length = n; here = λ l. env-some t' x (omega (arith, z l)) ∙ ap some (e l); elsewhere = λ y m. env-same t t' y (other y m) }
   where
     other : (y : ℕ) → (y ≡ x → ⊥) → (i : ℕ) → 17 * y ≤ i → i < 17 * y + 17 → get_or t' i 0 ≡ get_or t i 0
     other y m i a b = go (ltb y x) refl
@@ -46,12 +48,15 @@ assign-in t t' x c n z e w =
         go false q = w i (inr (omega (arith, ltb-false y x q)))
 
 -- ---- clearing
--- the names below x have none
-abbrev pub Zero : List ℕ → ℕ → Type 0
-Zero t x = (y : ℕ) → y < x → get_or t (17 * y) 0 ≡ 0
-
-pub cleared-in : (t t' : List ℕ) (m x : ℕ) → length t' ≡ length t → m ≤ x → Zero t' x → Cleared t t' m
-cleared-in t t' m x n l h = record { same_length = n; nowhere = λ _ y u. env-none t' y (h y (omega arith)) }
+-- the words of the names below m are 0
+pub cleared-in : (t zeros : List ℕ) (m : ℕ) → 17 * m ≤ length t → zeros ≡ replicate (length (take (17 * m) t)) 0 → Cleared t (zeros ++ drop (17 * m) t) m
+cleared-in t zeros m room z =
+    let n : length (take (17 * m) t) ≡ 17 * m = length-take-le (17 * m) t room in
+    let l : length zeros ≡ 17 * m = ap length z ∙ (length-replicate _ 0 ∙ n) in
+    record {
+      same_length = length-append zeros (drop (17 * m) t) ∙ omega (arith, l, length-drop (17 * m) t);
+      nowhere = λ _ x u. env-none (zeros ++ drop (17 * m) t) x (get_or-append zeros (drop (17 * m) t) 0 (17 * x) (omega arith) ∙ (ap (λ y. get_or y (17 * x) 0) z ∙ get_or-replicate _ (17 * x) 0 0 (omega arith)));
+    }
 
 -- ---- agreeing with the definitions' list of clocks
 pub agrees-assign : (t t' : List ℕ) (m x : ℕ) (c : Clock) (clocks : Clocks) → x < m → Assigned t t' x c → Agrees t m clocks → Agrees t' m (record { name = x; clock = c } ∷ clocks)

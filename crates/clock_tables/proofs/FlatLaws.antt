@@ -4,20 +4,21 @@ use mathlib.Core.Path.{◌≡◌, refl, sym, ◌∙◌, ap}
 use mathlib.Core.List.{List, [], ◌∷◌, ◌++◌}
 use mathlib.Core.Bool.{Bool, true, false}
 use mathlib.Core.Logic.{◌⊎◌, inl, inr}
-use Prim.Native.Nat.{ℕ, zero, suc, ◌+◌, ◌*◌, ◌≤◌, ◌<◌}
+use Prim.Native.Nat.{ℕ, zero, suc, ◌+◌, ◌-◌, ◌*◌, ◌≤◌, ◌<◌, min}
 use native.Mathlib.Omega.{arith}
 use native.Mathlib.Numerals.{add-one}
-use lib.ListN.{length, get_or, set, length-append, length-set, get_or-append, get_or-eq_default}
+use lib.ListN.{length, get_or, set, take, drop, replicate, length-append, length-set, length-drop, get_or-append, get_or-eq_default}
 use lib.Seq.{get_or-append-add, get_or-set_same, get_or-set_other}
 use lib.Dec.{ltb}
+use Rattle.std.proofs.lemmas.List.{ext_get_or, get_or-take, get_or-drop, get_or-replicate, length-replicate, length-take-le}
 use borrow.Author.Tests.{ltb-true, ltb-false, lt-ltb}
 use Rattle.definitions.specs.declared.Test.{Test}
 use Rattle.definitions.specs.declared.Condition.{Condition}
-use Rattle.definitions.specs.Lists.{choose}
-use Rattle.definitions.specs.Clock.{base, ◌↓◌, depth}
-use Rattle.clock_tables.specs.Value.{at, clock_at, capped}
+use Rattle.definitions.specs.Lists.{choose, over}
+use Rattle.definitions.specs.Clock.{Clock, base, ◌↓◌, depth}
+use Rattle.clock_tables.specs.Value.{at, clock_at}
 use Rattle.clock_tables.proofs.ClockLaws.{depth-at, base-at, clock-push}
-use Rattle.clock_tables.specs.Flat.{word_of, test_of, condition_at, conditions_from, depth_in, clock_in, condition_words, words_of}
+use Rattle.clock_tables.specs.Flat.{word_of, test_of, condition_at, conditions_from, depth_in, clock_in, condition_words, words_of, clock_words, with_clock}
 
 pub test_word : (k : Test) → test_of (word_of k) ≡ k
 test_word Test.On = refl
@@ -25,6 +26,14 @@ test_word Test.Not = refl
 
 pub clock-past : (t : List ℕ) (b : ℕ) → length t ≤ b → clock_in t b ≡ base
 clock-past t b h = base-at (conditions_from t (b + 1) 8) (depth_in t b) (rw (get_or-eq_default t 0 h))
+
+-- a row's place as far as there are places
+pub row-far : (t : List ℕ) (i r : ℕ) → length t ≤ 18446744073709551615 → r ≡ min (17 * i) 18446744073709551615 → clock_in t r ≡ clock_in t (17 * i)
+row-far t i r l e = go (ltb (17 * i) 18446744073709551615) refl
+  where
+    go : (b : Bool) → ltb (17 * i) 18446744073709551615 ≡ b → clock_in t r ≡ clock_in t (17 * i)
+    go true q = let u : 17 * i < 18446744073709551615 = ltb-true _ _ q in let f : r ≡ 17 * i = omega arith in ap (clock_in t) f
+    go false q = let u : 18446744073709551615 ≤ 17 * i = ltb-false _ _ q in clock-past t r (omega arith) ∙ sym (clock-past t (17 * i) (omega arith))
 
 -- the condition at i of those from p on
 pub at_from : (t : List ℕ) (p n i : ℕ) → i < n → at (conditions_from t p n) i ≡ condition_at t (p + 2 * i)
@@ -167,24 +176,84 @@ module _ (t : List ℕ) (f d : ℕ) (ks : List Condition) (h : Stored t f (kept 
       rw (r.0, r.1, test_word (at ks j).test)
 
 -- all are stored
-pub stored : (e t : List ℕ) (b d n i : ℕ) (ks : List Condition) → b + 17 ≤ length e → d ≡ capped n → i ≤ 8 → 8 ≤ i → Stored t (b + 1) (kept ks d) i → Within (set e b (d + 1)) t (b + 1) 16
-    → (0 < get_or t b 0) × ((clock_in t b ≡ clock_at ks (capped n)) × (Within e t b 17 × ((j : ℕ) → j < 17 → get_or t (b + j) 0 ≡ get_or (words_of (clock_at ks (capped n))) j 0)))
-stored e t b d n i ks room q p r h s =
-    let j : i ≡ 8 = omega arith in
-    let l : b < length e = omega arith in
-    let w : get_or t b 0 ≡ d + 1 = s b (inl (omega arith)) ∙ get_or-set_same e b (d + 1) 0 l in
-    let v : depth_in t b ≡ d = rw (w, q) (omega arith) in
-    let o : d ≤ 8 = omega arith in
-    let g : Stored t (b + 1) (kept ks d) 8 = rw j at h in
-    (omega arith, (rw (← q, v) (clock-ext (conditions_from t (b + 1) 8) ks d (λ m u. at_from t (b + 1) 8 m (omega arith) ∙ condition-stored t (b + 1) d ks g m o u)), (outside, λ m u. words w g m u ∙ ap (λ (x : ℕ). get_or (words_of (clock_at ks x)) m 0) q)))
+pub stored : (t : List ℕ) (b i : ℕ) (ks : List Condition) → length ks ≤ 8 → i ≡ length ks → get_or t b 0 ≡ length ks + 1 → Stored t (b + 1) (kept ks i) 8
+    → (clock_in t b ≡ clock_at ks (length ks)) × ((j : ℕ) → j < 17 → get_or t (b + j) 0 ≡ get_or (words_of (clock_at ks (length ks))) j 0)
+stored t b i ks few e w h =
+    let v : depth_in t b ≡ length ks = rw w (omega arith) in
+    let g : Stored t (b + 1) (kept ks (length ks)) 8 = rw e at h in
+    (rw v (clock-ext (conditions_from t (b + 1) 8) ks (length ks) (λ m u. at_from t (b + 1) 8 m (omega arith) ∙ condition-stored t (b + 1) (length ks) ks g m few u)), words g)
   where
-    outside : Within e t b 17
-    outside k (inl u) = let o : k ≡ b → ⊥ = omega arith in s k (inl (omega arith)) ∙ get_or-set_other e b k (d + 1) 0 o
-    outside k (inr u) = let o : k ≡ b → ⊥ = omega arith in s k (inr (omega arith)) ∙ get_or-set_other e b k (d + 1) 0 o
+    words : Stored t (b + 1) (kept ks (length ks)) 8 → (j : ℕ) → j < 17 → get_or t (b + j) 0 ≡ get_or (words_of (clock_at ks (length ks))) j 0
+    words g zero u = let a : b + 0 ≡ b = omega arith in rw a (w ∙ omega (arith, depth-at ks (length ks)))
+    words g (suc m) u = let a : b + suc m ≡ b + 1 + m = omega arith in rw a (words-stored t (b + 1) (length ks) ks g m (omega arith))
 
-    words : get_or t b 0 ≡ d + 1 → Stored t (b + 1) (kept ks d) 8 → (j : ℕ) → j < 17 → get_or t (b + j) 0 ≡ get_or (words_of (clock_at ks d)) j 0
-    words w g zero u = let a : b + 0 ≡ b = omega arith in rw a (w ∙ omega (arith, depth-at ks d))
-    words w g (suc m) u = let a : b + suc m ≡ b + 1 + m = omega arith in rw a (words-stored t (b + 1) d ks g m (omega arith))
+-- ---- a list over the front of another
+pub over-in : (l s : List ℕ) (i : ℕ) → i < length l → i < length s → get_or (over l s) i 0 ≡ get_or l i 0
+over-in [] s i h k = absurd (omega arith)
+over-in (a ∷ l) [] i h k = absurd (omega arith)
+over-in (a ∷ l) (b ∷ s) zero h k = refl
+over-in (a ∷ l) (b ∷ s) (suc i) h k = over-in l s i (omega arith) (omega arith)
+
+pub over-after : (l s : List ℕ) (i : ℕ) → length l ≤ i → get_or (over l s) i 0 ≡ get_or s i 0
+over-after [] s i h = refl
+over-after (a ∷ l) [] i h = refl
+over-after (a ∷ l) (b ∷ s) zero h = absurd (omega arith)
+over-after (a ∷ l) (b ∷ s) (suc i) h = over-after l s i (omega arith)
+
+pub over-long : (l s : List ℕ) → length (over l s) ≡ length s
+over-long [] s = refl
+over-long (a ∷ l) [] = refl
+over-long (a ∷ l) (b ∷ s) = ap suc (over-long l s)
+
+-- ---- a clock's seventeen words
+pub words_long : (c : Clock) → length (clock_words c) ≡ 17
+unfolding clock_words
+words_long c = over-long (words_of c) (replicate 17 0) ∙ length-replicate {A = ℕ} 17 0
+
+word-own : (c : Clock) (j : ℕ) → j < 17 → get_or (clock_words c) j 0 ≡ get_or (words_of c) j 0
+unfolding clock_words
+word-own c j h = go (ltb j (length (words_of c))) refl
+  where
+    go : (b : Bool) → ltb j (length (words_of c)) ≡ b → get_or (over (words_of c) (replicate 17 0)) j 0 ≡ get_or (words_of c) j 0
+    go true e = over-in (words_of c) (replicate 17 0) j (ltb-true _ _ e) (omega (arith, h, length-replicate {A = ℕ} 17 0))
+    go false e =
+        let l : length (words_of c) ≤ j = ltb-false _ _ e in
+        over-after (words_of c) (replicate 17 0) j l ∙ (get_or-replicate 17 j 0 0 h ∙ sym (get_or-eq_default (words_of c) 0 l))
+
+-- a table that has them there, and is the same elsewhere
+pub put-there : (e t : List ℕ) (b : ℕ) (c : Clock) → b + 17 ≤ length e → length t ≡ length e → Within e t b 17 → ((j : ℕ) → j < 17 → get_or t (b + j) 0 ≡ get_or (words_of c) j 0) → t ≡ with_clock b c e
+put-there e t b c room len same own = ext_get_or 0 t (with_clock b c e) long (λ i u. go i (ltb i b) (ltb i (b + 17)) refl refl)
+  where
+    w : List ℕ
+    w = clock_words c
+
+    s : List ℕ
+    s = drop b e
+
+    front : length (take b e) ≡ b
+    front = length-take-le b e (omega arith)
+
+    rest : length s ≡ length e - b
+    rest = length-drop b e
+
+    long : length t ≡ length (take b e ++ over w s)
+    long = omega (arith, len, room, front, rest, over-long w s, length-append (take b e) (over w s))
+
+    behind : (j : ℕ) → get_or (take b e ++ over w s) (b + j) 0 ≡ get_or (over w s) j 0
+    behind j = let z : b + j ≡ length (take b e) + j = omega (arith, front) in rw z (get_or-append-add (take b e) (over w s) j 0)
+
+    go : (i : ℕ) (m n : Bool) → ltb i b ≡ m → ltb i (b + 17) ≡ n → get_or t i 0 ≡ get_or (take b e ++ over w s) i 0
+    go i true n x y =
+        let l : i < b = ltb-true _ _ x in
+        same i (inl l) ∙ sym (get_or-append (take b e) (over w s) 0 i (omega (arith, front, l)) ∙ get_or-take b e i 0 l)
+    go i false true x y =
+        let z : i ≡ b + (i - b) = omega (arith, ltb-false _ _ x) in
+        let l : i - b < 17 = omega (arith, ltb-false _ _ x, ltb-true _ _ y) in
+        rw z (own (i - b) l ∙ sym (behind (i - b) ∙ (over-in w s (i - b) (omega (arith, l, words_long c)) (omega (arith, l, rest, room)) ∙ word-own c (i - b) l)))
+    go i false false x y =
+        let k : b + 17 ≤ i = ltb-false _ _ y in
+        let z : i ≡ b + (i - b) = omega arith in
+        same i (inr k) ∙ sym (ap (λ n. get_or (take b e ++ over w s) n 0) z ∙ (behind (i - b) ∙ (over-after w s (i - b) (omega (arith, k, words_long c)) ∙ (get_or-drop b e (i - b) 0 ∙ ap (λ n. get_or e n 0) (sym z)))))
 
 -- ---- loading
 module _ (t : List ℕ) where

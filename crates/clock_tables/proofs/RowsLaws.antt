@@ -10,7 +10,7 @@ use native.Mathlib.Numerals.{add-one, sub-one}
 use lib.ListN.{length, get_or, length-append}
 use Rattle.definitions.specs.declared.Condition.{Condition}
 use Rattle.definitions.specs.Lists.{choose, any, place_by}
-use Rattle.definitions.specs.Clock.{Clock, base, ◌↓◌, same_condition, same_clock, ends_in}
+use Rattle.definitions.specs.Clock.{Clock, base, ◌↓◌, parent, is_base, same_condition, same_clock, ends_in}
 use Rattle.std.specs.Prelude.{Option, Some, None, position, is_some}
 use Rattle.std.specs.Option.{unwrap_or}
 use Rattle.std.specs.List.{range_with_len, position_or_len}
@@ -19,9 +19,9 @@ use lib.Dec.{ltb}
 use borrow.Author.Tests.{ltb-true, ltb-false}
 use Rattle.definitions.specs.Declock.{clock_place, add, add_with_parents}
 use Rattle.clock_tables.specs.Value.{clock_at}
-use Rattle.clock_tables.proofs.ClockLaws.{base-at, last-at, condition-same, same-clock}
+use Rattle.clock_tables.proofs.ClockLaws.{last-at, condition-same, same-clock}
 use Rattle.clock_tables.specs.Flat.{condition_at, conditions_from, depth_in, clock_in}
-use Rattle.clock_tables.proofs.FlatLaws.{at_from, Within, clock-same, clock-more}
+use Rattle.clock_tables.proofs.FlatLaws.{at_from, Within, clock-same}
 use Rattle.clock_tables.specs.Rows.{clocks_from, clocks_in, RowsHold}
 
 -- ---- the clocks of rows
@@ -153,6 +153,10 @@ pub has-none : (t : List ℕ) → RowsHold t 0 []
 unfolding RowsHold clocks_from
 has-none t = inl (omega arith, refl)
 
+pub has-own : (t : List ℕ) (n : ℕ) → 17 * n ≤ length t → RowsHold t n (clocks_in t n)
+unfolding RowsHold
+has-own t n l = inl (l, refl)
+
 -- what a table that holds them all has
 pub has_all : (t : List ℕ) (n : ℕ) (cs : List Clock) → 17 * n ≤ length t → RowsHold t n cs → clocks_in t n ≡ cs
 unfolding RowsHold
@@ -195,14 +199,14 @@ module _ (t : List ℕ) (n : ℕ) (c : Clock) (cs : List Clock) where
   last-over h (inl (a, e)) = absurd (omega arith)
   last-over h (inr (a, b)) = inr (a, omega (arith, length-append cs (c ∷ [])))
 
-  pub last-full : 17 * n ≤ length t → length t < 17 * (n + 1) → RowsHold t n cs → RowsHold t (n + 1) (cs ++ (c ∷ []))
+  last-full : 17 * n ≤ length t → length t < 17 * (n + 1) → RowsHold t n cs → RowsHold t (n + 1) (cs ++ (c ∷ []))
   unfolding RowsHold
   last-full room full (inl (a, e)) =
       let k : length cs ≡ n = ap length (sym e) ∙ length_from t 0 n in
       inr (full, omega (arith, length-append cs (c ∷ [])))
   last-full room full (inr (a, b)) = absurd (omega arith)
 
-  pub last_stored : (t' : List ℕ) → 17 * n + 17 ≤ length t → length t' ≡ length t → clock_in t' (17 * n) ≡ c → Within t t' (17 * n) 17 → RowsHold t n cs → RowsHold t' (n + 1) (cs ++ (c ∷ []))
+  last_stored : (t' : List ℕ) → 17 * n + 17 ≤ length t → length t' ≡ length t → clock_in t' (17 * n) ≡ c → Within t t' (17 * n) 17 → RowsHold t n cs → RowsHold t' (n + 1) (cs ++ (c ∷ []))
   unfolding RowsHold
   last_stored t' room len row same (inl (a, e)) =
       let o : 0 + n ≡ n = omega arith in
@@ -210,12 +214,21 @@ module _ (t : List ℕ) (n : ℕ) (c : Clock) (cs : List Clock) where
       inl (omega arith, rw (add-one n) (from_last t' 0 n ∙ rw (o, s, row)))
   last_stored t' room len row same (inr (a, b)) = absurd (omega arith)
 
--- ---- parents
-pub parents-none : (ks : List Condition) (i : ℕ) (cs : List Clock) → i ≡ 0 → add_with_parents (clock_at ks i) cs ≡ cs
-unfolding add_with_parents
-parents-none ks i cs z = rw (base-at ks i z)
+  pub last-put : (t' : List ℕ) → 17 * n ≤ length t → length t' ≡ length t → (17 * n + 17 ≤ length t → clock_in t' (17 * n) ≡ c) → Within t t' (17 * n) 17 → (length t < 17 * n + 17 → t' ≡ t)
+      → RowsHold t n cs → RowsHold t' (n + 1) (cs ++ (c ∷ []))
+  last-put t' room len row same past h = go (ltb (length t) (17 * n + 17)) refl
+    where
+      go : (b : Bool) → ltb (length t) (17 * n + 17) ≡ b → RowsHold t' (n + 1) (cs ++ (c ∷ []))
+      go true e = let l : length t < 17 * n + 17 = ltb-true _ _ e in rw (past l) (last-full room (omega arith) h)
+      go false e = let l : 17 * n + 17 ≤ length t = ltb-false _ _ e in last_stored t' l len (row l) same h
 
--- with m conditions, which are one more
-pub parents_held : (t : List ℕ) (n : ℕ) (ks : List Condition) (i : ℕ) (cs : List Clock) (m : ℕ) → m ≡ i + 1 → RowsHold t n (add (clock_at ks m) (add_with_parents (clock_at ks i) cs)) → RowsHold t n (add_with_parents (clock_at ks (i + 1)) cs)
+-- ---- parents
+pub parents-none : (c : Clock) (cs : List Clock) → is_base c ≡ true → add_with_parents c cs ≡ cs
 unfolding add_with_parents
-parents_held t n ks i cs m e h = rw (clock-more ks i) (rw (e, clock-more ks i) at h)
+parents-none base cs h = refl
+parents-none (c ↓ k) cs h = absurd (true≢false (sym h))
+
+pub parents-added : (c : Clock) (cs : List Clock) → is_base c ≡ false → add c (add_with_parents (parent c) cs) ≡ add_with_parents c cs
+unfolding add_with_parents
+parents-added base cs h = absurd (true≢false h)
+parents-added (c ↓ k) cs h = refl

@@ -1,8 +1,8 @@
 -- A clock in seventeen words of a table.
-use Rattle.std.specs.Prelude.{ℕ, zero, suc, ◌+◌, ◌-◌, List, [], ◌∷◌, ◌++◌, get_or, eqb}
+use Rattle.std.specs.Prelude.{ℕ, zero, suc, ◌+◌, ◌-◌, List, [], ◌∷◌, ◌++◌, get_or, take, drop, replicate, eqb}
 use Rattle.definitions.specs.declared.Test.{Test}
 use Rattle.definitions.specs.declared.Condition.{Condition}
-use Rattle.definitions.specs.Lists.{choose}
+use Rattle.definitions.specs.Lists.{choose, over}
 use Rattle.definitions.specs.Clock.{Clock, base, ◌↓◌, depth}
 use Rattle.clock_tables.specs.Value.{capped, clock_at}
 
@@ -36,6 +36,15 @@ unfoldable pub condition_words : Clock → List ℕ
 condition_words base = []
 condition_words (c ↓ k) = condition_words c ++ (k.name ∷ word_of k.test ∷ [])
 
--- the words of a clock, zeros behind them: one more than the number of its conditions, then theirs
+-- the words of a clock: one more than the number of its conditions, then theirs
 abbrev pub words_of : Clock → List ℕ
 words_of c = suc (depth c) ∷ condition_words c
+
+-- a clock in seventeen words: its own, then zeros
+unfoldable pub clock_words : Clock → List ℕ
+unfolding condition_words
+clock_words c = over (words_of c) (replicate 17 0)
+
+-- a table with this clock in the seventeen words from place b on
+abbrev pub with_clock : ℕ → Clock → List ℕ → List ℕ
+with_clock b c t = take b t ++ over (clock_words c) (drop b t)

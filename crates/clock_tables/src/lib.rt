@@ -1,13 +1,13 @@
 // Clocks: by value, as words of a table, and in tables of names' clocks and of distinct clocks.
 #![tactic(auto)]
 
-ghost use Rattle.std.specs.Prelude.{◌≡◌, ◌≤◌, ℕ, suc, ◌+◌, ◌-◌, ◌<◌, ◌*◌, ◌⊎◌, length, get_or, set, List, [], ◌∷◌, ◌++◌, true, false, position};
+ghost use Rattle.std.specs.Prelude.{◌≡◌, ◌≤◌, ℕ, suc, ◌+◌, ◌-◌, ◌<◌, ◌*◌, ◌⊎◌, length, get_or, set, take, List, [], ◌∷◌, ◌++◌, true, false, position};
 ghost use Rattle.std.specs.List.{range_with_len};
 ghost use Rattle.std.proofs.Math.Option.{some};
 ghost use Rattle.definitions.specs.Clock.{base, depth, parent, same_clock, is_base, ends_in};
 ghost use Rattle.definitions.specs.InferClocks.{formed, ◌or◌, condition_over, parent_of};
-ghost use Rattle.clock_tables.specs.Value.{capped, value_of, option_of, natural_of};
-ghost use Rattle.clock_tables.specs.Flat.{test_of, word_of, words_of, condition_at, clock_in};
+ghost use Rattle.clock_tables.specs.Value.{capped, clock_at, value_of, option_of, natural_of};
+ghost use Rattle.clock_tables.specs.Flat.{test_of, word_of, words_of, condition_at, clock_in, with_clock};
 ghost use Rattle.clock_tables.specs.Environment.{env_at, Assigned, Cleared};
 ghost use Rattle.definitions.specs.Declock.{clock_place, add, add_with_parents};
 ghost use Rattle.clock_tables.specs.Rows.{clocks_in, RowsHold};
@@ -24,6 +24,7 @@ use definitions::{Condition, Test};
 pub const DEEPEST: usize = 8;
 
 // The first `depth` conditions, from base outward; a depth past eight counts as eight.
+// Stays (fixed memory): a clock is a value, and its array is as long as a clock may be deep.
 #[derive(Clone, Copy)]
 pub struct Clock {
     pub depth: usize,
@@ -38,7 +39,6 @@ pub struct TooDeep;
 pub type Natural = Result<Option<Clock>, TooDeep>;
 
 // A depth past eight counts as eight.
-// Stays (no plainer): a ghost field `depth ≤ 8` would ask more of who makes a `Clock`, whose fields are public.
 fn capped(depth: usize) -> usize
     ensures { result ≡ capped depth }
 {
@@ -66,6 +66,15 @@ impl Clock {
         ensures upper_bound { result ≤ 8 }
     {
         capped(self.depth)
+    }
+
+    // Its conditions, from base outward.
+    pub fn conditions(&self) -> &[Condition]
+        ensures value { result.now ≡ take (capped self.now.depth) self.now.conditions }
+        ensures upper_bound { length result.now ≤ 8 }
+        ensures clock { clock_at result.now (length result.now) ≡ value_of self.now }
+    {
+        &self.conditions[..capped(self.depth)]
     }
 
     pub fn is_base(self) -> bool
@@ -102,8 +111,10 @@ impl Clock {
     pub fn ends_in(self, k: Condition) -> bool
         ensures { result ≡ ends_in k (value_of self) }
     {
-        let d = self.depth();
-        0 < d && k == self.conditions[d - 1]
+        let Some(&last) = self.conditions().last() else {
+            return false;
+        };
+        k == last
     }
 }
 
@@ -114,10 +125,7 @@ impl PartialEq for Clock {
     ghost laws = { partial_equiv_from_equiv values };
 
     fn eq(&self, other: &Clock) -> bool {
-        let a = *self;
-        let b = *other;
-        let d = a.depth();
-        d == b.depth() && a.conditions[..d] == b.conditions[..d]
+        self.conditions() == other.conditions()
     }
 }
 
@@ -165,7 +173,7 @@ pub const WORDS: usize = 17;
 pub fn word_at(t: &[u32], i: usize) -> u32
     ensures { result ≡ get_or t.now i 0 }
 {
-    if i < t.len() { t[i] } else { 0 }
+    t.get(i).copied().unwrap_or(0)
 }
 
 // The word at a place from now on, if there is room for it.
@@ -203,15 +211,9 @@ pub fn word_of(k: Test) -> u32
 pub fn condition_at(t: &[u32], p: usize) -> Condition
     ensures { result ≡ condition_at t.now p }
 {
-    if t.len() <= p {
-        return Condition {
-            name: 0,
-            test: Test::Not,
-        };
-    }
     Condition {
         name: word_at(t, p),
-        test: test_of(word_at(t, p + 1)),
+        test: test_of(word_at(t, p.saturating_add(1))),
     }
 }
 
@@ -231,6 +233,7 @@ pub fn load(t: &[u32], b: usize) -> Clock
         return out;
     }
     let d = depth_at(t, b);
+    // Stays (proof): of what a closure of `array::from_fn` looks into nothing is known at its later calls.
     for i in 0..d {
         out.conditions[i] = condition_at(t, b + 1 + 2 * i);
     }
@@ -255,19 +258,27 @@ pub fn store(t: &mut [u32], b: usize, c: Clock)
     ensures b_after { clock_in t.new b ≡ value_of c }
     ensures by_index { (i : ℕ) → (i < b) ⊎ (b + 17 ≤ i) → get_or t.new i 0 ≡ get_or t.old i 0 }
     ensures by_index_2 { (i : ℕ) → i < 17 → get_or t.new (b + i) 0 ≡ get_or (words_of (value_of c)) i 0 }
+    ensures words { t.new ≡ with_clock b (value_of c) t.old }
 {
-    let d = c.depth();
-    t[b] = (d + 1) as u32;
-    for i in 0..DEEPEST {
-        let k = if i < d {
-            c.conditions[i]
-        } else {
-            Condition {
-                name: 0,
-                test: Test::Not,
-            }
-        };
+    let ks = c.conditions();
+    t[b] = ks.len() as u32 + 1;
+    t[b + 1..b + WORDS].fill(0);
+    for (i, &k) in ks.iter().enumerate() {
         store_condition(t, b + 1 + 2 * i, k);
+    }
+}
+
+// The clock in row i of a table from now on, if there is such a row.
+pub fn put_row(rows: &mut [u32], i: usize, c: Clock)
+    ensures rows_len_unchanged { length rows.new ≡ length rows.old }
+    ensures words { 17 * i + 17 ≤ length rows.old → rows.new ≡ with_clock (17 * i) (value_of c) rows.old }
+    ensures clock { 17 * i + 17 ≤ length rows.old → clock_in rows.new (17 * i) ≡ value_of c }
+    ensures nonzero { 17 * i + 17 ≤ length rows.old → 0 < get_or rows.new (17 * i) 0 }
+    ensures by_index { (k : ℕ) → (k < 17 * i) ⊎ (17 * i + 17 ≤ k) → get_or rows.new k 0 ≡ get_or rows.old k 0 }
+    ensures past { length rows.old < 17 * i + 17 → rows.new ≡ rows.old }
+{
+    if i < rows.len() / WORDS {
+        store(rows, WORDS * i, c);
     }
 }
 
@@ -288,28 +299,23 @@ pub fn lookup(table: &[u32], x: u32) -> Option<Clock>
 pub fn assign(table: &mut [u32], x: u32, c: Clock)
     ensures { Assigned table.old table.new x (value_of c) }
 {
-    let b = WORDS * (x as usize);
-    if b + WORDS <= table.len() {
-        store(table, b, c);
-    }
+    put_row(table, x as usize, c);
 }
 
 // No name below m has a clock, if the table has room for them.
 pub fn clear(table: &mut [u32], m: u32)
     ensures { Cleared table.old table.new m }
 {
-    let n = m as usize;
-    if table.len() < WORDS * n {
-        return;
-    }
-    for x in 0..n {
-        table[WORDS * x] = 0;
+    let n = WORDS * m as usize;
+    if n <= table.len() {
+        table[..n].fill(0);
     }
 }
 
 // ---- Tables of clocks: seventeen words a clock, and a count.
 
 // Clocks in lent words, and how many; a count one past the rows says that there were more clocks than rows.
+// Stays (no plainer): who fills a table hands on its count alone, as `Counts` of a plan, and a flag beside it would say what it says.
 #[derive(Clone, Copy)]
 pub struct ClockList<'a> {
     pub words: &'a [u32],
@@ -327,32 +333,26 @@ pub struct ClockTable<'a> {
 pub fn get(rows: &[u32], i: usize) -> Clock
     ensures { value_of result ≡ clock_in rows.now (17 * i) }
 {
-    if rows.len() / WORDS < i {
-        return Clock::base();
-    }
-    load(rows, WORDS * i)
+    load(rows, WORDS.saturating_mul(i))
 }
 
-// Does the clock in row i end as this one does? A quick look, as most that are another end otherwise.
-fn ends_alike(rows: &[u32], i: usize, c: Clock) -> bool
-    ensures { result ≡ false → same_clock (value_of c) (clock_in rows.now (17 * i)) ≡ false }
+// Does the clock at b end as this one does? A quick look, as most that are another end otherwise.
+fn ends_alike(t: &[u32], b: usize, c: Clock) -> bool
+    ensures { result ≡ false → same_clock (value_of c) (clock_in t.now b) ≡ false }
 {
-    if rows.len() / WORDS < i {
-        return true;
-    }
-    let b = WORDS * i;
     let d = c.depth();
-    if d != depth_at(rows, b) {
+    if d != depth_at(t, b) {
         return false;
     }
-    d == 0 || c.ends_in(condition_at(rows, b + 2 * d - 1))
+    d == 0 || c.ends_in(condition_at(t, b + 2 * d - 1))
 }
 
 // Is the clock in row i this one?
 fn is_at(rows: &[u32], i: usize, c: Clock) -> bool
     ensures { result ≡ same_clock (value_of c) (clock_in rows.now (17 * i)) }
 {
-    ends_alike(rows, i, c) && c == get(rows, i)
+    let b = WORDS.saturating_mul(i);
+    ends_alike(rows, b, c) && c == load(rows, b)
 }
 
 impl ClockList<'_> {
@@ -397,29 +397,39 @@ impl ClockTable<'_> {
     {
         let room = self.words.len() / WORDS;
         if self.count <= room {
-            if self.count < room {
-                store(self.words, WORDS * self.count, c);
-            }
+            put_row(self.words, self.count, c);
             self.count += 1;
         }
     }
 
-    // The clock added at the end, if it is not there.
-    pub fn add(&mut self, c: Clock)
-        ensures { Grown (add (value_of c)) self.old self.new }
+    // The clock added at the end, if it is not there: its row, if there is room for all.
+    pub fn add(&mut self, c: Clock) -> usize
+        ensures grown { Grown (add (value_of c)) self.old self.new }
+        ensures row { (cs : List clocks.Clock) → 17 * self.new.count ≤ length self.new.words.now → RowsHold self.new.words.now self.new.count cs → result ≡ clock_place (value_of c) cs }
     {
-        let room = self.words.len() / WORDS;
-        if self.count <= room && self.list().place(c).is_none() {
-            self.push(c);
+        let behind = self.count;
+        if self.words.len() / WORDS < behind {
+            return behind;
+        }
+        match self.list().place(c) {
+            Some(row) => row,
+            None => {
+                self.push(c);
+                behind
+            }
         }
     }
 
-    // The clock with its parents first.
-    pub fn add_with_parents(&mut self, c: Clock)
-        ensures { Grown (add_with_parents (value_of c)) self.old self.new }
+    // The clock with its parents first: its row, if there is room for all.
+    pub fn add_with_parents(&mut self, c: Clock) -> usize
+        ensures grown { Grown (add_with_parents (value_of c)) self.old self.new }
+        ensures row { (cs : List clocks.Clock) → 17 * self.new.count ≤ length self.new.words.now → RowsHold self.new.words.now self.new.count cs → result ≡ clock_place (value_of c) cs }
     {
-        for i in 0..c.depth() {
-            self.add(Clock { depth: i + 1, ..c });
+        if c.is_base() {
+            return self.list().find(c);
         }
+        let above = c.parent();
+        self.add_with_parents(above);
+        self.add(c)
     }
 }

@@ -6,7 +6,7 @@ ghost use Rattle.std.specs.Prelude.{◌≤◌};
 use arguments::Word;
 use definitions::Refusal;
 use std::io;
-use std::io::{Read, Write};
+use std::io::Write;
 
 const HELP: &[u8] =
     b"clocks [NODE]: prints the clocks of each node of the sheet on standard input, or of node NODE, counted from 0.
@@ -79,46 +79,33 @@ fn print_mostly<const N: usize>(
     }
 }
 
-// A longer sheet, of which these bytes are read. Never inlined, as the one above.
-// Stays (no plainer): `rewrite` reads a sheet so too, and answers a short one in two ways.
-#[inline(never)]
-fn answer_long(
-    input: &mut impl Read,
-    output: &mut impl Write,
-    errors: &mut impl Write,
-    start: &[u8; 4096],
-    node: Option<usize>,
-) -> io::Result<()> {
-    let mut sheet = [0u8; 65536];
-    let n = arguments::read_on(input, start, &mut sheet)?;
-    print_mostly::<MIDDLE>(output, errors, &sheet[..n], node)
-}
-
+// A short sheet's listing is mostly short too.
 fn answer(
-    input: &mut impl Read,
     output: &mut impl Write,
     errors: &mut impl Write,
+    sheet: &[u8],
     node: Option<usize>,
 ) -> io::Result<()> {
-    let mut start = [0u8; 4096];
-    let n = arguments::read_full(input, &mut start)?;
-    if n < 4096 {
-        return print_mostly::<SHORT>(output, errors, &start[..n], node);
+    if sheet.len() < 4096 {
+        return print_mostly::<SHORT>(output, errors, sheet, node);
     }
-    answer_long(input, output, errors, &start, node)
+    print_mostly::<MIDDLE>(output, errors, sheet, node)
 }
 
 fn main(rt: HostRuntime) -> io::Result<()> {
-    let mut input = rt.stdin();
     let mut output = rt.stdout();
     let mut errors = rt.stderr();
     if arguments::argument(&rt, 2).is_some() {
         return errors.write_all(WRONG);
     }
-    match arguments::argument(&rt, 1) {
-        None => answer(&mut input, &mut output, &mut errors, None),
-        Some(Word::Help) => output.write_all(HELP),
-        Some(Word::Number(node)) => answer(&mut input, &mut output, &mut errors, Some(node)),
-        Some(Word::Other) => errors.write_all(WRONG),
-    }
+    let node = match arguments::argument(&rt, 1) {
+        None => None,
+        Some(Word::Help) => return output.write_all(HELP),
+        Some(Word::Number(node)) => Some(node),
+        Some(Word::Other) => return errors.write_all(WRONG),
+    };
+    arguments::with_sheet(
+        &mut rt.stdin(),
+        |sheet| answer(&mut output, &mut errors, sheet, node),
+    )
 }

@@ -11,6 +11,7 @@ use lib.ListN.{length, get_or, set, take, drop, replicate}
 use lib.Seq.{drop-cons, drop-length, get_or-set_same, get_or-set_other}
 use lib.Dec.{eqb, ltb}
 use borrow.Author.Tests.{eq-eqb, eqb-true, eqb-false, lt-ltb, le-ltb, ltb-true, ltb-false}
+use Rattle.std.proofs.Math.Bool.{and-false, or-false}
 use Rattle.std.specs.Option.{option_eq}
 use Rattle.std.specs.List.{list_all, zip}
 use Rattle.std.proofs.Common.{inl, inr}
@@ -73,17 +74,9 @@ within-by n a b r h k e = (λ t. within-of n a b h k (sym e ∙ t), λ f. e ∙ 
 or_left : (a b : Bool) → a ≡ true → (a || b) ≡ true
 or_left a b e = rw e
 
-pub and-false : (a : Bool) → (a && false) ≡ false
-and-false true = refl
-and-false false = refl
-
 or_right : (a b : Bool) → b ≡ true → (a || b) ≡ true
 or_right true b e = refl
 or_right false b e = e
-
-or-false : (a : Bool) → a ≡ (a || false)
-or-false true = refl
-or-false false = refl
 
 -- any
 pub any_append : {A : Type 0} (p : A → Bool) (l m : List A) → any p (l ++ m) ≡ (any p l || any p m)
@@ -195,7 +188,7 @@ module _ (vs places : List ℕ) (n : ℕ) (types : List TypeDef) (t : Named vs p
     where
       without : (j : ℕ) → (eqb (name_at types j) x ≡ true) ⊎ (eqb (name_at types j) x ≡ false) → j < length types → get_or marks.set j false ≡ (get_or marks.set j false || eqb (name_at types j) x)
       without j (inl e) l = absurd (omega (arith, h, place-before (is_named x) types nowhere j l e))
-      without j (inr e) l = rw e (or-false (get_or marks.set j false))
+      without j (inr e) l = rw e (sym (or-false (get_or marks.set j false)))
 
   -- the name is there already
   pub name-again : (k : ℕ) → k ≡ first_of types x → k < length types → get_or marks.set k false ≡ true → Marked types marks (xs ++ (x ∷ []))
@@ -213,7 +206,7 @@ module _ (vs places : List ℕ) (n : ℕ) (types : List TypeDef) (t : Named vs p
 
       within : (j : ℕ) → (eqb (name_at types j) x ≡ true) ⊎ (eqb (name_at types j) x ≡ false) → j < length types → among x xs ≡ true → get_or marks.set j false ≡ (get_or marks.set j false || eqb (name_at types j) x)
       within j (inl d) l u = let g : name_at types j ≡ x = eqb-true (name_at types j) x d in let s : get_or marks.set j false ≡ true = m.holds.says j l ∙ rw g u in rw s
-      within j (inr d) l u = rw d (or-false (get_or marks.set j false))
+      within j (inr d) l u = rw d (sym (or-false (get_or marks.set j false)))
 
 -- the name that a type ends in
 module _ (t : Ty) where

@@ -46,11 +46,13 @@ row_at g i = get_or g.rows i (record { set = []; own = false })
 -- a graph of these definitions
 pub record Edges (types : List TypeDef) (g : Graph) : Type 0 where
   pub count : length types ≡ g.count
-  pub rows : (i : ℕ) → i < length types → TargetsAre types (row_at g i) (goes_on types (name_at types i)) (own_name types (name_at types i))
+  pub rows : (i : ℕ) → i < length types →
+      TargetsAre types (row_at g i) (goes_on types (name_at types i)) (own_name types (name_at types i))
 
 -- the i-th definition is the first of its name, and reaches itself
 abbrev pub IsCycle : List TypeDef → ℕ → Type 0
-IsCycle types i = (i ≡ first_of types (name_at types i)) × (among (name_at types i) (reached types (length types) (goes_on types (name_at types i))) ≡ true)
+IsCycle types i =
+    (i ≡ first_of types (name_at types i)) × (among (name_at types i) (reached types (length types) (goes_on types (name_at types i))) ≡ true)
 
 -- what is among the first n and in the one set is in the other
 abbrev pub IsWithin : ℕ → List Bool → List Bool → Type 0
@@ -63,4 +65,5 @@ Joined g set j = (i : ℕ) × (i < g.count) × (get_or set i false ≡ true) × 
 -- all that one of the set goes on to are in the set, and none of the set reaches itself, in any number of steps
 pub record Acyclic (types : List TypeDef) (g : Graph) (set : List Bool) : Type 0 where
   pub closed : (i : ℕ) → i < length types → get_or set i false ≡ true → IsWithin (length types) (row_at g i).set set
-  pub acyclic : (i : ℕ) → i < length types → get_or set i false ≡ true → (m : ℕ) → among (name_at types i) (reached types m (goes_on types (name_at types i))) ≡ false
+  pub acyclic : (i : ℕ) → i < length types → get_or set i false ≡ true → (m : ℕ) →
+      among (name_at types i) (reached types m (goes_on types (name_at types i))) ≡ false

@@ -11,6 +11,7 @@ pub struct Targets {
 }
 
 // What the name of each of so many definitions goes on to.
+// Stays (fixed memory): how many there are is the sheet's, and the array is as long as there can be.
 #[derive(Clone, Copy)]
 pub struct Graph {
     pub rows: [Targets; MOST_TYPES],

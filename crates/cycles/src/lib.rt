@@ -46,34 +46,29 @@ pub fn target_of(source: &Source<'_>, depth: u32, at: usize) -> Option<u32>
 }
 
 // A set and the definitions of one more name.
-fn with_name(
-    values: &[u32],
-    places: &PlaceTable<MOST_TYPES>,
-    set: &[bool; MOST_TYPES],
-    x: u32,
-) -> [bool; MOST_TYPES]
-    ensures { (j : ℕ) → j < places.now.count → get_or result j false ≡ (get_or set.now j false || eqb (get_or values.now (get_or places.now.at j 0) 0) x) }
+fn with_name(table: &TypeTable<'_, '_>, set: &[bool; MOST_TYPES], x: u32) -> [bool; MOST_TYPES]
+    ensures { (j : ℕ) → j < table.now.places.now.count → get_or result j false ≡ (get_or set.now j false || eqb (get_or table.now.source.values.now (get_or table.now.places.now.at j 0) 0) x) }
 {
     let mut more = *set;
-    for j in 0..places.count {
-        more[j] = set[j] || layout::value_at(values, places.at[j]) == x;
+    for j in 0..table.places.count {
+        more[j] = set[j] || layout::value_at(table.source.values, table.places.at[j]) == x;
     }
     more
 }
 
 // Targets and one more name. Of a name that no definition has, or that is there already, the set stays.
-fn add_name(values: &[u32], places: &PlaceTable<MOST_TYPES>, targets: Targets, x: u32) -> Targets
-    ensures { (types : List TypeDef) (xs : List ℕ) → Named values.now places.now.at places.now.count types → Marked types targets xs → Marked types result (xs ++ (x ∷ [])) }
+fn add_name(table: &TypeTable<'_, '_>, targets: Targets, x: u32) -> Targets
+    ensures { (types : List TypeDef) (xs : List ℕ) → Named table.now.source.values.now table.now.places.now.at table.now.places.now.count types → Marked types targets xs → Marked types result (xs ++ (x ∷ [])) }
 {
     let set = targets.set;
-    let Some(first) = layout::find_definition(values, places, x) else {
+    let Some(first) = layout::find_definition(table.source.values, table.places, x) else {
         return Targets { set, own: false };
     };
     if set[first] {
         return targets;
     }
     Targets {
-        set: with_name(values, places, &set, x),
+        set: with_name(table, &set, x),
         own: targets.own,
     }
 }
@@ -83,7 +78,7 @@ fn add_type(table: &TypeTable<'_, '_>, targets: Targets, at: usize) -> Targets
     ensures { (types : List TypeDef) (t : Ty) (q : ℕ) (xs : List ℕ) → Named table.now.source.values.now table.now.places.now.at table.now.places.now.count types → ty table.now.source.names 8 (tokens_of table.now.source) at ≡ got t q → Marked types targets xs → Marked types result (xs ++ target t) }
 {
     match target_of(&table.source, ARRAY_LEVELS, at) {
-        Some(x) => add_name(table.source.values, table.places, targets, x),
+        Some(x) => add_name(table, targets, x),
         None => targets,
     }
 }
@@ -105,12 +100,11 @@ fn field_targets(table: &TypeTable<'_, '_>, count: u32, at: usize) -> Targets
     let mut targets = no_targets();
     let mut place = at;
     for _ in 0..count {
-        let Ok(next) = grammar::read_declaration(&table.source, place) else {
+        let Some(field) = layout::declaration_at(&table.source, place) else {
             return targets;
         };
-        let first = layout::behind(table.source.tags, place);
-        targets = add_type(table, targets, first);
-        place = next;
+        targets = add_type(table, targets, field.type_at);
+        place = field.end;
     }
     targets
 }
@@ -120,12 +114,12 @@ fn definition_targets(table: &TypeTable<'_, '_>, at: usize) -> Targets
     ensures { (types : List TypeDef) (d : TypeDef) (q : ℕ) → Named table.now.source.values.now table.now.places.now.at table.now.places.now.count types → type_def table.now.source.names (tokens_of table.now.source) at ≡ got d q → TargetsAre types result (targets d.body) (own_body types d.body) }
 {
     match layout::describe(&table.source, at) {
-        Some(Defined::Enum(_, count, _)) => Targets {
+        Some(Defined::Enum { count, .. }) => Targets {
             set: [false; MOST_TYPES],
             own: 0 < count,
         },
-        Some(Defined::Record(_, count, first)) => field_targets(table, count, first),
-        Some(Defined::Alias(_, first)) => add_type(table, no_targets(), first),
+        Some(Defined::Record { count, first, .. }) => field_targets(table, count, first),
+        Some(Defined::Alias { target, .. }) => add_type(table, no_targets(), target),
         None => no_targets(),
     }
 }
@@ -146,21 +140,17 @@ fn name_targets(table: &TypeTable<'_, '_>, i: usize) -> Targets
 }
 
 // What the name of each definition goes on to.
-pub fn edges(source: &Source<'_>, places: &PlaceTable<MOST_TYPES>) -> Graph
-    ensures count { result.count ≡ places.now.count }
-    ensures edges { (types : List TypeDef) → Table source.now.names (tokens_of source.now) places.now.at places.now.count types → Edges types result }
+pub fn edges(table: &TypeTable<'_, '_>) -> Graph
+    ensures count { result.count ≡ table.now.places.now.count }
+    ensures edges { (types : List TypeDef) → Table table.now.source.names (tokens_of table.now.source) table.now.places.now.at table.now.places.now.count types → Edges types result }
 {
-    let table = TypeTable {
-        source: *source,
-        places,
-    };
     let mut rows = [no_targets(); MOST_TYPES];
-    for i in 0..places.count {
-        rows[i] = name_targets(&table, i);
+    for i in 0..table.places.count {
+        rows[i] = name_targets(table, i);
     }
     Graph {
         rows,
-        count: places.count,
+        count: table.places.count,
     }
 }
 
@@ -175,16 +165,12 @@ fn is_cycle(table: &TypeTable<'_, '_>, graph: &Graph, i: usize) -> bool
 }
 
 // The first definition that reaches itself. One that is not the first of its name is passed over.
-pub fn first_cycle(source: &Source<'_>, places: &PlaceTable<MOST_TYPES>) -> Option<usize>
-    ensures { (types : List TypeDef) → Table source.now.names (tokens_of source.now) places.now.at places.now.count types → MatchOption result (first_cycle types [] types ≡ length types) (λ i. (i ≡ first_cycle types [] types) × (i < length types)) }
+pub fn first_cycle(table: &TypeTable<'_, '_>) -> Option<usize>
+    ensures { (types : List TypeDef) → Table table.now.source.names (tokens_of table.now.source) table.now.places.now.at table.now.places.now.count types → MatchOption result (first_cycle types [] types ≡ length types) (λ i. (i ≡ first_cycle types [] types) × (i < length types)) }
 {
-    let graph = edges(source, places);
+    let graph = edges(table);
     if graph.settles() {
         return None;
     }
-    let table = TypeTable {
-        source: *source,
-        places,
-    };
-    (0..places.count).find(|&i| is_cycle(&table, &graph, i))
+    (0..table.places.count).find(|&i| is_cycle(table, &graph, i))
 }

@@ -6,6 +6,9 @@ use mathlib.Core.Bool.{Bool, true, false}
 use Prim.Native.Nat.{ℕ, suc, ◌+◌, ◌-◌, ◌*◌, ◌≤◌, ◌<◌}
 use native.Mathlib.Omega.{arith}
 use lib.ListN.{length, get_or}
+use Rattle.std.specs.Prelude.{Some, None}
+use Rattle.std.specs.List.{slice_get}
+use Rattle.std.proofs.lemmas.Option.{none-some, slice_get-get_or, slice_get_within, get_or_from_slice_get}
 use Rattle.definitions.specs.declared.BinOp.{BinOp}
 use Rattle.definitions.specs.declared.Condition.{Condition}
 use Rattle.definitions.specs.declared.ExprToken.{ExprToken}
@@ -20,7 +23,7 @@ use Rattle.definitions.specs.Tree.{Ty, Expr}
 use Rattle.definitions.specs.Clock.{Clock, base, ◌↓◌, depth, parent, is_base}
 use Rattle.definitions.specs.Declock.{clock_place, and_of, condition_expr}
 use Rattle.definitions.specs.Output.{ty_tokens, declared_tokens, expr_tokens, form_tokens, equation_tokens}
-use Rattle.clock_tables.specs.Value.{at, clock_at, capped}
+use Rattle.clock_tables.specs.Value.{clock_at}
 use Rattle.clock_tables.proofs.ClockLaws.{last-at}
 use Rattle.chain_order.specs.Order.{picked}
 use Rattle.stateless.specs.Yield.{Ids}
@@ -73,13 +76,10 @@ parent-flag o o₁ id c p d x y h q i e =
 
 -- ---- when a clock is on
 module _ (i : Ids) (o o₁ : Output) (c : Clock) where
-  pub on-base : (d : ℕ) → d ≡ depth c → d ≡ 0 → o₁ ≡ emits o (Token.Expression (ExprToken.Const (Literal.Bool 1)) ∷ []) → o₁ ≡ emits o (expr_tokens (activation_by i c))
-  unfolding expr_tokens
-  on-base n q z e = go c (sym q ∙ z)
-    where
-      go : (d : Clock) → depth d ≡ 0 → o₁ ≡ emits o (expr_tokens (activation_by i d))
-      go base y = e
-      go (d ↓ k) y = absurd (omega arith)
+  pub on-base : (ks : List Condition) → None ≡ slice_get ks (length ks - 1) → clock_at ks (length ks) ≡ c → o₁ ≡ emits o (Token.Expression (ExprToken.Const (Literal.Bool 1)) ∷ []) → o₁ ≡ emits o (expr_tokens (activation_by i c))
+  unfolding clock_at expr_tokens
+  on-base [] n q e = rw (sym q) e
+  on-base (k ∷ ks) n q e = absurd (none-some _ (n ∙ slice_get-get_or (k ∷ ks) (length (k ∷ ks) - 1) k (omega arith)))
 
   activation-tokens : (p : Clock) (k : Condition) → parent_tokens i.flag p ++ expr_tokens (condition_expr k) ≡ expr_tokens (activation_by i (p ↓ k))
   unfolding expr_tokens form_tokens
@@ -95,9 +95,11 @@ module _ (i : Ids) (o o₁ : Output) (c : Clock) where
       after o o₁ o₂ _ _ (e ∙ ap (λ (d : Clock). emits o (parent_tokens i.flag (parent d))) q) f
       ∙ (ap (emits o) (activation-tokens p k) ∙ ap (λ (d : Clock). emits o (expr_tokens (activation_by i d))) (sym q))
 
--- a struct's clock is its last condition over the others
-pub last-value : (ks : List Condition) (d r : ℕ) → r ≡ capped d → (r ≡ 0 → ⊥) → clock_at ks (capped d) ≡ clock_at ks (r - 1) ↓ at ks (r - 1)
-last-value ks d r e z = let y : capped d ≡ 0 → ⊥ = λ w. z (e ∙ w) in last-at ks (capped d) y ∙ rw e
+-- a clock is its last condition over the others
+pub last-over : (ks : List Condition) (k : Condition) (c : Clock) → Some k ≡ slice_get ks (length ks - 1) → clock_at ks (length ks) ≡ c → c ≡ clock_at ks (length ks - 1) ↓ k
+last-over ks k c e q =
+    let within : length ks - 1 < length ks = slice_get_within ks (length ks - 1) k (sym e) in
+    sym q ∙ (last-at ks (length ks) (λ z. omega (arith, within)) ∙ ap (λ (l : Condition). clock_at ks (length ks - 1) ↓ l) (get_or_from_slice_get ks (length ks - 1) k _ (sym e)))
 
 -- ---- the first tick of a clock
 pub first-tick : (i : Ids) (c : Clock) (x y : ℕ) (o o₁ : Output) → x ≡ i.first c → y ≡ i.flag c

@@ -66,7 +66,7 @@ pub record PlannedNode (spelling : Spelling) (t : Index) (p : NodePlan) (names :
   pub declares : Declares t.source.names (tokens_of t.source) p.types.now (declared n.node)
   pub flag-room : HasRows p.needs.flags.words.now (node_needs names sheet n).flags
   pub first-room : HasRows p.needs.firsts.words.now (node_needs names sheet n).firsts
-  pub hold-room : length p.holds.now ≡ 2048
+  pub hold-room : length p.holds.now ≡ 1024
   pub counted : counted_in p.needs (node_needs names sheet n)
   pub planned : (condact : ℕ) (flag_ids first_ids hold_ids : List ℕ) → Whole (length p.needs.flags.words.now) (length p.needs.firsts.words.now) (length p.holds.now) (node_needs names sheet n) →
       EquationsPlanned t.source.names t.source.tags.now t.source.values.now (writer_of sheet n condact flag_ids first_ids hold_ids) p.plan.now (condact_id names) (ids_by (node_needs names sheet n) flag_ids first_ids hold_ids condact) 0 n.clocking.equations p.layout.equations.at p.layout.equations.end

@@ -30,8 +30,8 @@ use emit::Output;
 use index::Index;
 use layout::NodeLayout;
 use new_names::{FlagNames, NodeNames, NodeNeeds};
-use planned::Written;
-use spelling::{OutputNames, Spelling, StemName};
+use planned::{HeldOperand, WriteInput};
+use spelling::{OutputNames, Spelling};
 
 // ---- The flags of clocks: their declarations and equations written into the output's arrays.
 
@@ -125,12 +125,9 @@ fn put_parent(output: &mut Output, flags: &Flags<'_>, c: Clock)
 fn put_activation(output: &mut Output, flags: &Flags<'_>, c: Clock)
     ensures { (i : Ids) → FlagIds flags.now i.flag → output.new ≡ emits output.old (expr_tokens (activation_by i (value_of c))) }
 {
-    let d = c.depth();
-    if d == 0 {
+    let Some(&k) = c.conditions().last() else {
         return output.emit(Token::Expression(ExprToken::Const(Literal::Bool(1))));
-    }
-    let last = d - 1;
-    let k = c.conditions[last];
+    };
     put_parent(output, flags, c);
     put_condition(output, k);
 }
@@ -182,24 +179,22 @@ fn put_first_equations(output: &mut Output, firsts: &Flags<'_>, flags: &Flags<'_
 // and its layout.
 #[derive(Clone, Copy)]
 pub struct ReadyNode<'a> {
-    pub written: Written<'a>,
+    pub written: WriteInput<'a>,
     pub flags: Flags<'a>,
     pub firsts: Flags<'a>,
     pub holds: usize,
     pub layout: NodeLayout,
 }
 
-// The most names, as a word.
-const NAMES: u32 = MOST_NAMES as u32;
-
 // How many new locals a node has, and so many more.
+// Stays (no plainer): that they are few is a premise of the clause alone, so without the clamps no sum would be known to fit its type.
 fn count_of(node: &ReadyNode<'_>, more: u32) -> u32
     ensures { node.now.flags.names.now.ordered ≤ 1024 → node.now.firsts.names.now.ordered ≤ 1024 → node.now.holds ≤ 1024 → more ≤ 1024 → result ≡ node.now.flags.names.now.ordered + (node.now.firsts.names.now.ordered + node.now.holds) + more }
 {
     let flags = node.flags.names.ordered.min(MOST_NAMES);
     let firsts = node.firsts.names.ordered.min(MOST_NAMES);
     let holds = node.holds.min(MOST_NAMES);
-    (flags + firsts + holds) as u32 + more.min(NAMES)
+    (flags + firsts + holds) as u32 + more.min(MOST_NAMES as u32)
 }
 
 // The node up to its equations, with its new locals behind its own.
@@ -245,8 +240,15 @@ pub struct NodePlan<'a> {
     pub layout: NodeLayout,
     pub needs: NodeNeeds<'a>,
     pub plan: &'a [u32],
-    pub holds: &'a [u32],
+    pub holds: &'a [HeldOperand],
     pub types: &'a [u32],
+}
+
+// What is written of the output so far: its names, and its tokens.
+#[derive(Drop)]
+pub struct OutputSheet {
+    pub names: OutputNames,
+    pub tokens: Output,
 }
 
 // A node whose names are filled and stand in the table, written: they have their ids among those there.
@@ -259,53 +261,32 @@ fn put_filled(
 )
     ensures { (spelling : Spelling) (input before all : List Letters) (sheet : Sheet) (n : ClockedNode) → PlannedNode spelling index.now node.now input sheet n → Filled input n.node (node_needs input sheet n) node.now.needs names.now → NamesHeld table.now (names_with input before sheet n) → table.now.full ≡ false → NamesAhead input before sheet n all → output.new ≡ emits output.old (node_tokens (output_node input sheet all n)) }
 {
-    let needs = &node.needs;
-    let mut flag_ids = [0u32; MOST_NAMES];
-    let mut first_ids = [0u32; MOST_NAMES];
-    let mut hold_ids = [0u32; MOST_NAMES];
-    let flags = &names.flags;
-    let firsts = &names.firsts;
-    let holds = &names.hold_numbers;
-    new_names::fill_ids(
-        table,
-        StemName::Ck,
-        &flags.numbers,
-        needs.flags.count,
-        &mut flag_ids,
-    );
-    new_names::fill_ids(
-        table,
-        StemName::First,
-        &firsts.numbers,
-        needs.firsts.count,
-        &mut first_ids,
-    );
-    new_names::fill_ids(table, StemName::Hold, holds, names.holds, &mut hold_ids);
+    let ids = names.ids(&node.needs, table);
     let index = Index {
-        condact: new_names::condact_id(table),
+        condact: ids.condact,
         ..*index
     };
-    let written = Written {
+    let written = WriteInput {
         index: &index,
         plan: node.plan,
         parts: &layout::parts_table(),
-        flag_ids: &flag_ids,
-        first_ids: &first_ids,
-        hold_ids: &hold_ids,
+        flag_ids: &ids.flags,
+        first_ids: &ids.firsts,
+        hold_ids: &ids.holds,
         holds: node.holds,
         types: node.types,
     };
     let ready = ReadyNode {
         written,
         flags: Flags {
-            clocks: needs.flags,
-            names: flags,
-            ids: &flag_ids,
+            clocks: node.needs.flags,
+            names: &names.flags,
+            ids: &ids.flags,
         },
         firsts: Flags {
-            clocks: needs.firsts,
-            names: firsts,
-            ids: &first_ids,
+            clocks: node.needs.firsts,
+            names: &names.firsts,
+            ids: &ids.firsts,
         },
         holds: names.holds,
         layout: node.layout,
@@ -318,19 +299,18 @@ pub fn write_planned(
     spelling: Spelling<'_>,
     index: &Index<'_>,
     node: &NodePlan<'_>,
-    table: &mut OutputNames,
-    output: &mut Output,
+    sheet: &mut OutputSheet,
 )
-    ensures names_held { (names before : List Letters) (sheet : Sheet) (n : ClockedNode) → PlannedNode spelling.entry index.now node.now names sheet n → NamesHeld table.old before → NamesHeld table.new (names_with names before sheet n) }
-    ensures next_after { (names before all : List Letters) (sheet : Sheet) (n : ClockedNode) → PlannedNode spelling.entry index.now node.now names sheet n → NamesHeld table.old before → NamesAhead names before sheet n all → table.new.full ≡ false → output.new ≡ emits output.old (node_tokens (output_node names sheet all n)) }
+    ensures names_held { (names before : List Letters) (source : Sheet) (n : ClockedNode) → PlannedNode spelling.entry index.now node.now names source n → NamesHeld sheet.old.names before → NamesHeld sheet.new.names (names_with names before source n) }
+    ensures next_after { (names before all : List Letters) (source : Sheet) (n : ClockedNode) → PlannedNode spelling.entry index.now node.now names source n → NamesHeld sheet.old.names before → NamesAhead names before source n all → sheet.new.names.full ≡ false → sheet.new.tokens ≡ emits sheet.old.tokens (node_tokens (output_node names source all n)) }
 {
     let mut names = NodeNames::none();
     match names.fill(spelling, &index.source, node.layout, &node.needs) {
-        Err(_) => new_names::mark_full(table),
+        Err(_) => new_names::mark_full(&mut sheet.names),
         Ok(()) => {
-            names.add_to(table);
-            if !table.full {
-                put_filled(index, node, &names, table, output);
+            names.add_to(&mut sheet.names);
+            if !sheet.names.full {
+                put_filled(index, node, &names, &sheet.names, &mut sheet.tokens);
             }
         }
     }

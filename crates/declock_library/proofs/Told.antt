@@ -12,9 +12,8 @@ use Rattle.definitions.specs.Refusals.{Answer, accepted, refused, faulty, number
 use Rattle.runs.specs.Demand.{DemandThreeAt}
 use Rattle.definitions.specs.Answer.{NodeClocks}
 use Rattle.query.specs.declared.NodeCounts.{NodeCounts}
-use Rattle.listings.specs.Answers.{ListingGiven, listing_answered, clocks_answered}
-use Rattle.declock_project.specs.Given.{rewrite_answered}
-use Rattle.clock_pass.specs.Given.{RewriteGiven, ClocksGiven}
+use Rattle.listings.specs.Answers.{ClocksGiven, ListingGiven, listing_answered, clocks_answered}
+use Rattle.declock_project.specs.Given.{RewriteGiven, rewrite_answered}
 use Rattle.declock_library.specs.Numbers.{number_of, place_of, count_of, query_place_of, counts_after, BytesTold, RewritingTold, ClocksTold, told_number, bytes_place, faulty_count, clocks_place, clocks_counts}
 
 listing-number : (v : Answer (List ℕ)) → told_number (listing_answered v) ≡ number_of v

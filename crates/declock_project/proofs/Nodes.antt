@@ -50,10 +50,9 @@ use Rattle.std.specs.Prelude.{Result, Ok, Err}
 use Rattle.findings.specs.declared.Found.{Found}
 use Rattle.findings.specs.Value.{node_fault_of}
 use Rattle.skeleton.specs.Sites.{EquationsSited}
+use Rattle.planned.specs.declared.HeldOperand.{HeldOperand}
 use Rattle.node_plan.specs.Outcomes.{met_by, PlansNode}
 use Rattle.workspace.specs.declared.Working.{Working}
-use Rattle.first_faults.specs.declared.NodeFound.{NodeFound}
-use Rattle.first_faults.specs.Faults.{deep_found, fault_found}
 use Rattle.first_faults.proofs.Laws.{as_many}
 use Rattle.declock.specs.declared.NodePlan.{NodePlan}
 use Rattle.declock.specs.Planned.{node_needs, names_with, PlannedNode, NamesAhead}
@@ -92,7 +91,7 @@ module _ {spelling : Spelling} {t : Index} {r : Input} {n : ClockedNode} {p : No
       all-rows rows m clocks room held = omega (arith, has-count rows m clocks room held)
 
 -- one that is planned is written by its plan
-pub plan-put : {spelling : Spelling} {t : Index} {l : NodeLayout} {s : Counts} {flags firsts plan holds types : List ℕ} (p : NodePlan) {c c' : NameTable 1024 16384} {o o' : Output} → c.full ≡ false
+pub plan-put : {spelling : Spelling} {t : Index} {l : NodeLayout} {s : Counts} {flags firsts plan : List ℕ} {holds : List HeldOperand} {types : List ℕ} (p : NodePlan) {c c' : NameTable 1024 16384} {o o' : Output} → c.full ≡ false
     → LeftIn l s flags firsts plan holds types p → PlannedIn spelling t l s flags firsts plan holds types
     → ((names before : List Letters) (sheet : Sheet) (n : ClockedNode) → PlannedNode spelling t p names sheet n → NamesHeld c before → NamesHeld c' (names_with names before sheet n))
     → ((names before all : List Letters) (sheet : Sheet) (n : ClockedNode) → PlannedNode spelling t p names sheet n → NamesHeld c before → NamesAhead names before sheet n all → c'.full ≡ false → o' ≡ emits o (node_tokens (output_node names sheet all n)))
@@ -110,27 +109,23 @@ plan-put {spelling} {t} {l} {s} {flags} {firsts} {plan} {holds} {types} p {c} {c
 pub never-put : {spelling : Spelling} {t : Index} {l : NodeLayout} {c : NameTable 1024 16384} {o o' : Output} → ((r : Input) (n : ClockedNode) → Indexed t r → CleanClocked spelling t r n l → ⊥) → LaidPut spelling t l c c o o'
 never-put unlike = record { free = λ free. free; names = λ r n before h u held. absurd (unlike r n h u); tokens = λ r n before all h u held ahead free. absurd (unlike r n h u) }
 
--- one in which too deep a clock or a fault was found is no such
-pub unclean : (r : Input) (n : ClockedNode) (a : NodeFound) → ((s : Counts) → a ≡ NodeFound.Clean s → ⊥) → deep_found a ≡ is_deep (clocking n.node) → fault_found a ≡ get_elem? (node_faults r.names r.sheet n) 0
-    → clocking n.node ≡ formed n.clocking → node_faults r.names r.sheet n ≡ [] → ⊥
-unclean r n NodeFound.Deep u d f k c = true≢false (d ∙ ap is_deep k)
-unclean r n (NodeFound.Faulty x) u d f k c = none-ne-some (node_fault_of x) (sym (f ∙ ap (λ (l : List NodeFault). get_elem? l 0) c))
-unclean r n (NodeFound.Clean s) u d f k c = u s refl
+-- one in which too deep a clock was formed is no such
+pub deep-unclean : (n : ClockedNode) → true ≡ is_deep (clocking n.node) → clocking n.node ≡ formed n.clocking → ⊥
+deep-unclean n d k = true≢false (d ∙ ap is_deep k)
 
-pub not-deep : (a : NodeFound) → (a ≡ NodeFound.Deep → ⊥) → deep_found a ≡ false
-not-deep NodeFound.Deep u = absurd (u refl)
-not-deep (NodeFound.Faulty x) u = refl
-not-deep (NodeFound.Clean s) u = refl
+-- nor one in which a fault was found
+pub unclean : (r : Input) (n : ClockedNode) (f : Found) → some (node_fault_of f) ≡ get_elem? (node_faults r.names r.sheet n) 0 → node_faults r.names r.sheet n ≡ [] → ⊥
+unclean r n f e c = none-ne-some (node_fault_of f) (sym (e ∙ ap (λ (l : List NodeFault). get_elem? l 0) c))
 
 -- ---- one whose sites have their clocks is planned again, in tables of as many rows as an output may have names
-module _ {spelling : Spelling} {w : Working} {holds plan' flags' firsts' holds' types' : List ℕ} {t : Index} {l : NodeLayout} (o : Result Counts Found) (s : SitedIn spelling t l w holds)
+module _ {spelling : Spelling} {w : Working} {holds : List HeldOperand} {plan' flags' firsts' : List ℕ} {holds' : List HeldOperand} {types' : List ℕ} {t : Index} {l : NodeLayout} (o : Result Counts Found) (s : SitedIn spelling t l w holds)
     (P : (i : Input) (node : Node) (q : ℕ) (cs : List Clocked) → Indexed t i → LaidNode t.source.names (tokens_of t.source) node q l → EquationsSited t.source.names t.source.tags.now t.source.values.now w.sites.now cs l.equations.at l.equations.end → length cs ≡ l.equations.count
     → t.source.names ≤ length w.rows.now → length t.source.tags.now ≤ length w.chain.now → length t.source.tags.now ≤ 4096 → PlansNode t.source.names t.source.tags.now t.source.values.now plan' flags' firsts' holds' types' i.sheet.types i.sheet.nodes node (condact_id i.names) cs l.equations.at l.equations.end o) where
   again : (r : Input) (n : ClockedNode) → Indexed t r → (u : CleanClocked spelling t r n l)
       → PlansNode t.source.names t.source.tags.now t.source.values.now plan' flags' firsts' holds' types' r.sheet.types r.sheet.nodes n.node (condact_id r.names) n.clocking.equations l.equations.at l.equations.end o
   again r n h u = P r n.node u.end n.clocking.equations h u.laid (s.sited r n h u) (as_many _ _ n.node _ _ n.clocking u.laid u.clean.forms) s.typed s.noted s.few-tokens
 
-  pub sited-planned : (m : Counts) → o ≡ Ok m → length flags' ≡ 17408 → length firsts' ≡ 17408 → length holds' ≡ 2048 → PlannedIn spelling t l m flags' firsts' plan' holds' types'
+  pub sited-planned : (m : Counts) → o ≡ Ok m → length flags' ≡ 17408 → length firsts' ≡ 17408 → length holds' ≡ 1024 → PlannedIn spelling t l m flags' firsts' plan' holds' types'
   sited-planned m e a b d =
       record {
         planned = λ r n h u. (again r n h u).planned m e;

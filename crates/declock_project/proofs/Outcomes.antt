@@ -28,30 +28,29 @@ use Rattle.stateless.proofs.Nodes.{many-tokens}
 use Rattle.stateless.proofs.Answers.{all_names, out_sheet, rewrite-deep, rewrite-faulty, rewrite-large, rewrite-lent, rewrite-accepted}
 use Rattle.first_faults.specs.Faults.{Recorded}
 use Rattle.parts.specs.Bytes.{written_answer, written_bytes}
-use Rattle.query.specs.Words.{record_words, entries_over}
 use Rattle.declock_project.specs.Walk.{Faultless, Walks}
-use Rattle.declock_project.specs.Given.{RewriteInWords, Read}
+use Rattle.declock_project.specs.Given.{RewriteGiven, Read}
 
 -- the output's bytes
 abbrev out_bytes : Input → List ClockedNode → List ℕ
 out_bytes r ns = written (all_names r ns) (out_sheet r ns)
 
 -- ---- what is given, by the definition's answer
-module _ (v : Answer (List ℕ)) (lent list : List ℕ) where
-  pub given-refused : (x : Refusal) → v ≡ refused x → RewriteInWords v lent list lent list (Err x)
+module _ (v : Answer (List ℕ)) (lent : List ℕ) (list : List FaultRecord) where
+  pub given-refused : (x : Refusal) → v ≡ refused x → RewriteGiven v lent list lent list (Err x)
   given-refused x e = rw e (record { answer = refl; bytes = refl; faults = refl })
 
-  given-faulty : (l : List FaultRecord) (m : ℕ) (list' : List ℕ) → v ≡ faulty l → m ≡ length l → list' ≡ entries_over 3 (map record_words l) list
-      → RewriteInWords v lent list lent list' (Err (Refusal.Faulty m))
+  given-faulty : (l : List FaultRecord) (m : ℕ) (list' : List FaultRecord) → v ≡ faulty l → m ≡ length l → list' ≡ over l list
+      → RewriteGiven v lent list lent list' (Err (Refusal.Faulty m))
   given-faulty l m list' e f g = rw e (record { answer = ap (λ (k : ℕ). Err (Refusal.Faulty k)) f; bytes = refl; faults = g })
 
   -- bytes that are the answer where they are not too many, else 12, by what putting them answered and left
   pub put-given : (b : List ℕ) → (length b ≤ length lent → v ≡ accepted b) → (length lent < length b → v ≡ refused (Refusal.Lent (length b)))
-      → (lent' : List ℕ) (w : Result ℕ Refusal) → w ≡ written_answer b lent → lent' ≡ written_bytes b lent → RewriteInWords v lent list lent' list w
+      → (lent' : List ℕ) (w : Result ℕ Refusal) → w ≡ written_answer b lent → lent' ≡ written_bytes b lent → RewriteGiven v lent list lent' list w
   unfolding written_answer written_bytes
   put-given b enough too_few lent' w answer filled = go (leb (length b) (length lent)) refl answer filled
     where
-      go : (t : Bool) → leb (length b) (length lent) ≡ t → w ≡ choose t (Ok (length b)) (Err (Refusal.Lent (length b))) → lent' ≡ choose t (over b lent) lent → RewriteInWords v lent list lent' list w
+      go : (t : Bool) → leb (length b) (length lent) ≡ t → w ≡ choose t (Ok (length b)) (Err (Refusal.Lent (length b))) → lent' ≡ choose t (over b lent) lent → RewriteGiven v lent list lent' list w
       go true t f g = rw (enough (leb-true (length b) (length lent) t)) (record { answer = f; bytes = g; faults = refl })
       go false t f g = rw (too_few (leb-false (length b) (length lent) t)) (record { answer = f; bytes = g; faults = refl })
 
@@ -61,12 +60,12 @@ no_items [] m e h = refl
 no_items (f ∷ fs) m e h = absurd (omega arith)
 
 -- no clock is too deep: each node has its clocks, and each faulty one's first fault is recorded
-pub none_deep : (r : Input) (m : ℕ) (list list' : List ℕ) → Walks r list list' (Ok m) → (ns : List ClockedNode) × (clockings 0 r.sheet.nodes ≡ accepted ns) × Recorded list (first_faults_from r 0 ns) m list'
+pub none_deep : (r : Input) (m : ℕ) (list list' : List FaultRecord) → Walks r list list' (Ok m) → (ns : List ClockedNode) × (clockings 0 r.sheet.nodes ≡ accepted ns) × Recorded list (first_faults_from r 0 ns) m list'
 unfolding Walks
 none_deep r m list list' h = h
 
 -- where none is counted there is none
-pub none-recorded : (r : Input) (m : ℕ) (list list' : List ℕ) → Walks r list list' (Ok m) → m ≤ 0 → (ns : List ClockedNode) × (clockings 0 r.sheet.nodes ≡ accepted ns) × (first_faults_from r 0 ns ≡ [])
+pub none-recorded : (r : Input) (m : ℕ) (list list' : List FaultRecord) → Walks r list list' (Ok m) → m ≤ 0 → (ns : List ClockedNode) × (clockings 0 r.sheet.nodes ≡ accepted ns) × (first_faults_from r 0 ns ≡ [])
 none-recorded r m list list' h z =
     let n = none_deep r m list list' h in
     (n.0, n.1, no_items (first_faults_from r 0 n.0) m n.2.counted z)
@@ -80,28 +79,28 @@ pub faultless-read : {given bytes : List ℕ} {spelling : Spelling} {source : So
     → clockings 0 r.sheet.nodes ≡ accepted ns → first_faults_from r 0 ns ≡ [] → Faultless spelling bytes r ns
 faultless-read h ns clocks none = record { are-bytes = h.are-bytes; read = h.reading; named = h.standing.named; clocked = clocks; faultless = none }
 
-module _ (bytes : List ℕ) (r : Input) (reading : input bytes ≡ accepted r) (lent list : List ℕ) where
+module _ (bytes : List ℕ) (r : Input) (reading : input bytes ≡ accepted r) (lent : List ℕ) (list : List FaultRecord) where
   -- 9
-  pub deep-given : (x : Refusal) (first kept : List ℕ) → Walks r first kept (Err x) → RewriteInWords (rewrite_answer bytes (length lent)) lent list lent list (Err x)
+  pub deep-given : (x : Refusal) (first kept : List FaultRecord) → Walks r first kept (Err x) → RewriteGiven (rewrite_answer bytes (length lent)) lent list lent list (Err x)
   unfolding Walks
   deep-given x first kept h = given-refused (rewrite_answer bytes (length lent)) lent list x (rewrite-deep bytes (length lent) r reading x h)
 
   module _ (ns : List ClockedNode) (clocks : clockings 0 r.sheet.nodes ≡ accepted ns) where
     -- 10
-    pub faulty-given : (m : ℕ) (list' : List ℕ) → m ≡ length (first_faults_from r 0 ns) → list' ≡ entries_over 3 (map record_words (first_faults_from r 0 ns)) list → 0 < m
-        → RewriteInWords (rewrite_answer bytes (length lent)) lent list lent list' (Err (Refusal.Faulty m))
+    pub faulty-given : (m : ℕ) (list' : List FaultRecord) → m ≡ length (first_faults_from r 0 ns) → list' ≡ over (first_faults_from r 0 ns) list → 0 < m
+        → RewriteGiven (rewrite_answer bytes (length lent)) lent list lent list' (Err (Refusal.Faulty m))
     faulty-given m list' e f h = given-faulty (rewrite_answer bytes (length lent)) lent list (first_faults_from r 0 ns) m list' (rewrite-faulty bytes (length lent) r reading ns clocks (omega arith)) e f
 
     module _ (none-faulty : first_faults_from r 0 ns ≡ []) (t : NameTable 1024 16384) (holds : NamesHeld t (all_names r ns)) where
       -- 11, for the names
-      pub full-given : t.full ≡ true → RewriteInWords (rewrite_answer bytes (length lent)) lent list lent list (Err Refusal.Large)
+      pub full-given : t.full ≡ true → RewriteGiven (rewrite_answer bytes (length lent)) lent list lent list (Err Refusal.Large)
       full-given h =
           let w : within_limits (all_names r ns) (out_sheet r ns) ≡ false = holds-limits (out_sheet r ns) holds ∙ ap (λ (b : Bool). not b && leb (length (sheet_tokens (out_sheet r ns))) 8192) h in
           given-refused (rewrite_answer bytes (length lent)) lent list Refusal.Large (rewrite-large bytes (length lent) r reading ns clocks none-faulty w)
 
       module _ (free : t.full ≡ false) (ts vs ts' vs' : List ℕ) (n : ℕ) (emitted : out ts' vs' n ≡ emits (out ts vs 0) (sheet_tokens (out_sheet r ns))) where
         -- 11, for the tokens
-        pub long-given : 8192 < n → RewriteInWords (rewrite_answer bytes (length lent)) lent list lent list (Err Refusal.Large)
+        pub long-given : 8192 < n → RewriteGiven (rewrite_answer bytes (length lent)) lent list lent list (Err Refusal.Large)
         long-given h =
             let m = emits-long ts vs (sheet_tokens (out_sheet r ns)) (out ts' vs' n) emitted h in
             given-refused (rewrite_answer bytes (length lent)) lent list Refusal.Large (rewrite-large bytes (length lent) r reading ns clocks none-faulty (many-tokens (all_names r ns) (out_sheet r ns) m))
@@ -134,5 +133,5 @@ module _ (bytes : List ℕ) (r : Input) (reading : input bytes ≡ accepted r) (
             too_few : length lent < length (out_bytes r ns) → rewrite_answer bytes (length lent) ≡ refused (Refusal.Lent (length (out_bytes r ns)))
             too_few h = rewrite-lent bytes (length lent) r reading ns clocks none-faulty within h
 
-            pub output-given : RewriteInWords (rewrite_answer bytes (length lent)) lent list lent' list w
+            pub output-given : RewriteGiven (rewrite_answer bytes (length lent)) lent list lent' list w
             output-given = put-given (rewrite_answer bytes (length lent)) lent list (out_bytes r ns) enough too_few lent' w answer-is filled_is

@@ -8,6 +8,8 @@ use mathlib.Core.Option.{some}
 use lib.ListN.{length, take, drop, get_elem?}
 use Rattle.std.proofs.Common.{Ok, Err}
 use Rattle.definitions.specs.declared.Refusal.{Refusal}
+use Rattle.definitions.specs.declared.FaultRecord.{FaultRecord}
+use Rattle.planned.specs.declared.HeldOperand.{HeldOperand}
 use Rattle.definitions.specs.Tree.{Node}
 use Rattle.definitions.specs.Refusals.{accepted}
 use Rattle.definitions.specs.InferClocks.{clocking}
@@ -26,20 +28,20 @@ use Rattle.workspace.proofs.Kept.{plan-kept}
 use Rattle.declock_project.specs.Walk.{Walks, RoomToWrite}
 
 module _ (r : Input) (k : ℕ) (ahead : Ahead k (drop k r.sheet.nodes) (clockings 0 r.sheet.nodes)) where
-  pub walk-deep : (b : Bool) → k < length r.sheet.nodes → ((n : Node) → get_elem? r.sheet.nodes k ≡ some n → b ≡ is_deep (clocking n)) → (lent now : List ℕ) → b ≡ true → Walks r lent now (Err (Refusal.Deep k))
+  pub walk-deep : (b : Bool) → k < length r.sheet.nodes → ((n : Node) → get_elem? r.sheet.nodes k ≡ some n → b ≡ is_deep (clocking n)) → (lent now : List FaultRecord) → b ≡ true → Walks r lent now (Err (Refusal.Deep k))
   unfolding Walks
   walk-deep b few told lent now e = nodes-deep r k ahead b few told e
 
-  pub walk_end : (lent now : List ℕ) (w : ℕ) → length r.sheet.nodes ≤ k → ((ns : List ClockedNode) → clockings 0 r.sheet.nodes ≡ accepted ns → Recorded lent (first_faults_from r 0 (take k ns)) w now) → Walks r lent now (Ok w)
+  pub walk_end : (lent now : List FaultRecord) (w : ℕ) → length r.sheet.nodes ≤ k → ((ns : List ClockedNode) → clockings 0 r.sheet.nodes ≡ accepted ns → Recorded lent (first_faults_from r 0 (take k ns)) w now) → Walks r lent now (Ok w)
   unfolding Walks
   walk_end lent now w past f =
       let n = nodes-end r k ahead past in
       (n.0, n.1, first-end r n.0 n.1 lent k w now past (f n.0 n.1))
 
 -- ---- the working tables keep their room
-pub room-still : {t : Index} {w w' : Working} {holds holds' : List ℕ} → SameRoom w w' → length holds' ≡ length holds → RoomToWrite t w holds → RoomToWrite t w' holds'
+pub room-still : {t : Index} {w w' : Working} {holds holds' : List HeldOperand} → SameRoom w w' → length holds' ≡ length holds → RoomToWrite t w holds → RoomToWrite t w' holds'
 room-still x y r = record { plans = plan-kept x r.plans; hold-room = y ∙ r.hold-room }
 
 -- at first, by the source that the index has
-pub room-first : {t : Index} {s : Source} {w : Working} {holds : List ℕ} → t.source ≡ s → RoomToPlan s.names (length s.tags.now) w → length holds ≡ 2048 → RoomToWrite t w holds
+pub room-first : {t : Index} {s : Source} {w : Working} {holds : List HeldOperand} → t.source ≡ s → RoomToPlan s.names (length s.tags.now) w → length holds ≡ 1024 → RoomToWrite t w holds
 room-first {w} e r d = record { plans = subst (λ (s : Source). RoomToPlan s.names (length s.tags.now) w) (sym e) r; hold-room = d }

@@ -1,7 +1,8 @@
 -- What rewriting a sheet answers, and what the lent bytes and the lent fault list are afterwards, by the definition's answer.
-use Rattle.std.specs.Prelude.{ℕ, ◌≡◌, List, [], map, length, Result, Ok, Err}
+use Rattle.std.specs.Prelude.{ℕ, ◌≡◌, List, [], length, Result, Ok, Err}
 use Rattle.definitions.specs.declared.Refusal.{Refusal}
-use Rattle.definitions.specs.Refusals.{Answer, accepted, refused, faulty, bytes_after}
+use Rattle.definitions.specs.declared.FaultRecord.{FaultRecord}
+use Rattle.definitions.specs.Refusals.{Answer, accepted, refused, faulty, bytes_after, faults_after}
 use Rattle.definitions.specs.Bytes.{cut}
 use Rattle.definitions.specs.Answer.{Input, input, clockings}
 use Rattle.definitions.specs.Output.{ClockedNode}
@@ -9,7 +10,6 @@ use Rattle.stateless.specs.Sheets.{first_faults_from}
 use Rattle.shapes.specs.Shape.{Bytes}
 use Rattle.grammar.specs.declared.source.Source.{Source}
 use Rattle.spelling.specs.declared.names.Spelling.{Spelling}
-use Rattle.query.specs.Words.{record_words, entries_over}
 use Rattle.query.specs.Standing.{Standing}
 
 -- the answer: how many bytes were written, or the refusal; under 10 "the count is of all"
@@ -18,23 +18,17 @@ rewrite_answered (accepted out) = Ok (length out)
 rewrite_answered (refused r) = Err r
 rewrite_answered (faulty l) = Err (Refusal.Faulty (length l))
 
--- the lent fault list afterwards, three words a fault: `faults_after`, in words
-abbrev pub fault_words_after : Answer (List ℕ) → List ℕ → List ℕ
-fault_words_after (accepted out) lent = lent
-fault_words_after (refused r) lent = lent
-fault_words_after (faulty l) lent = entries_over 3 (map record_words l) lent
-
 -- a sheet's rewriting was asked for: the answer, and the lent bytes and the lent fault list afterwards
-pub record RewriteInWords (v : Answer (List ℕ)) (lent list lent' list' : List ℕ) (r : Result ℕ Refusal) : Type 0 where
+pub record RewriteGiven (v : Answer (List ℕ)) (lent : List ℕ) (list : List FaultRecord) (lent' : List ℕ) (list' : List FaultRecord) (r : Result ℕ Refusal) : Type 0 where
   pub answer : r ≡ rewrite_answered v
   pub bytes : lent' ≡ bytes_after v lent
-  pub faults : list' ≡ fault_words_after v list
+  pub faults : list' ≡ faults_after v list
 
 -- the sheet r, which these bytes say, stands in the working tables, with the lengths of its names
 pub record Read (given : List ℕ) (spelling : Spelling) (source : Source) (bytes : List ℕ) (r : Input) : Type 0 where
   pub are-bytes : Bytes bytes
   pub reading : input bytes ≡ accepted r
-  pub standing : Standing spelling.starts.now spelling.letters.now source.tags.now source.values.now source.names r
+  pub standing : Standing spelling source r
   pub lengths : r.names ≡ cut given spelling.letters.now
 
 -- the sheet r, which these bytes say, has these clocks, and no node has a fault

@@ -4,6 +4,7 @@ use Rattle.std.specs.Prelude.{ℕ, ◌*◌, ◌≤◌, ◌<◌, ◌≡◌, List,
 use Rattle.std.proofs.Math.Option.{some}
 use Rattle.std.proofs.Math.ListN.{get_elem?}
 use Rattle.definitions.specs.declared.Refusal.{Refusal}
+use Rattle.definitions.specs.declared.FaultRecord.{FaultRecord}
 use Rattle.definitions.specs.Lists.{Letters}
 use Rattle.definitions.specs.Bytes.{bad_name}
 use Rattle.grammar.specs.Read.{tokens_of}
@@ -25,6 +26,7 @@ use Rattle.emit.specs.Out.{emits}
 use Rattle.stateless.specs.Sheets.{first_faults_from, output_tokens}
 use Rattle.skeleton.specs.Sites.{EquationsSited}
 use Rattle.stateless.specs.declared.Counts.{Counts}
+use Rattle.planned.specs.declared.HeldOperand.{HeldOperand}
 use Rattle.node_plan.specs.Outcomes.{NodePlanned}
 use Rattle.index.specs.declared.Index.{Index}
 use Rattle.index.specs.Indexed.{Indexed}
@@ -36,9 +38,9 @@ use Rattle.workspace.specs.declared.Working.{Working}
 use Rattle.workspace.specs.Room.{RoomToPlan}
 
 -- the working tables have room to plan a node, and that of holds is as large as an output may need
-pub record RoomToWrite (t : Index) (w : Working) (holds : List ℕ) : Type 0 where
+pub record RoomToWrite (t : Index) (w : Working) (holds : List HeldOperand) : Type 0 where
   pub plans : RoomToPlan t.source.names (length t.source.tags.now) w
-  pub hold-room : length holds ≡ 2048
+  pub hold-room : length holds ≡ 1024
 
 -- a sheet that these bytes say, the letters of whose names start there: its nodes have these clocks, and none has a fault
 pub record Faultless (spelling : Spelling) (bytes : List ℕ) (r : Input) (ns : List ClockedNode) : Type 0 where
@@ -66,15 +68,15 @@ pub record CleanClocked (spelling : Spelling) (t : Index) (r : Input) (n : Clock
   pub laid : LaidNode t.source.names (tokens_of t.source) n.node end l
 
 -- each such node is planned, and its clocks with flags have their rows
-pub record PlannedIn (spelling : Spelling) (t : Index) (l : NodeLayout) (s : Counts) (flags firsts plan holds types : List ℕ) : Type 0 where
+pub record PlannedIn (spelling : Spelling) (t : Index) (l : NodeLayout) (s : Counts) (flags firsts plan : List ℕ) (holds : List HeldOperand) (types : List ℕ) : Type 0 where
   pub planned : (r : Input) (n : ClockedNode) → Indexed t r → CleanClocked spelling t r n l →
       NodePlanned t.source.names t.source.tags.now t.source.values.now plan flags firsts holds types r.sheet.types r.sheet.nodes n.node (condact_id r.names) n.clocking.equations l.equations.at l.equations.end s
   pub flag-room : length flags < 17408 → 17 * s.flags ≤ length flags
   pub first-room : length firsts < 17408 → 17 * s.firsts ≤ length firsts
-  pub hold-room : length holds ≡ 2048
+  pub hold-room : length holds ≡ 1024
 
 -- a plan is what planning left in these tables
-pub record LeftIn (l : NodeLayout) (s : Counts) (flags firsts plan holds types : List ℕ) (p : NodePlan) : Type 0 where
+pub record LeftIn (l : NodeLayout) (s : Counts) (flags firsts plan : List ℕ) (holds : List HeldOperand) (types : List ℕ) (p : NodePlan) : Type 0 where
   pub of-layout : p.layout ≡ l
   pub of-counts : counts_of p.needs ≡ s
   pub of-flags : p.needs.flags.words.now ≡ flags
@@ -84,12 +86,12 @@ pub record LeftIn (l : NodeLayout) (s : Counts) (flags firsts plan holds types :
   pub of-types : p.types.now ≡ types
 
 -- the sites of each such node have their clocks, and there is room to plan it
-pub record SitedIn (spelling : Spelling) (t : Index) (l : NodeLayout) (w : Working) (holds : List ℕ) : Type 0 where
+pub record SitedIn (spelling : Spelling) (t : Index) (l : NodeLayout) (w : Working) (holds : List HeldOperand) : Type 0 where
   pub sited : (r : Input) (n : ClockedNode) → Indexed t r → CleanClocked spelling t r n l → EquationsSited t.source.names t.source.tags.now t.source.values.now w.sites.now n.clocking.equations l.equations.at l.equations.end
   pub few-tokens : length t.source.tags.now ≤ 4096
   pub typed : t.source.names ≤ length w.rows.now
   pub noted : length t.source.tags.now ≤ length w.chain.now
-  pub hold-room : length holds ≡ 2048
+  pub hold-room : length holds ≡ 1024
 
 -- node k written, where it has no fault: its names behind those so far, then its tokens; a table of names that is full stays so
 pub record NodePut (spelling : Spelling) (t : Index) (k : ℕ) (c c' : NameTable 1024 16384) (o o' : Output) : Type 0 where
@@ -106,9 +108,8 @@ pub record LaidPut (spelling : Spelling) (t : Index) (l : NodeLayout) (c c' : Na
       o' ≡ emits o (node_tokens (output_node r.names r.sheet all n))
 
 -- what was found over all nodes: refused at the first in which too deep a clock is formed; or how many are faulty, and each one's first
--- fault is
--- recorded over a lent list
-unfoldable pub Walks : Input → List ℕ → List ℕ → Result ℕ Refusal → Type 0
+-- fault is recorded over a lent list
+unfoldable pub Walks : Input → List FaultRecord → List FaultRecord → Result ℕ Refusal → Type 0
 Walks r lent now (Err e) = clockings 0 r.sheet.nodes ≡ refused e
 Walks r lent now (Ok m) = (ns : List ClockedNode) × (clockings 0 r.sheet.nodes ≡ accepted ns) × Recorded lent (first_faults_from r 0 ns) m now
 

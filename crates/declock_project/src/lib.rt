@@ -1,13 +1,12 @@
 // Rewriting an accepted sheet that stands in the working tables: one walk over its nodes, each clocked, planned and written, then the
 // output's bytes; or refusals 9 to 12 in checking order.
-// `given` has the lengths of the sheet's names, `spelling` their letters and where each name's start, `source` the sheet's tokens. `names`
-// is the table of the output's names, `output` has its tokens.
 #![tactic(auto)]
 
+ghost use Rattle.definitions.specs.declared.FaultRecord.{FaultRecord};
 ghost use Rattle.grammar.specs.Read.{tokens_of};
-ghost use Rattle.std.specs.Prelude.{◌≡◌, List, true, false, ℕ, ◌*◌, ◌≤◌, ◌<◌, length, IfOk};
+ghost use Rattle.std.specs.Prelude.{◌≡◌, List, true, false, ℕ, ◌*◌, ◌≤◌, ◌<◌, length, IfOk, IfErr};
+ghost use Rattle.std.specs.Result.{is_err};
 ghost use Rattle.std.proofs.Math.ListN.{get_elem?};
-ghost use Rattle.definitions.specs.Lists.{sum};
 ghost use Rattle.definitions.specs.Tree.{Node};
 ghost use Rattle.definitions.specs.InferClocks.{Clocking, formed, clocking, uses_clocks};
 ghost use Rattle.definitions.specs.Output.{ClockedNode, node_faults, sheet_tokens, names_out, sheet_out};
@@ -18,36 +17,33 @@ ghost use Rattle.layout.specs.Laid.{LaidNode};
 ghost use Rattle.infer_clocks.specs.Clocked.{is_deep};
 ghost use Rattle.index.specs.Indexed.{Indexed};
 ghost use Rattle.workspace.specs.Room.{SameRoom, RoomToPlan};
-ghost use Rattle.first_faults.specs.Faults.{NodeMet, deep_found, fault_found};
+ghost use Rattle.first_faults.specs.Faults.{NodeMet, fault_found};
 ghost use Rattle.declock_project.specs.Walk.{RoomToWrite, LeftIn, SitedIn, Faultless, NodePut, LaidPut, Walks, AllPut};
-ghost use Rattle.declock_project.specs.Given.{RewriteInWords, Read, Clean};
+ghost use Rattle.declock_project.specs.Given.{RewriteGiven, Read, Clean};
 ghost use Rattle.emit.specs.Out as emit;
 
 use clock_tables::ClockList;
-use declock::NodePlan;
-use definitions::{CLOCK_TABLE, MOST_LETTERS, MOST_NAMES, MOST_NODES, Refusal, WORKING_TOKENS};
+use declock::{NodePlan, OutputSheet};
+use definitions::{
+    CLOCK_TABLE, FaultRecord, MOST_LETTERS, MOST_NAMES, MOST_NODES, Refusal, WORKING_TOKENS,
+};
 use emit::Output;
-use first_faults::NodeFound;
+use findings::Found;
 use grammar::Source;
 use index::Index;
 use layout::NodeLayout;
 use new_names::NodeNeeds;
 use parts::Names;
-use spelling::{NameTable, NewName, OutputNames, Spelling};
+use planned::HeldOperand;
+use spelling::{NameTable, SheetNames, Spelling};
 use stateless::Counts;
 use workspace::Working;
-
-// The words of a record for each node.
-const RECORDS: usize = 3 * MOST_NODES;
-
-// Two words for each hold that an output may have.
-const HOLD_TABLE: usize = 2 * MOST_NAMES;
 
 // Has a table of so many words a row for each of n clocks, or as many rows as an output may have names?
 fn fits(room: usize, n: usize) -> bool
     ensures { result ≡ true → room < 17408 → 17 * n ≤ room }
 {
-    CLOCK_TABLE <= room || n <= room / 17
+    CLOCK_TABLE <= room || n <= room / clock_tables::WORDS
 }
 
 // What planning a node left in the working tables, and where its holds stand; its clocks with flags, as many as counted, are these rows.
@@ -57,7 +53,7 @@ fn plan_in<'a>(
     flags: &'a [u32],
     firsts: &'a [u32],
     working: &'a Working<'_>,
-    holds: &'a [u32],
+    holds: &'a [HeldOperand],
 ) -> NodePlan<'a>
     ensures { LeftIn layout counts flags.now firsts.now working.now.chain.now holds.now working.now.rows.now result }
 {
@@ -82,11 +78,12 @@ fn plan_in<'a>(
 }
 
 // The same where its clocks with flags stand in the working tables.
+// Stays (proof): tried in the caller, where the borrow checker does not cover a table that is lent beside the tables that it is one of.
 fn plan_left<'a>(
     layout: NodeLayout,
     counts: Counts,
     working: &'a Working<'_>,
-    holds: &'a [u32],
+    holds: &'a [HeldOperand],
 ) -> NodePlan<'a>
     ensures { LeftIn layout counts working.now.table.now working.now.env.now working.now.chain.now holds.now working.now.rows.now result }
 {
@@ -107,12 +104,11 @@ fn write_wide(
     index: &Index<'_>,
     layout: NodeLayout,
     working: &mut Working<'_>,
-    holds: &mut [u32],
-    names: &mut OutputNames,
-    output: &mut Output,
+    holds: &mut [HeldOperand],
+    sheet: &mut OutputSheet,
 )
     ensures same_room { SameRoom working.old working.new }
-    ensures laid_put { names.old.full ≡ false → SitedIn spelling.entry index.now layout working.old holds.old → LaidPut spelling.entry index.now layout names.old names.new output.old output.new }
+    ensures laid_put { sheet.old.names.full ≡ false → SitedIn spelling.entry index.now layout working.old holds.old → LaidPut spelling.entry index.now layout sheet.old.names sheet.new.names sheet.old.tokens sheet.new.tokens }
 {
     let mut flags = [0u32; CLOCK_TABLE];
     let mut firsts = [0u32; CLOCK_TABLE];
@@ -131,39 +127,40 @@ fn write_wide(
     );
     if let Ok(counts) = planned {
         let node = plan_in(layout, counts, &flags, &firsts, working, holds);
-        declock::write_planned(spelling, index, &node, names, output);
+        declock::write_planned(spelling, index, &node, sheet);
     }
 }
 
-// A node with this layout that uses clocks: clocked, planned and, where it has no fault, written.
+// Node k, which has this layout and uses clocks: clocked, planned and, where it has no fault, written.
 fn walk_clocked(
     spelling: Spelling<'_>,
     index: &Index<'_>,
+    k: usize,
     layout: NodeLayout,
     working: &mut Working<'_>,
-    holds: &mut [u32],
-    names: &mut OutputNames,
-    output: &mut Output,
-) -> NodeFound
+    holds: &mut [HeldOperand],
+    sheet: &mut OutputSheet,
+) -> Result<Option<Found>, Refusal>
     ensures same_room { SameRoom working.old working.new }
-    ensures deep_value { (node : Node) (q : ℕ) → LaidNode index.now.source.names (tokens_of index.now.source) node q layout → RoomToWrite index.now working.old holds.old → deep_found result ≡ is_deep (clocking node) }
+    ensures refused_at { IfErr result (λ r. r ≡ Refusal.Deep k) }
+    ensures deep_value { (node : Node) (q : ℕ) → LaidNode index.now.source.names (tokens_of index.now.source) node q layout → RoomToWrite index.now working.old holds.old → is_err result ≡ is_deep (clocking node) }
     ensures fault_value { (i : Input) (node : Node) (q : ℕ) (k : Clocking) → Indexed index.now i → LaidNode index.now.source.names (tokens_of index.now.source) node q layout → uses_clocks node ≡ true → clocking node ≡ formed k → RoomToWrite index.now working.old holds.old → fault_found result ≡ get_elem? (node_faults i.names i.sheet (record { node = node; clocking = k })) 0 }
-    ensures laid_put { RoomToWrite index.now working.old holds.old → LaidPut spelling.entry index.now layout names.old names.new output.old output.new }
+    ensures laid_put { RoomToWrite index.now working.old holds.old → LaidPut spelling.entry index.now layout sheet.old.names sheet.new.names sheet.old.tokens sheet.new.tokens }
 {
-    let found = first_faults::laid_found(index, layout, 0, working, holds);
-    let NodeFound::Clean(counts) = found else {
-        return found;
+    let counts = match first_faults::laid_found(index, k, layout, working, holds)? {
+        Ok(counts) => counts,
+        Err(found) => return Ok(Some(found)),
     };
-    if names.full {
-        return found;
+    if sheet.names.full {
+        return Ok(None);
     }
     if has_rows(working, counts) {
         let node = plan_left(layout, counts, working, holds);
-        declock::write_planned(spelling, index, &node, names, output);
-        return found;
+        declock::write_planned(spelling, index, &node, sheet);
+        return Ok(None);
     }
-    write_wide(spelling, index, layout, working, holds, names, output);
-    found
+    write_wide(spelling, index, layout, working, holds, sheet);
+    Ok(None)
 }
 
 // Node k: one that uses no clocks has no fault and is written as it came.
@@ -172,60 +169,57 @@ fn walk_node(
     index: &Index<'_>,
     k: usize,
     working: &mut Working<'_>,
-    holds: &mut [u32],
-    names: &mut OutputNames,
-    output: &mut Output,
-) -> NodeFound
+    holds: &mut [HeldOperand],
+    sheet: &mut OutputSheet,
+) -> Result<Option<Found>, Refusal>
     requires { k < index.now.nodes.count }
     ensures same_room { SameRoom working.old working.new }
     ensures node_met { RoomToWrite index.now working.old holds.old → NodeMet index.now k result }
-    ensures node_put { RoomToWrite index.now working.old holds.old → NodePut spelling.entry index.now k names.old names.new output.old output.new }
+    ensures node_put { RoomToWrite index.now working.old holds.old → NodePut spelling.entry index.now k sheet.old.names sheet.new.names sheet.old.tokens sheet.new.tokens }
 {
     let source = &index.source;
     let layout = layout::node_at(source, index.nodes.at[k]);
     let e = layout.equations;
     if layout::equations_use_clocks(source, e.count, e.at) {
-        return walk_clocked(spelling, index, layout, working, holds, names, output);
+        return walk_clocked(spelling, index, k, layout, working, holds, sheet);
     }
-    emit::put_node_as_it_came(output, source, layout);
-    first_faults::nothing_found()
+    emit::put_node_as_it_came(&mut sheet.tokens, source, layout);
+    Ok(None)
 }
 
-// Each faulty node's first fault, in order, as far as the list reaches in whole entries, and the names and tokens of nodes without one: how
-// many are faulty; refused at the first node in which too deep a clock is formed.
+// Each faulty node's first fault, in order, as far as the list reaches, and the names and tokens of nodes without one: how many are
+// faulty; refused at the first node in which too deep a clock is formed.
 fn walk_nodes(
     spelling: Spelling<'_>,
     index: &Index<'_>,
     working: &mut Working<'_>,
-    holds: &mut [u32],
-    names: &mut OutputNames,
-    output: &mut Output,
-    list: &mut [u32],
+    holds: &mut [HeldOperand],
+    sheet: &mut OutputSheet,
+    list: &mut [FaultRecord],
 ) -> Result<usize, Refusal>
     ensures same_room { SameRoom working.old working.new }
     ensures few { IfOk result (λ m. m ≤ 16) }
     ensures walks { (i : Input) → Indexed index.now i → RoomToWrite index.now working.old holds.old → Walks i list.old list.new result }
-    ensures all_put { IfOk result (λ m. (bytes : List ℕ) (i : Input) (ns : List ClockedNode) → Indexed index.now i → RoomToWrite index.now working.old holds.old → Faultless spelling.entry bytes i ns → NamesHeld names.old i.names → AllPut i ns names.new output.old output.new) }
+    ensures all_put { IfOk result (λ m. (bytes : List ℕ) (i : Input) (ns : List ClockedNode) → Indexed index.now i → RoomToWrite index.now working.old holds.old → Faultless spelling.entry bytes i ns → NamesHeld sheet.old.names i.names → AllPut i ns sheet.new.names sheet.old.tokens sheet.new.tokens) }
 {
     let mut faulty = 0;
     for k in 0..index.nodes.count {
-        let found = walk_node(spelling, index, k, working, holds, names, output);
-        if let NodeFound::Deep = found {
-            return Err(Refusal::Deep(k));
-        }
-        faulty = first_faults::add_fault(list, faulty, k as u32, found.fault());
+        let fault = walk_node(spelling, index, k, working, holds, sheet)?;
+        faulty = first_faults::add_fault(list, faulty, k as u32, fault);
     }
     Ok(faulty)
 }
 
 // The output of a sheet without faults over the front of the lent bytes, if it is within its limits and the bytes are enough.
-fn write_output(table: &OutputNames, output: &Output, out: &mut [u8]) -> Result<usize, Refusal>
-    ensures { (bytes : List ℕ) (r : Input) (ns : List ClockedNode) (list ts vs : List ℕ) → Clean bytes r ns → NamesHeld table.now (names_out r.names r.sheet ns) → (table.now.full ≡ false → output.now ≡ emits (emit.out ts vs 0) (sheet_tokens (sheet_out r.names r.sheet ns))) → 8192 ≤ length ts → 8192 ≤ length vs → RewriteInWords (rewrite_answer bytes (length out.old)) out.old list out.new list result }
+fn write_output(sheet: &OutputSheet, out: &mut [u8]) -> Result<usize, Refusal>
+    ensures { (bytes : List ℕ) (r : Input) (ns : List ClockedNode) (list : List FaultRecord) (ts vs : List ℕ) → Clean bytes r ns → NamesHeld sheet.now.names (names_out r.names r.sheet ns) → (sheet.now.names.full ≡ false → sheet.now.tokens ≡ emits (emit.out ts vs 0) (sheet_tokens (sheet_out r.names r.sheet ns))) → 8192 ≤ length ts → 8192 ≤ length vs → RewriteGiven (rewrite_answer bytes (length out.old)) out.old list out.new list result }
 {
+    let table = &sheet.names;
+    let tokens = &sheet.tokens;
     if table.full {
         return Err(Refusal::Large);
     }
-    let n = output.count;
+    let n = tokens.count;
     if WORKING_TOKENS < n {
         return Err(Refusal::Large);
     }
@@ -233,53 +227,55 @@ fn write_output(table: &OutputNames, output: &Output, out: &mut [u8]) -> Result<
         lengths: &table.lengths[..table.names],
         letters: &table.letters[..table.used],
     };
-    parts::write(names, &output.tags[..n], &output.values[..n], out)
+    parts::write(names, &tokens.tags[..n], &tokens.values[..n], out)
 }
 
 // Rewriting a sheet, with lent working tables: the output over the front of the lent bytes; or a refusal, which under 10 alone writes
-// each faulty node's first fault over the front of the lent list, three words a fault.
+// each faulty node's first fault over the front of the lent list.
 pub fn rewrite_in(
-    given: &[u8],
-    spelling: Spelling<'_>,
+    names: SheetNames<'_>,
     source: &Source<'_>,
     working: &mut Working<'_>,
     out: &mut [u8],
-    faults: &mut [u32],
+    faults: &mut [FaultRecord],
 ) -> Result<usize, Refusal>
-    requires given_value { (sum given.now ≡ length spelling.letters.now) × (length given.now ≤ 1024) × (length spelling.letters.now ≤ 16384) }
     ensures same_room { SameRoom working.old working.new }
-    ensures given { (bytes : List ℕ) (r : Input) → Read given.now spelling.entry source.now bytes r → RoomToPlan source.now.names (length source.now.tags.now) working.old → RewriteInWords (rewrite_answer bytes (length out.old)) out.old faults.old out.new faults.new result }
+    ensures given { (bytes : List ℕ) (r : Input) → Read names.entry.lengths.now names.entry.spelling source.now bytes r → RoomToPlan source.now.names (length source.now.tags.now) working.old → RewriteGiven (rewrite_answer bytes (length out.old)) out.old faults.old out.new faults.new result }
 {
-    let condact = spelling::find_new(given, spelling.letters, NewName::Condact) as u32;
-    let index = index::index_of(source, condact);
-    let mut names = NameTable {
-        lengths: [0; MOST_NAMES],
-        letters: [0; MOST_LETTERS],
-        names: 0,
-        used: 0,
-        full: false,
+    let index = index::index_of(source, names.condact());
+    let mut sheet = OutputSheet {
+        names: NameTable {
+            lengths: [0; MOST_NAMES],
+            letters: [0; MOST_LETTERS],
+            names: 0,
+            used: 0,
+            full: false,
+        },
+        tokens: Output {
+            tags: [0; WORKING_TOKENS],
+            values: [0; WORKING_TOKENS],
+            count: 0,
+        },
     };
-    names.fill(given, spelling.letters);
-    let mut output = Output {
-        tags: [0; WORKING_TOKENS],
-        values: [0; WORKING_TOKENS],
-        count: 0,
-    };
-    emit::put_types(&mut output, &index.source, index.whole);
-    let mut holds = [0u32; HOLD_TABLE];
-    let mut list = [0u32; RECORDS];
+    sheet.names.fill(names.lengths, names.spelling.letters);
+    emit::put_types(&mut sheet.tokens, &index.source, index.whole);
+    let mut holds = [HeldOperand { at: 0, row: 0 }; MOST_NAMES];
+    let mut list = [FaultRecord {
+        node: 0,
+        fault: 0,
+        equation: 0,
+    }; MOST_NODES];
     let faulty = walk_nodes(
-        spelling,
+        names.spelling,
         &index,
         working,
         &mut holds,
-        &mut names,
-        &mut output,
+        &mut sheet,
         &mut list,
     )?;
     if 0 < faulty {
         first_faults::copy_records(&list, faulty, faults);
         return Err(Refusal::Faulty(faulty));
     }
-    write_output(&names, &output, out)
+    write_output(&sheet, out)
 }

@@ -22,7 +22,7 @@ use cycles::{Graph, TypeTable};
 use definitions::{ARRAY_LEVELS, ExprToken, Literal, MOST_TYPES, Primitive, Token, TypeToken};
 use emit::Output;
 use grammar::Source;
-use layout::{Defined, PlaceTable};
+use layout::Defined;
 
 // Types gone down to at most: the one at hand and 8 elements, and for each of 32 definitions a field or a target and 8 elements again.
 const DEEPEST: u32 = 9 * 32 + 9;
@@ -40,12 +40,12 @@ fn has_round(graph: &Graph, has: &[bool; MOST_TYPES]) -> [bool; MOST_TYPES]
 }
 
 // Which definitions have a default: at most as many rounds as there are definitions, over a graph, so that none reads tokens again.
-pub fn has_defaults(source: &Source<'_>, places: &PlaceTable<MOST_TYPES>) -> [bool; MOST_TYPES]
-    ensures { (types : List TypeDef) → Table source.now.names (tokens_of source.now) places.now.at places.now.count types → DefaultsKnown types places.now.count places.now.count result }
+pub fn has_defaults(table: &TypeTable<'_, '_>) -> [bool; MOST_TYPES]
+    ensures { (types : List TypeDef) → Table table.now.source.names (tokens_of table.now.source) table.now.places.now.at table.now.places.now.count types → DefaultsKnown types table.now.places.now.count table.now.places.now.count result }
 {
-    let graph = cycles::edges(source, places);
+    let graph = cycles::edges(table);
     let mut has = [false; MOST_TYPES];
-    for _ in 0..places.count {
+    for _ in 0..table.places.count {
         let more = has_round(&graph, &has);
         // A round that changes nothing is followed by no other that does.
         if more == has {
@@ -62,16 +62,15 @@ fn default_literal(p: Primitive) -> Literal
 {
     match p {
         Primitive::Bool => Literal::Bool(0),
-        Primitive::Int8 => Literal::Int(0),
-        Primitive::Int16 => Literal::Int(0),
-        Primitive::Int32 => Literal::Int(0),
-        Primitive::Int64 => Literal::Int(0),
-        Primitive::Uint8 => Literal::Int(0),
-        Primitive::Uint16 => Literal::Int(0),
-        Primitive::Uint32 => Literal::Int(0),
-        Primitive::Uint64 => Literal::Int(0),
-        Primitive::Float32 => Literal::Float(0),
-        Primitive::Float64 => Literal::Float(0),
+        Primitive::Int8
+        | Primitive::Int16
+        | Primitive::Int32
+        | Primitive::Int64
+        | Primitive::Uint8
+        | Primitive::Uint16
+        | Primitive::Uint32
+        | Primitive::Uint64 => Literal::Int(0),
+        Primitive::Float32 | Primitive::Float64 => Literal::Float(0),
         Primitive::Char => Literal::Char(0),
     }
 }
@@ -187,15 +186,18 @@ fn emit_definition(table: &TypeTable<'_, '_>, depth: u32, at: usize, output: &mu
     ensures { (types : List TypeDef) (fuel : ℕ) (d : TypeDef) (q : ℕ) (e : Expr) → Table table.now.source.names (tokens_of table.now.source) table.now.places.now.at table.now.places.now.count types → Enough depth fuel 9 → type_def table.now.source.names (tokens_of table.now.source) at ≡ got d q → default_of (default_named types fuel) d d.body ≡ some e → output.new ≡ emits output.old (expr_tokens e) }
 {
     match layout::describe(&table.source, at) {
-        Some(Defined::Enum(_, _, first)) => {
+        Some(Defined::Enum { first, .. }) => {
             let v = layout::value_at(table.source.values, first);
             output.emit(Token::Expression(ExprToken::Var(v)));
         }
-        Some(Defined::Record(x, count, first)) => {
-            output.emit_all(&[Token::Expression(ExprToken::Struct(x)), Token::Count(count)]);
+        Some(Defined::Record { name, count, first }) => {
+            output.emit_all(&[
+                Token::Expression(ExprToken::Struct(name)),
+                Token::Count(count),
+            ]);
             emit_fields(table, depth, count, first, output);
         }
-        Some(Defined::Alias(_, to)) => emit_type(table, depth, to, output),
+        Some(Defined::Alias { target, .. }) => emit_type(table, depth, target, output),
         None => {}
     }
 }
@@ -210,46 +212,30 @@ fn emit_fields(table: &TypeTable<'_, '_>, depth: u32, count: u32, at: usize, out
         if output.is_full() {
             return;
         }
-        let Ok(next) = grammar::read_declaration(&table.source, place) else {
+        let Some(field) = layout::declaration_at(&table.source, place) else {
             return;
         };
-        let x = layout::value_at(table.source.values, place);
-        let first = layout::behind(table.source.tags, place);
-        output.emit(Token::Name(x));
-        emit_type(table, depth, first, output);
-        place = next;
+        output.emit(Token::Name(field.name));
+        emit_type(table, depth, field.type_at, output);
+        place = field.end;
     }
 }
 
 // The default of the type at a place.
-pub fn emit_default(
-    source: &Source<'_>,
-    places: &PlaceTable<MOST_TYPES>,
-    at: usize,
-    output: &mut Output,
-)
-    ensures { (types : List TypeDef) (t : Ty) (q : ℕ) (e : Expr) → Table source.now.names (tokens_of source.now) places.now.at places.now.count types → ty source.now.names 8 (tokens_of source.now) at ≡ got t q → default types t ≡ some e → output.new ≡ emits output.old (expr_tokens e) }
+pub fn emit_default(table: &TypeTable<'_, '_>, at: usize, output: &mut Output)
+    ensures { (types : List TypeDef) (t : Ty) (q : ℕ) (e : Expr) → Table table.now.source.names (tokens_of table.now.source) table.now.places.now.at table.now.places.now.count types → ty table.now.source.names 8 (tokens_of table.now.source) at ≡ got t q → default types t ≡ some e → output.new ≡ emits output.old (expr_tokens e) }
 {
-    let table = TypeTable {
-        source: *source,
-        places,
-    };
-    emit_type(&table, DEEPEST, at, output);
+    emit_type(table, DEEPEST, at, output);
 }
 
 // Has the type at a place a default, `has` being what `has_defaults` found?
-pub fn type_has_default(
-    source: &Source<'_>,
-    places: &PlaceTable<MOST_TYPES>,
-    has: &[bool; MOST_TYPES],
-    at: usize,
-) -> bool
-    ensures { (types : List TypeDef) (t : Ty) (q : ℕ) → Table source.now.names (tokens_of source.now) places.now.at places.now.count types → DefaultsKnown types places.now.count places.now.count has.now → ty source.now.names 8 (tokens_of source.now) at ≡ got t q → result ≡ is_some (default types t) }
+pub fn type_has_default(table: &TypeTable<'_, '_>, has: &[bool; MOST_TYPES], at: usize) -> bool
+    ensures { (types : List TypeDef) (t : Ty) (q : ℕ) → Table table.now.source.names (tokens_of table.now.source) table.now.places.now.at table.now.places.now.count types → DefaultsKnown types table.now.places.now.count table.now.places.now.count has.now → ty table.now.source.names 8 (tokens_of table.now.source) at ≡ got t q → result ≡ is_some (default types t) }
 {
-    let Some(x) = cycles::target_of(source, ARRAY_LEVELS, at) else {
+    let Some(x) = cycles::target_of(&table.source, ARRAY_LEVELS, at) else {
         return true;
     };
-    match layout::find_definition(source.values, places, x) {
+    match layout::find_definition(table.source.values, table.places, x) {
         Some(first) => has[first],
         None => false,
     }

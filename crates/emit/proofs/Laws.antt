@@ -9,7 +9,7 @@ use native.Mathlib.Nat.{add-zero}
 use native.Mathlib.Numerals.{add-one}
 use lib.ListN.{length, get_or, set, take, drop, replicate}
 use lib.Seq.{sets, sets-eq, take-append_seam}
-use Rattle.std.proofs.lemmas.List.{drop_more, drop_all}
+use Rattle.std.proofs.lemmas.List.{map-append, length-map, drop_more, drop_all}
 use lib.Dec.{ltb, leb}
 use borrow.Author.Tests.{lt-ltb, le-ltb, ltb-true, ltb-false, leb-true, leb-false}
 use Rattle.definitions.specs.declared.Token.{Token}
@@ -17,10 +17,6 @@ use Rattle.definitions.specs.Tokens.{TagValue, tag_value, code_of, tag_of, value
 use Rattle.definitions.specs.Bytes.{tokens}
 use Rattle.emit.specs.declared.output.Output.{Output}
 use Rattle.emit.specs.Out.{out, put, puts, emits}
-
-map-append : {A B : Type 0} (f : A → B) (a b : List A) → map f (a ++ b) ≡ map f a ++ map f b
-map-append f [] b = refl
-map-append f (x ∷ a) b = ap (λ (l : List _). f x ∷ l) (map-append f a b)
 
 -- one list after another
 pub puts-append : (o : Output) (a b : List TagValue) → puts (puts o a) b ≡ puts o (a ++ b)
@@ -77,10 +73,6 @@ puts-full (k ∷ l) o h f = go (ltb o.count 8192) refl (puts-full l (put o k))
     go true e r = let p : (put o k).count ≡ o.count + 1 = put_in o k (ltb-true o.count 8192 e) in r (omega (arith, p, ltb-true o.count 8192 e)) (omega (arith, p))
     go false e r = let p : (put o k).count ≡ 8193 = put-out o k (ltb-false o.count 8192 e) in ap (λ (x : Output). x.count) (puts-stuck l (put o k) p) ∙ p
 
-length-map : {A B : Type 0} (f : A → B) (l : List A) → length (map f l) ≡ length l
-length-map f [] = refl
-length-map f (x ∷ l) = ap suc (length-map f l)
-
 -- what the last place says, where writing started at 0 in arrays of 8,192
 module _ (ts vs : List ℕ) (l : List Token) (r : Output) (e : r ≡ emits (out ts vs 0) l) where
   pub emits-fit : r.count ≤ 8192 → (r.count ≡ length l) × (r.tags ≡ sets ts 0 (map (λ k. k.tag) (map code_of l))) × (r.values ≡ sets vs 0 (map (λ k. k.value) (map code_of l)))
@@ -89,12 +81,12 @@ module _ (ts vs : List ℕ) (l : List Token) (r : Output) (e : r ≡ emits (out 
     where
       go : (b : Bool) → leb (length l) 8192 ≡ b → (r.count ≡ length l) × (r.tags ≡ sets ts 0 (map (λ k. k.tag) (map code_of l))) × (r.values ≡ sets vs 0 (map (λ k. k.value) (map code_of l)))
       go true b =
-          let n = length-map code_of l in
+          let n = length-map l code_of in
           let f = puts-room (map code_of l) (out ts vs 0) (omega (arith, n, leb-true (length l) 8192 b)) in
           let g = e ∙ f in
           (ap (λ (x : Output). x.count) g ∙ omega (arith, n), ap (λ (x : Output). x.tags) g, ap (λ (x : Output). x.values) g)
       go false b =
-          let n = length-map code_of l in
+          let n = length-map l code_of in
           let f = puts-full (map code_of l) (out ts vs 0) (omega arith) (omega (arith, n, leb-false (length l) 8192 b)) in
           absurd (omega (arith, ap (λ (x : Output). x.count) e ∙ f))
 
@@ -104,7 +96,7 @@ module _ (ts vs : List ℕ) (l : List Token) (r : Output) (e : r ≡ emits (out 
     where
       go : (b : Bool) → leb (length l) 8192 ≡ b → 8192 < length l
       go true b =
-          let n = length-map code_of l in
+          let n = length-map l code_of in
           let f = puts-room (map code_of l) (out ts vs 0) (omega (arith, n, leb-true (length l) 8192 b)) in
           absurd (omega (arith, n, leb-true (length l) 8192 b, ap (λ (x : Output). x.count) (e ∙ f)))
       go false b = leb-false (length l) 8192 b
@@ -123,8 +115,8 @@ pub emits-whole : (ts vs : List ℕ) (l : List Token) (r : Output) → r ≡ emi
     (r.count ≡ length l) × (tokens (take r.count r.tags) (take r.count r.values) ≡ map code_of l)
 emits-whole ts vs l r e ht hv h =
     let f = emits-fit ts vs l r e h in
-    let a : length (map (λ k. k.tag) (map code_of l)) ≡ length l = length-map (λ k. k.tag) (map code_of l) ∙ length-map code_of l in
-    let b : length (map (λ k. k.value) (map code_of l)) ≡ length l = length-map (λ k. k.value) (map code_of l) ∙ length-map code_of l in
+    let a : length (map (λ k. k.tag) (map code_of l)) ≡ length l = length-map (map code_of l) (λ k. k.tag) ∙ length-map l code_of in
+    let b : length (map (λ k. k.value) (map code_of l)) ≡ length l = length-map (map code_of l) (λ k. k.value) ∙ length-map l code_of in
     let u : take r.count r.tags ≡ map (λ k. k.tag) (map code_of l) = rw (f.1, f.0, ← a) (take-sets (map (λ k. k.tag) (map code_of l)) ts (omega arith)) in
     let v : take r.count r.values ≡ map (λ k. k.value) (map code_of l) = rw (f.2, f.0, ← b) (take-sets (map (λ k. k.value) (map code_of l)) vs (omega arith)) in
     (f.0, rw (u, v) (tokens-map (map code_of l)))

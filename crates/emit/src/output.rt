@@ -6,9 +6,11 @@ ghost use Rattle.emit.specs.Out.{puts, emits};
 use definitions::{Token, WORKING_TOKENS};
 
 // The count of an output that is full: past what the arrays hold.
+// Stays (no plainer): a count past the arrays is one test and no second field that writing would have to keep in step with it.
 const FULL: usize = WORKING_TOKENS + 1;
 
 // Arrays of tags and of values, of which so many are written. Past the arrays nothing is written, and the count is `FULL`.
+// Stays (fixed memory): how long an output is shows as it is written, and the arrays are as long as one may be.
 #[derive(Drop)]
 pub struct Output {
     pub tags: [u8; WORKING_TOKENS],

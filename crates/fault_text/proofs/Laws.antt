@@ -1,7 +1,7 @@
 -- First faults put in lines, node after node, and the lines given. Assumes nothing.
 use Prim.Native.Nat.{ℕ, ◌+◌, ◌*◌, ◌≤◌, ◌<◌}
 use mathlib.Core.Path.{◌≡◌, refl, sym, ap, ap₂, ◌∙◌, subst}
-use mathlib.Core.List.{List, [], ◌∷◌, ◌++◌}
+use mathlib.Core.List.{List, [], ◌∷◌}
 use mathlib.Core.Option.{Option}
 use native.Mathlib.Omega.{arith}
 use lib.ListN.{length, take, drop, get_elem?}
@@ -16,23 +16,21 @@ use Rattle.definitions.specs.Answer.{Input, input, clockings, first_line, first_
 use Rattle.findings.specs.declared.Fault as struct
 use Rattle.findings.specs.Value.{fault_of}
 use Rattle.spelling.specs.Places.{letters_at}
-use Rattle.spelling.specs.Writing.{Put, farthest}
+use Rattle.spelling.specs.Writing.{Put}
 use Rattle.spelling.specs.Written.{Wrote}
 use Rattle.spelling.specs.declared.text_writer.TextWriter.{TextWriter}
-use Rattle.spelling.proofs.Writing.{put_front, put-measure}
+use Rattle.spelling.proofs.Writing.{over-front, put-over, put-measure}
 use Rattle.spelling.proofs.Writers.{wrote_none, wrote_as}
 use Rattle.infer_clocks.proofs.Laws.{Ahead}
-use Rattle.lines.specs.Lending.{lent_text}
 use Rattle.lines.proofs.Listing.{put-numbered}
 use Rattle.lines.proofs.TextsLengths.{name-length, line-length, shallow-of}
-use Rattle.lines.proofs.Giving.{gives-written, gives-lent}
 use Rattle.stateless.proofs.Nodes.{clockings-form, node-here, all-before}
 use Rattle.stateless.proofs.Answers.{input-refused}
 use Rattle.first_faults.specs.Faults.{fault_in}
 use Rattle.first_faults.proofs.Records.{nodes-end}
+use Rattle.query.specs.Listed.{TextStands}
 use Rattle.listings.specs.Answers.{ListingGiven}
-use Rattle.listings.proofs.Given.{given}
-use Rattle.fault_text.specs.Lines.{fault_lines_of, line_of, LinesStand}
+use Rattle.fault_text.specs.Lines.{fault_lines_of, lines_text, line_of, LinesStand}
 
 -- ---- the line of a fault that was found is no longer than names let it be
 pub line-short : (starts letters : List ℕ) (i e : ℕ) (f : struct.Fault) {w w₁ : TextWriter} → length letters ≤ 16384
@@ -78,50 +76,11 @@ lines-deep r k lent now h = h
 pub lines-held : (r : Input) (lent now held : List ℕ) (a : Result ℕ Refusal) → held ≡ now → LinesStand r lent now a → LinesStand r lent held a
 lines-held r lent now held a e h = rw e h
 
--- ---- measured, and then put
-module _ (r : Input) (none none' lent : List ℕ) (m : Result ℕ Refusal) (h : LinesStand r none none' m) where
-  -- 9
-  pub given-deep : (x : Refusal) → m ≡ Err x → ListingGiven (fault_lines_of r (length lent)) lent lent (Err x)
-  unfolding LinesStand
-  given-deep k e =
-      let x : clockings 0 r.sheet.nodes ≡ refused k = (let y : LinesStand r none none' (Err k) = rw e at h in y) in
-      rw x (record { answer = refl; bytes = refl })
-
-  module _ (n : ℕ) (e : m ≡ Ok n) where
-    measured : (ns : List ClockedNode) × (clockings 0 r.sheet.nodes ≡ accepted ns) × Put (first_lines r ns) 0 none n none' × (length (first_lines r ns) ≤ farthest)
-    unfolding LinesStand
-    measured = let y : LinesStand r none none' (Ok n) = rw e at h in y
-
-    as-lines : (after : List ℕ) (a : Result ℕ Refusal) → ListingGiven (lent_text (first_lines r measured.0) (length lent)) lent after a → ListingGiven (fault_lines_of r (length lent)) lent after a
-    as-lines after a g = rw measured.1 g
-
-    -- 12
-    pub given-few : length lent < n → ListingGiven (fault_lines_of r (length lent)) lent lent (Err (Refusal.Lent n))
-    given-few few =
-        let m = measured in
-        as-lines lent (Err (Refusal.Lent n)) (given (first_lines r m.0) lent lent (Err (Refusal.Lent n)) (gives-lent (first_lines r m.0) lent n m.3 m.2 few))
-
-    -- put aside, where they have room
-    pub given-aside : n ≤ length none → length none ≤ farthest → (after : List ℕ) (a : Result ℕ Refusal) → ListingGiven (lent_text (take n none') (length lent)) lent after a → ListingGiven (fault_lines_of r (length lent)) lent after a
-    given-aside room short after a g =
-        let m = measured in
-        let e : take n none' ≡ first_lines r m.0 = put_front (omega (arith, put-measure m.3 m.2)) short m.2 in
-        as-lines after a (subst (λ (t : List ℕ). ListingGiven (lent_text t (length lent)) lent after a) e g)
-
-    -- put again, over as many bytes
-    pub given-lines : (again : Result ℕ Refusal) (part : List ℕ) → n ≤ length lent → LinesStand r (take n lent) part again → ListingGiven (fault_lines_of r (length lent)) lent (part ++ drop n lent) again
-    unfolding LinesStand
-    given-lines (Err x) part enough s =
-        let y : accepted measured.0 ≡ refused x = sym measured.1 ∙ s in
-        let z : ◌≡◌ {A = ℕ} 0 1 = cc in absurd (omega arith)
-    given-lines (Ok q) part enough s =
-        let m = measured in
-        let x : accepted s.0 ≡ accepted m.0 = sym s.1 ∙ m.1 in
-        let y : s.0 ≡ m.0 = cc in
-        let p : Put (first_lines r m.0) 0 (take n lent) q part = rw y at s.2 in
-        let same : q ≡ n = put-measure m.3 p ∙ sym (put-measure m.3 m.2) in
-        let g = as-lines (part ++ drop n lent) (Ok n) (given (first_lines r m.0) lent (part ++ drop n lent) (Ok n) (gives-written (first_lines r m.0) lent n m.3 m.2 enough p)) in
-        rw same g
+-- ---- the text that was put, and where it ends
+pub lines-text : (r : Input) (lent now : List ℕ) (a : Result ℕ Refusal) → LinesStand r lent now a → TextStands (lines_text r) lent now a
+unfolding LinesStand TextStands
+lines-text r lent now (Err e) h = rw h refl
+lines-text r lent now (Ok n) h = (first_lines r h.0, rw h.1 refl, record { long = put-measure h.3 h.2; bytes = put-over h.2 ∙ sym (over-front (first_lines r h.0) lent) })
 
 -- ---- refusals 1 to 7, and a sheet that was read
 pub lines-down : (b : List ℕ) (lent : List ℕ) (x : Refusal) → told (input b) ≡ down x → ListingGiven (fault_lines_answer b (length lent)) lent lent (Err x)

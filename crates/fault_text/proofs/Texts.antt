@@ -28,10 +28,8 @@ use Rattle.query.proofs.Nodes.{asked-there, first-deep, first-behind, first-ther
 use Rattle.findings.specs.declared.Found as value
 use Rattle.std.specs.Prelude as rust
 use Rattle.std.specs.Prelude.{None, Some}
-use Rattle.first_faults.specs.declared.NodeFound.{NodeFound}
 use Rattle.workspace.specs.declared.Working.{Working}
 use Rattle.workspace.specs.Room.{RoomToPlan}
-use Rattle.first_faults.specs.Faults.{deep_found}
 use Rattle.listings.specs.Answers.{ListingGiven}
 use Rattle.listings.proofs.Given.{given}
 use Rattle.fault_text.specs.Texts.{text_in, text_from, text_of}
@@ -68,7 +66,7 @@ module _ (r : Input) (v : Answer ClockedNode) (j : ℕ) (lent : List ℕ) where
 
 -- of node k among the nodes of a sheet, which stands there as clocks before it are formed
 pub text-among : (M : ℕ) (ts : List TagValue) (r : Input) (k count before at q : ℕ) → k < count → before ≡ k → times count (node M) ts at ≡ got r.sheet.nodes q
-    → (d : Result ℕ ℕ) → ((ns : List Node) (p : ℕ) → times before (node M) ts at ≡ got ns p → Deeply p d (clockings 0 ns)) → (p : ℕ) → d ≡ Ok p
+    → (d : Result ℕ Refusal) → ((ns : List Node) (p : ℕ) → times before (node M) ts at ≡ got ns p → Deeply p d (clockings 0 ns)) → (p : ℕ) → d ≡ Ok p
     → (j : ℕ) (lent after : List ℕ) (y : Result ℕ Refusal)
     → ((n : Node) (m : ℕ) (ns : List Node) → node M ts p ≡ got n m → times (count - before - 1) (node M) ts m ≡ got ns q → ListingGiven (text_from r (first_from k (n ∷ ns)) j (length lent)) lent after y)
     → ListingGiven (text_of r k j (length lent)) lent after y
@@ -89,7 +87,7 @@ module _ (r : Input) (k j : ℕ) (lent : List ℕ) (n : Node) (ns : List Node) (
       go deep h t = first-deep k n ns h
       go (formed c) h t = let z : ◌≡◌ {A = ℕ} 0 1 = cc in absurd (omega arith)
 
-  module _ (f : b ≡ false) (q : ℕ) (d : Result ℕ ℕ) (D : Deeply q d (clockings 0 ns)) where
+  module _ (f : b ≡ false) (q : ℕ) (d : Result ℕ Refusal) (D : Deeply q d (clockings (k + 1) ns)) where
     this : (c : Clocking) × (clocking n ≡ formed c)
     this = go (clocking n) refl (sym e ∙ f)
       where
@@ -98,17 +96,17 @@ module _ (r : Input) (k j : ℕ) (lent : List ℕ) (n : Node) (ns : List Node) (
         go (formed c) h t = (c, h)
 
     -- 9 behind it
-    pub text-behind : (i w : ℕ) → d ≡ Err i → w ≡ i → ListingGiven (text_from r (first_from k (n ∷ ns)) j (length lent)) lent lent (Err (Refusal.Deep (k + 1 + w)))
+    pub text-behind : (y : Refusal) → d ≡ Err y → ListingGiven (text_from r (first_from k (n ∷ ns)) j (length lent)) lent lent (Err y)
     unfolding Deeply
-    text-behind i w g u =
-        let x : Deeply q (Err i) (clockings 0 ns) = rw g at D in
-        text-turned r (first_from k (n ∷ ns)) j lent (Refusal.Deep (k + 1 + w)) (first-behind k n ns this.0 this.1 i x ∙ ap (λ (z : ℕ). refused (Refusal.Deep (k + 1 + z))) (sym u))
+    text-behind y g =
+        let x : Deeply q (Err y) (clockings (k + 1) ns) = rw g at D in
+        text-turned r (first_from k (n ∷ ns)) j lent y (first-behind k n ns this.0 this.1 y x)
 
     pub text-there : (p : ℕ) → d ≡ Ok p → (o : rust.Option value.Found) → ((c : Clocking) → clocking n ≡ formed c → found_of o ≡ get_elem? (node_faults r.names r.sheet (record { node = n; clocking = c })) j)
         → (after : List ℕ) (y : Result ℕ Refusal) → ListingGiven (text_in r.names (found_of o) (length lent)) lent after y → ListingGiven (text_from r (first_from k (n ∷ ns)) j (length lent)) lent after y
     unfolding Deeply
     text-there p g o F after y h =
-        let x : Deeply q (Ok p) (clockings 0 ns) = rw g at D in
+        let x : Deeply q (Ok p) (clockings (k + 1) ns) = rw g at D in
         text-known r (first_from k (n ∷ ns)) j lent (record { node = n; clocking = this.0 }) o (first-there k n ns this.0 this.1 x.1 x.2) (F this.0 this.1) after y h
 
 -- ---- the text of a fault that was found
@@ -121,12 +119,6 @@ module _ (names : List Letters) (letters : ℕ → Letters) (e : letters ≡ let
   text-given f r g =
       let said : text_in names (found_of (Some f)) (length lent) ≡ lent_text (fault_text letters (fault_of f.fault)) (length lent) = rw e in
       rw said (given (fault_text letters (fault_of f.fault)) lent after r g)
-
--- no clock is too deep
-pub not-deep : (a : NodeFound) → (a ≡ NodeFound.Deep → ⊥) → deep_found a ≡ false
-not-deep NodeFound.Deep u = absurd (u refl)
-not-deep (NodeFound.Faulty x) u = refl
-not-deep (NodeFound.Clean s) u = refl
 
 -- ---- room to plan, by the source that the index has
 pub room-of : {s s' : Source} {w : Working} → s' ≡ s → RoomToPlan s.names (length s.tags.now) w → RoomToPlan s'.names (length s'.tags.now) w

@@ -20,10 +20,9 @@ abbrev pub line_of : (ℕ → Letters) → ℕ → Option NodeFault → Letters
 line_of letters i none = []
 line_of letters i (some f) = fault_line letters i f
 
--- where lines end that were put
-abbrev pub end_of : Result ℕ Refusal → ℕ
-end_of (Err e) = 0
-end_of (Ok n) = n
+-- the lines, or 9
+abbrev pub lines_text : Input → Answer Letters
+lines_text r = clockings 0 r.sheet.nodes >>= λ ns. accepted (first_lines r ns)
 
 -- refused, as forming the clocks is: at the first node in which one is too deep; or the lines were put at the front, and where they end
 unfoldable pub LinesStand : Input → List ℕ → List ℕ → Result ℕ Refusal → Type 0

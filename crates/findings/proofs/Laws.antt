@@ -1,6 +1,6 @@
 -- Laws of tables of findings.
 use mathlib.Core.Path.{◌≡◌, refl, sym, ◌∙◌, ap}
-use mathlib.Core.List.{List, [], ◌∷◌, ◌++◌, append_assoc, append-nil}
+use mathlib.Core.List.{List, [], ◌∷◌, ◌++◌, map, append_assoc, append-nil}
 use mathlib.Core.Bool.{Bool, true, false, ◌||◌, cond}
 use mathlib.Core.Logic.{◌⊎◌, inl, inr}
 use Prim.Native.Nat.{ℕ, zero, suc, ◌+◌, ◌-◌, ◌*◌, ◌≤◌, ◌<◌}
@@ -10,9 +10,13 @@ use lib.ListN.{length, get_or, set, length-set, length-append}
 use lib.Seq.{get_or-set_same, get_or-set_other}
 use Rattle.definitions.specs.Lists.{choose, any}
 use Rattle.definitions.specs.Clock.{Clock, is_base}
-use Rattle.std.proofs.Math.Option.{Option, none, some}
+use Rattle.std.proofs.Math.Option.{none, some}
 use Rattle.std.proofs.Math.ListN.{get_elem?}
-use Rattle.std.specs.List.{range_with_len, list_any, filter}
+use lib.Dec.{eqb, ltb}
+use borrow.Author.Tests.{ltb-true, ltb-false}
+use Rattle.std.specs.Prelude.{Some, None}
+use Rattle.std.specs.List.{range_with_len, list_any, filter, slice_get}
+use Rattle.std.proofs.lemmas.Option.{slice_get-get_or, slice_get_within, get_or_from_slice_get}
 use Rattle.definitions.specs.InferClocks.{NodeFault, Finding, found, site, too_deep, is_too_deep, clock_faults, sites}
 use Rattle.clock_tables.specs.Flat.{clock_in}
 use Rattle.clock_tables.proofs.FlatLaws.{Within, clock-same}
@@ -22,7 +26,7 @@ use Rattle.findings.specs.declared.Finding as value
 use Rattle.findings.specs.Value.{finding_of}
 use Rattle.clock_tables.specs.declared.ClockTable.{ClockTable}
 use Rattle.clock_tables.specs.Grown.{Grown}
-use Rattle.findings.specs.Findings.{finding_as, finding_in, is_fault, findings_from, findings_in, FindingsHeld}
+use Rattle.findings.specs.Findings.{fault_in, finding_as, finding_in, is_fault, findings_from, findings_in, FindingsHeld}
 
 -- ---- the findings of rows
 module _ (t : List ℕ) where
@@ -125,12 +129,6 @@ pub holds-none : (t : List ℕ) → FindingsHeld t 0 []
 unfolding FindingsHeld findings_from
 holds-none t = inl (omega arith, refl)
 
--- a table that is not full
-pub holds-all : (t : List ℕ) (n : ℕ) (fs : List Finding) → 38 * n ≤ length t → FindingsHeld t n fs → findings_in t n ≡ fs
-unfolding FindingsHeld
-holds-all t n fs l (inl (a, e)) = e
-holds-all t n fs l (inr (a, b)) = absurd (omega arith)
-
 -- it never fills where there are no more findings than rows
 pub holds_fits : (t : List ℕ) (n : ℕ) (fs : List Finding) → 38 * length fs ≤ length t → FindingsHeld t n fs → (38 * n ≤ length t) × (findings_in t n ≡ fs)
 unfolding FindingsHeld
@@ -183,19 +181,6 @@ module _ (t : List ℕ) where
   any-row i zero = refl
   any-row i (suc n) = ap (λ (b : Bool). is_too_deep (finding_in t (38 * i)) || b) (any-row (i + 1) n)
 
-  pub fault-rows : (i n : ℕ) → length (filter (λ j. is_fault (finding_in t (38 * j))) (range_with_len i n)) ≡ length (clock_faults (findings_from t i n))
-  unfolding findings_from clock_faults
-  fault-rows i zero = refl
-  fault-rows i (suc n) = go (finding_in t (38 * i)) (fault-rows (i + 1) n)
-    where
-      others : List ℕ
-      others = filter (λ j. is_fault (finding_in t (38 * j))) (range_with_len (i + 1) n)
-
-      go : (f : Finding) → length others ≡ length (clock_faults (findings_from t (i + 1) n)) → length (cond (is_fault f) (i ∷ others) others) ≡ length (clock_faults (f ∷ findings_from t (i + 1) n))
-      go (found g) e = ap suc e
-      go (site c) e = e
-      go too_deep e = e
-
 -- ---- a finding by value that is no fault, or no site
 pub not-fault : (x : value.Finding) → ((i : ℕ) (f : ClockFault) → x ≡ value.Finding.Fault i f → ⊥) → clock_faults (finding_of x ∷ []) ≡ []
 unfolding clock_faults
@@ -238,40 +223,53 @@ module _ (t : List ℕ) (i : ℕ) where
         sites-last ∙ (ap (λ (x : Finding). sites (findings_in t i) ++ sites (x ∷ [])) (sym e ∙ h)
         ∙ ap (λ (x : Bool). sites (findings_in t i) ++ choose x [] (c ∷ [])) b)
 
--- ---- fault j of the rows from i on, n in all
-module _ (t : List ℕ) (n i : ℕ) (l : i < n) (f : Finding) (e : f ≡ finding_in t (38 * i)) where
-  left-rows : findings_from t i (n - i) ≡ f ∷ findings_from t (i + 1) (n - (i + 1))
-  left-rows = let a : n - i - 1 ≡ n - (i + 1) = omega arith in from_more t i (n - i) (omega arith) ∙ rw (a, e)
+-- ---- fault j of rows
+faults-listed : (t : List ℕ) (i n : ℕ) → clock_faults (findings_from t i n) ≡ map (λ j. fault_in t (38 * j)) (filter (λ j. is_fault (finding_in t (38 * j))) (range_with_len i n))
+unfolding findings_from clock_faults
+faults-listed t i zero = refl
+faults-listed t i (suc n) = go (ltb (get_or t (38 * i) 0) 5) (eqb (get_or t (38 * i) 0) 5) (faults-listed t (i + 1) n)
+  where
+    others : List ℕ
+    others = filter (λ j. is_fault (finding_in t (38 * j))) (range_with_len (i + 1) n)
 
-  module _ (j : ℕ) (o : Option NodeFault) (s : get_elem? (clock_faults (findings_from t i (n - i))) j ≡ o) where
-    pub nth-later : clock_faults (f ∷ []) ≡ [] → get_elem? (clock_faults (findings_from t (i + 1) (n - (i + 1)))) j ≡ o
-    nth-later h =
-        ap (λ (m : List NodeFault). get_elem? (m ++ clock_faults (findings_from t (i + 1) (n - (i + 1)))) j) (sym h)
-        ∙ (ap (λ (m : List NodeFault). get_elem? m j) (sym (faults-append (f ∷ []) _) ∙ ap clock_faults (sym left-rows)) ∙ s)
+    go : (a b : Bool) → clock_faults (findings_from t (i + 1) n) ≡ map (λ j. fault_in t (38 * j)) others
+        → clock_faults (choose a (found (fault_in t (38 * i))) (choose b (site (clock_in t (38 * i + 21))) too_deep) ∷ findings_from t (i + 1) n)
+        ≡ map (λ j. fault_in t (38 * j)) (cond (is_fault (choose a (found (fault_in t (38 * i))) (choose b (site (clock_in t (38 * i + 21))) too_deep))) (i ∷ others) others)
+    go true b e = ap (λ (l : List NodeFault). fault_in t (38 * i) ∷ l) e
+    go false true e = e
+    go false false e = e
 
-    module _ (g : NodeFault) (h : f ≡ found g) where
-      fault-rows-here : clock_faults (findings_from t i (n - i)) ≡ g ∷ clock_faults (findings_from t (i + 1) (n - (i + 1)))
-      unfolding clock_faults
-      fault-rows-here = ap clock_faults left-rows ∙ ap (λ (x : Finding). clock_faults (x ∷ findings_from t (i + 1) (n - (i + 1)))) h
+module _ {A : Type 0} (f : ℕ → A) where
+  elem-past : (l : List ℕ) (j : ℕ) → length l ≤ j → get_elem? (map f l) j ≡ none
+  elem-past [] j h = refl
+  elem-past (x ∷ l) zero h = absurd (omega arith)
+  elem-past (x ∷ l) (suc j) h = elem-past l j (omega arith)
 
-      pub nth-here : j ≡ 0 → some g ≡ o
-      nth-here z =
-          let a : get_elem? (clock_faults (findings_from t i (n - i))) 0 ≡ o = rw z at s in
-          ap (λ (m : List NodeFault). get_elem? m 0) (sym fault-rows-here) ∙ a
+  elem-at : (l : List ℕ) (j : ℕ) → j < length l → get_elem? (map f l) j ≡ some (f (get_or l j 0))
+  elem-at [] j h = absurd (omega arith)
+  elem-at (x ∷ l) zero h = refl
+  elem-at (x ∷ l) (suc j) h = elem-at l j (omega arith)
 
-      pub nth-next : (j ≡ 0 → ⊥) → get_elem? (clock_faults (findings_from t (i + 1) (n - (i + 1)))) (j - 1) ≡ o
-      nth-next z =
-          let a : j ≡ suc (j - 1) = omega arith in
-          let b : get_elem? (clock_faults (findings_from t i (n - i))) (suc (j - 1)) ≡ o = ap (λ (m : ℕ). get_elem? (clock_faults (findings_from t i (n - i))) m) (sym a) ∙ s in
-          ap (λ (m : List NodeFault). get_elem? m (suc (j - 1))) (sym fault-rows-here) ∙ b
+  place-none : (l : List ℕ) (j : ℕ) → None ≡ slice_get l j → get_elem? (map f l) j ≡ none
+  place-none l j e = go (ltb j (length l)) refl
+    where
+      go : (b : Bool) → ltb j (length l) ≡ b → get_elem? (map f l) j ≡ none
+      go true q = let z : None ≡ Some (get_or l j 0) = e ∙ slice_get-get_or l j 0 (ltb-true _ _ q) in cc
+      go false q = elem-past l j (ltb-false _ _ q)
 
--- none are left
-pub no-fault : (t : List ℕ) (n i j : ℕ) → n ≤ i → get_elem? (clock_faults (findings_from t i (n - i))) j ≡ none
-unfolding clock_faults
-no-fault t n i j h = ap (λ (l : List Finding). get_elem? (clock_faults l) j) (from-none t i (n - i) (omega arith))
+  place-some : (l : List ℕ) (j i : ℕ) → Some i ≡ slice_get l j → get_elem? (map f l) j ≡ some (f i)
+  place-some l j i e = elem-at l j (slice_get_within l j i (sym e)) ∙ ap (λ k. some (f k)) (get_or_from_slice_get l j i 0 (sym e))
 
-pub all-rows : (t : List ℕ) (n : ℕ) → findings_in t n ≡ findings_from t 0 (n - 0)
-all-rows t n = let e : n ≡ n - 0 = omega arith in ap (findings_from t 0) e
+-- by the rows that have one
+module _ (t : List ℕ) (n j : ℕ) where
+  abbrev pub rows-with : List ℕ
+  rows-with = filter (λ k. is_fault (finding_in t (38 * k))) (range_with_len 0 n)
+
+  pub nth-none : None ≡ slice_get rows-with j → none ≡ get_elem? (clock_faults (findings_in t n)) j
+  nth-none e = sym (ap (λ (l : List NodeFault). get_elem? l j) (faults-listed t 0 n) ∙ place-none (λ k. fault_in t (38 * k)) rows-with j e)
+
+  pub nth-some : (i : ℕ) → Some i ≡ slice_get rows-with j → some (fault_in t (38 * i)) ≡ get_elem? (clock_faults (findings_in t n)) j
+  nth-some i e = sym (ap (λ (l : List NodeFault). get_elem? l j) (faults-listed t 0 n) ∙ place-some (λ k. fault_in t (38 * k)) rows-with j i e)
 
 -- none yet
 pub none_yet : (t : List ℕ) → (clock_faults (findings_in t 0) ≡ []) × (sites (findings_in t 0) ≡ [])

@@ -10,7 +10,7 @@ ghost use Rattle.findings.specs.Value.{clock_fault_of, fault_of, finding_of, fou
 ghost use Rattle.definitions.specs.Lists.{any};
 ghost use Rattle.clock_tables.specs.Flat.{clock_in};
 ghost use Rattle.clock_tables.specs.Grown.{Grown};
-ghost use Rattle.findings.specs.Findings.{fault_as, finding_as, finding_in, is_fault, findings_in};
+ghost use Rattle.findings.specs.Findings.{fault_as, fault_in, finding_as, finding_in, is_fault, findings_in};
 ghost use Rattle.findings.specs.Met.{Met};
 
 use clock_tables::{Clock, ClockTable};
@@ -107,7 +107,7 @@ const EXPECTED: usize = ON + clock_tables::WORDS;
 const ROW: usize = EXPECTED + clock_tables::WORDS;
 
 // The words and clocks of a row: its kind is 1 to 4 for a fault, 5 for a site, 6 for too deep a clock.
-// Stays (fixed memory): numbers for kinds, since a table of findings is lent as words; they are written and read below, and nowhere else.
+// Stays (fixed memory): a table of findings is words that are lent, where a kind is a number, and any number is to be read as some finding.
 #[derive(Clone, Copy)]
 struct Row {
     kind: u32,
@@ -267,6 +267,20 @@ fn fault_of(row: Row) -> ClockFault
     }
 }
 
+// Row i.
+fn row_in(table: &[u32], i: usize) -> Row
+    ensures { record { equation = result.equation; fault = fault_as result.kind result.name result.flag (value_of result.on) (value_of result.expected) } ≡ fault_in table.now (38 * i) }
+{
+    Row {
+        kind: word_at(table, i, 0),
+        name: word_at(table, i, 1),
+        flag: word_at(table, i, 2),
+        equation: word_at(table, i, 3),
+        on: clock_at(table, i, ON),
+        expected: clock_at(table, i, EXPECTED),
+    }
+}
+
 // The finding in row i.
 fn finding_in(table: &[u32], i: usize) -> Finding
     ensures { finding_of result ≡ finding_in table.now (38 * i) }
@@ -278,14 +292,7 @@ fn finding_in(table: &[u32], i: usize) -> Finding
     if kind > 5 {
         return Finding::Deep;
     }
-    let row = Row {
-        kind,
-        name: word_at(table, i, 1),
-        flag: word_at(table, i, 2),
-        equation: word_at(table, i, 3),
-        on: clock_at(table, i, ON),
-        expected: clock_at(table, i, EXPECTED),
-    };
+    let row = row_in(table, i);
     Finding::Fault {
         equation: row.equation,
         fault: fault_of(row),
@@ -307,6 +314,7 @@ fn is_fault(table: &[u32], i: usize) -> bool
 }
 
 // Findings in lent words, and how many; a count one past the rows says that there were more findings than rows.
+// Stays (no plainer): a node's checking hands on its count alone, and a flag beside it would say what it says.
 #[derive(Clone, Copy)]
 pub struct FindingList<'a> {
     pub words: &'a [u32],
@@ -362,29 +370,17 @@ impl FindingList<'_> {
         (0..self.count).any(|i| is_deep(words, i))
     }
 
-    // How many clock faults there are.
-    pub fn fault_count(&self) -> usize
-        ensures { result ≡ length (clock_faults (findings_in self.now.words.now self.now.count)) }
-    {
-        let words = self.words;
-        (0..self.count).filter(|&i| is_fault(words, i)).count()
-    }
-
     // Clock fault j, from 0, if there are so many.
     pub fn nth_fault(&self, j: usize) -> Option<Found>
         ensures { found_of result ≡ get_elem? (clock_faults (findings_in self.now.words.now self.now.count)) j }
     {
-        let mut left = j;
-        for i in 0..self.count {
-            if let Finding::Fault { equation, fault } = self.finding_at(i) {
-                if left == 0 {
-                    let fault = Fault::Clock(fault);
-                    return Some(Found { fault, equation });
-                }
-                left -= 1;
-            }
-        }
-        None
+        let words = self.words;
+        let i = (0..self.count).filter(|&i| is_fault(words, i)).nth(j)?;
+        let row = row_in(words, i);
+        Some(Found {
+            fault: Fault::Clock(fault_of(row)),
+            equation: row.equation,
+        })
     }
 
     // All the clocks of `pre` and `->` other than base, in order, behind those of a table of clocks.

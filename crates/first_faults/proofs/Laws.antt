@@ -3,25 +3,24 @@
 use Prim.Native.Nat.{ℕ, zero, suc, ◌≤◌, ◌<◌}
 use mathlib.Core.Path.{◌≡◌, refl, sym, ap, ◌∙◌, subst}
 use mathlib.Core.List.{List, [], ◌∷◌}
-use mathlib.Core.Bool.{Bool, true, false}
+use mathlib.Core.Bool.{Bool, true, false, true≢false}
 use mathlib.Core.Option.{Option, none, some, none-ne-some}
 use native.Mathlib.Omega.{arith}
 use lib.ListN.{length, get_or, get_elem?, length-map}
-use Rattle.definitions.specs.Lists.{choose}
 use Rattle.definitions.specs.Tokens.{TagValue}
 use Rattle.grammar.specs.Read.{tokens_of}
 use Rattle.definitions.specs.Tree.{TypeDef, Node}
 use Rattle.definitions.specs.Reading.{got}
 use Rattle.definitions.specs.Grammar.{node}
 use Rattle.definitions.specs.Refusals.{accepted}
-use Rattle.definitions.specs.InferClocks.{formed, Fault, NodeFault, Clocked, Clocking, Finding, clocking, clock_faults, uses_clocks}
+use Rattle.definitions.specs.InferClocks.{formed, NodeFault, Clocked, Clocking, Finding, clocking, clock_faults, uses_clocks}
 use Rattle.definitions.specs.Output.{condact_id, ClockedNode, node_faults}
 use Rattle.definitions.specs.Answer.{Input, clockings}
 use Rattle.shapes.proofs.Clockless.{no-node-faults}
 use Rattle.layout.specs.declared.NodeLayout.{NodeLayout}
 use Rattle.layout.specs.Laid.{LaidNode}
 use Rattle.lines.proofs.Laws.{clocked-many}
-use Rattle.findings.specs.Value.{node_fault_of}
+use Rattle.findings.specs.Value.{node_fault_of, found_of}
 use Rattle.findings.specs.Findings.{findings_in}
 use Rattle.infer_clocks.specs.declared.NodeClocked.{NodeClocked}
 use Rattle.clock_tables.specs.declared.TooDeep.{TooDeep}
@@ -29,17 +28,20 @@ use Rattle.infer_clocks.specs.Clocked.{is_deep, ClocksStand, ClockedOrDeep, Site
 use Rattle.checking.proofs.Only.{sites-alone}
 use Rattle.skeleton.specs.Sites.{EquationsSited}
 use Rattle.stateless.specs.Sheets.{one_of, faults_by}
-use Rattle.stateless.proofs.Nodes.{clockings-form, node-here, node-checks, same-clocking, not-too-deep, clocked, node-faults, rewriting-faulty, faultless}
+use Rattle.stateless.proofs.Nodes.{clockings-form, node-here, node-checks, same-clocking, not-too-deep, clocked, node-faults, rewriting-faulty}
 use Rattle.stateless.proofs.Stops as stops
 use Rattle.index.specs.declared.Index.{Index}
 use Rattle.index.specs.Indexed.{Indexed}
 use Rattle.stateless.specs.declared.Counts.{Counts}
+use Rattle.planned.specs.declared.HeldOperand.{HeldOperand}
 use Rattle.node_plan.specs.Outcomes.{met_by, PlansNode}
-use Rattle.std.specs.Prelude.{Result, Ok, Err}
+use Rattle.std.specs.Prelude.{Result, Ok, Err, IfOk, IfErr}
+use Rattle.std.specs.Prelude as code
+use Rattle.std.specs.Result.{result_err, is_ok, is_err, MatchResult}
+use Rattle.definitions.specs.declared.Refusal.{Refusal}
 use Rattle.findings.specs.declared.Found.{Found}
 use Rattle.workspace.specs.declared.Working.{Working}
-use Rattle.first_faults.specs.declared.NodeFound.{NodeFound}
-use Rattle.first_faults.specs.Faults.{fault_in, fault_found, deep_found, FoundIn, NodeMet}
+use Rattle.first_faults.specs.Faults.{fault_in, fault_found, FoundIn, NodeMet}
 
 -- ---- which fault is fault j
 none-first : {A : Type 0} (l : List A) (j : ℕ) → j ≡ 0 → get_elem? l j ≡ none → l ≡ []
@@ -47,19 +49,21 @@ none-first [] j z e = refl
 none-first (a ∷ l) zero z e = absurd (none-ne-some a (sym e))
 none-first (a ∷ l) (suc j) z e = absurd (omega arith)
 
-none_in : {A : Type 0} (l : List A) → length l ≤ 0 → l ≡ []
-none_in [] h = refl
-none_in (a ∷ l) h = absurd (omega arith)
-
-by-faults : (l : List NodeFault) (u : Bool) (o : Option NodeFault) (j : ℕ) → 0 < length l → get_elem? l j ≡ get_elem? (faults_by l u o) j
-by-faults [] u o j h = absurd (omega arith)
-by-faults (f ∷ l) u o j h = refl
-
 by-later : (u : Bool) (o : Option NodeFault) (j : ℕ) → 0 < j → get_elem? (faults_by [] u o) j ≡ none
 by-later true none j h = refl
 by-later true (some f) zero h = absurd (omega arith)
 by-later true (some f) (suc j) h = refl
 by-later false o j h = refl
+
+-- behind the first, clock faults alone
+later-faults : (l : List NodeFault) (u : Bool) (o : Option NodeFault) (j : ℕ) → 0 < j → get_elem? l j ≡ get_elem? (faults_by l u o) j
+later-faults [] u o j h = sym (by-later u o j h)
+later-faults (f ∷ l) u o j h = refl
+
+-- a clock fault is the first
+first-fault : (l : List NodeFault) (u : Bool) (o : Option NodeFault) (f : NodeFault) → some f ≡ get_elem? l 0 → some f ≡ get_elem? (faults_by l u o) 0
+first-fault [] u o f e = absurd (none-ne-some f (sym e))
+first-fault (g ∷ l) u o f e = e
 
 by_first : (o : Option NodeFault) → get_elem? (one_of o) 0 ≡ o
 by_first none = refl
@@ -68,34 +72,6 @@ by_first (some f) = refl
 -- a node that uses no clocks has none
 pub none-unclocked : (r : Input) (n : Node) (k : Clocking) (j : ℕ) (found : Option NodeFault) → uses_clocks n ≡ false → clocking n ≡ formed k → found ≡ none → found ≡ get_elem? (node_faults r.names r.sheet (record { node = n; clocking = k })) j
 none-unclocked r n k j found u f e = e ∙ sym (ap (λ (x : List NodeFault). get_elem? x j) (no-node-faults r.names r.sheet (record { node = n; clocking = k }) u f))
-
-module _ (r : Input) (n : Node) (k : Clocking) (t : List ℕ) (m count j : ℕ) (found : Option NodeFault) (all : findings_in t m ≡ k.findings) (counted : count ≡ length (clock_faults (findings_in t m))) where
-  -- a clock fault
-  pub from-clocks : 0 < count → found ≡ get_elem? (clock_faults (findings_in t m)) j → found ≡ get_elem? (node_faults r.names r.sheet (record { node = n; clocking = k })) j
-  from-clocks h e =
-      e ∙ (ap (λ (l : List Finding). get_elem? (clock_faults l) j) all
-      ∙ (by-faults (clock_faults k.findings) (uses_clocks n) (stops.fault_of r.sheet r.names (record { node = n; clocking = k })) j (omega (arith, h, counted, ap (λ (l : List Finding). length (clock_faults l)) all))
-      ∙ ap (λ (l : List NodeFault). get_elem? l j) (sym (node-faults r.names r.sheet (record { node = n; clocking = k })))))
-
-  module _ (h : count ≤ 0) where
-    pub no-clock-fault : clock_faults k.findings ≡ []
-    no-clock-fault = none_in (clock_faults k.findings) (omega (arith, h, counted, ap (λ (l : List Finding). length (clock_faults l)) all))
-
-    -- rewriting's fault is one
-    pub none-later : 0 < j → found ≡ none → found ≡ get_elem? (node_faults r.names r.sheet (record { node = n; clocking = k })) j
-    none-later l e =
-        e ∙ sym (ap (λ (x : List NodeFault). get_elem? x j) (node-faults r.names r.sheet (record { node = n; clocking = k }))
-        ∙ (ap (λ (x : List NodeFault). get_elem? (faults_by x (uses_clocks n) (stops.fault_of r.sheet r.names (record { node = n; clocking = k }))) j) no-clock-fault
-        ∙ by-later (uses_clocks n) (stops.fault_of r.sheet r.names (record { node = n; clocking = k })) j l))
-
-    -- it is the first
-    pub from-rewriting : j ≤ 0 → uses_clocks n ≡ true → found ≡ stops.fault_of r.sheet r.names (record { node = n; clocking = k })
-        → found ≡ get_elem? (node_faults r.names r.sheet (record { node = n; clocking = k })) j
-    from-rewriting l u e =
-        let z : j ≡ 0 = omega arith in
-        e ∙ sym (ap (λ (i : ℕ). get_elem? (node_faults r.names r.sheet (record { node = n; clocking = k })) i) z
-        ∙ (ap (λ (x : List NodeFault). get_elem? x 0) (rewriting-faulty r.names r.sheet (record { node = n; clocking = k }) no-clock-fault u)
-        ∙ by_first (stops.fault_of r.sheet r.names (record { node = n; clocking = k }))))
 
 -- ---- a node whose clocks are formed, by what inference tells
 module _ (env tb : List ℕ) (M : ℕ) (n : Node) (k : Clocking) (a : Result NodeClocked TooDeep) (f : clocking n ≡ formed k) (C : ClockedOrDeep env tb M a (clocking n)) where
@@ -109,8 +85,24 @@ module _ (env tb : List ℕ) (M : ℕ) (n : Node) (k : Clocking) (a : Result Nod
       let c : ClockedOrDeep env tb M (Ok t) (clocking n) = rw e at C in
       subst (λ (x : Clocking). ClocksStand env tb M t.passes t.findings x) (same-clocking n c.0 k c.1 f) c.2
 
+-- where too deep a clock is formed, a node has none
+pub deep-unformed : (n : Node) (k : Clocking) → true ≡ is_deep (clocking n) → clocking n ≡ formed k → ⊥
+deep-unformed n k e f = true≢false (e ∙ ap is_deep f)
+
+-- an error that another stands for
+pub err-same : {A D E : Type 0} (a : Result A D) (b : Result A E) → is_ok b ≡ is_ok a → is_err b ≡ is_err a
+err-same (Ok x) (Ok y) e = refl
+err-same (Ok x) (Err y) e = absurd (true≢false (sym e))
+err-same (Err d) (Ok y) e = absurd (true≢false e)
+err-same (Err d) (Err y) e = refl
+
+pub ok-same : {A D E : Type 0} (P : A → Type 0) (Q : D → Type 0) (a : Result A D) (b : Result A E) → is_ok b ≡ is_ok a → MatchResult a (λ x. b ≡ Ok x) Q → ((x : A) → a ≡ Ok x → P x) → IfOk b P
+ok-same P Q (Ok x) b e m h = subst (λ s. IfOk s P) (sym m) (h x refl)
+ok-same P Q (Err d) (Ok y) e m h = absurd (true≢false e)
+ok-same P Q (Err d) (Err y) e m h = tt
+
 -- by the id of `condact` that the index has
-pub by-condact : (M : ℕ) (gs vs plan flags firsts holds types : List ℕ) (tys : List TypeDef) (ns : List Node) (n : Node) (g h : ℕ) (cs : List Clocked) (p q : ℕ) (o : Result Counts Found) → g ≡ h
+pub by-condact : (M : ℕ) (gs vs plan flags firsts : List ℕ) (holds : List HeldOperand) (types : List ℕ) (tys : List TypeDef) (ns : List Node) (n : Node) (g h : ℕ) (cs : List Clocked) (p q : ℕ) (o : Result Counts Found) → g ≡ h
     → PlansNode M gs vs plan flags firsts holds types tys ns n g cs p q o → PlansNode M gs vs plan flags firsts holds types tys ns n h cs p q o
 by-condact M gs vs plan flags firsts holds types tys ns n g h cs p q o e x = subst (λ (i : ℕ). PlansNode M gs vs plan flags firsts holds types tys ns n i cs p q o) e x
 
@@ -125,46 +117,59 @@ pub all-sited : (M : ℕ) (gs vs sites : List ℕ) (n : Node) (k : Clocking) (p 
 all-sited M gs vs sites n k p q f z s = s.sited (sites-alone k.findings z (node-checks n k f).shallow)
 
 -- ---- what is found in a clocked node
-module _ (x : Index) (w : Working) (holds : List ℕ) (r : Input) (n : Node) (k : Clocking) (l : NodeLayout) (t : List ℕ) (m count j : ℕ) (all : findings_in t m ≡ k.findings)
-    (counted : count ≡ length (clock_faults (findings_in t m))) (uses : uses_clocks n ≡ true) where
+module _ (r : Input) (n : Node) (k : Clocking) (t : List ℕ) (m : ℕ) (all : findings_in t m ≡ k.findings) where
   abbrev this : ClockedNode
   this = record { node = n; clocking = k }
 
-  -- a clock fault: the node has faults
-  pub found-clock : (a : NodeFound) (o : Option NodeFault) → fault_found a ≡ o → 0 < count → o ≡ get_elem? (clock_faults (findings_in t m)) j → FoundIn x w holds r this l j a
-  found-clock a o same h e =
-      let f = same ∙ from-clocks r n k t m count j o all counted h e in
-      record { fault = f; sited = λ z none. absurd (faulty none); planned = λ s z c. absurd (faulty (none-first (node_faults r.names r.sheet this) j z (sym f ∙ ap fault_found c))) }
-    where
-      faulty : node_faults r.names r.sheet this ≡ [] → ⊥
-      faulty clean = omega (arith, h, counted, ap (λ (x : List Finding). length (clock_faults x)) all, ap length (faultless r.names r.sheet this clean).0)
+  -- a fault behind the first
+  pub found-later : (j : ℕ) (found : Option NodeFault) → 0 < j → found ≡ get_elem? (clock_faults (findings_in t m)) j → found ≡ get_elem? (node_faults r.names r.sheet this) j
+  found-later j found h e =
+      e ∙ (ap (λ (l : List Finding). get_elem? (clock_faults l) j) all
+      ∙ (later-faults (clock_faults k.findings) (uses_clocks n) (stops.fault_of r.sheet r.names this) j h
+      ∙ ap (λ (l : List NodeFault). get_elem? l j) (sym (node-faults r.names r.sheet this))))
 
-  -- none but the first
-  pub found-later : (a : NodeFound) → count ≤ 0 → 0 < j → fault_found a ≡ none → FoundIn x w holds r this l j a
-  found-later a h later e = record { fault = none-later r n k t m count j (fault_found a) all counted h later e; sited = λ z none. absurd (omega arith); planned = λ s z c. absurd (omega arith) }
+  -- there is no clock fault
+  pub no-clock-fault : none ≡ get_elem? (clock_faults (findings_in t m)) 0 → clock_faults k.findings ≡ []
+  no-clock-fault e = none-first (clock_faults k.findings) 0 refl (ap (λ (l : List Finding). get_elem? (clock_faults l) 0) (sym all) ∙ sym e)
 
-  -- what planning met
-  module _ (o : Result Counts Found) (h : count ≤ 0) (first : j ≤ 0) (p : PlansNode x.source.names x.source.tags.now x.source.values.now w.chain.now w.table.now w.env.now holds w.rows.now r.sheet.types r.sheet.nodes n (condact_id r.names) k.equations l.equations.at l.equations.end o)
-      (sited : EquationsSited x.source.names x.source.tags.now x.source.values.now w.sites.now k.equations l.equations.at l.equations.end) where
-    pub found-clean : (s : Counts) → o ≡ Ok s → FoundIn x w holds r this l j (NodeFound.Clean s)
-    found-clean s e = record {
-      fault = from-rewriting r n k t m count j none all counted h first uses (sym (ap met_by e) ∙ p.met);
-      sited = λ z none. sited;
-      planned = λ s' z c. p.planned s' (e ∙ same s s' c);
-    }
+  module _ (x : Index) (w : Working) (holds : List HeldOperand) (l : NodeLayout) where
+    -- the first is a clock fault
+    pub found-clock : (f : Found) → some (node_fault_of f) ≡ get_elem? (clock_faults (findings_in t m)) 0 → FoundIn x w holds r this l (Err f)
+    found-clock f e =
+        let told =
+        e ∙ ap (λ (l : List Finding). get_elem? (clock_faults l) 0) all in
+        let first =
+        first-fault (clock_faults k.findings) (uses_clocks n) (stops.fault_of r.sheet r.names this) (node_fault_of f) told
+        ∙ ap (λ (l : List NodeFault). get_elem? l 0) (sym (node-faults r.names r.sheet this)) in
+        record {
+          fault = first;
+          sited = λ clean. absurd (none-ne-some (node_fault_of f) (sym (first ∙ ap (λ (l : List NodeFault). get_elem? l 0) clean)));
+          planned = λ s c. absurd (other f s c);
+        }
       where
-        same : (s s' : Counts) → NodeFound.Clean s ≡ NodeFound.Clean s' → ◌≡◌ {A = Result Counts Found} (Ok s) (Ok s')
-        same s s' c = cc
-
-    pub found-faulty : (f : Found) → o ≡ Err f → FoundIn x w holds r this l j (NodeFound.Faulty f)
-    found-faulty f e = record {
-      fault = from-rewriting r n k t m count j (some (node_fault_of f)) all counted h first uses (sym (ap met_by e) ∙ p.met);
-      sited = λ z none. sited;
-      planned = λ s z c. absurd (other f s c);
-    }
-      where
-        other : (f : Found) (s : Counts) → NodeFound.Faulty f ≡ NodeFound.Clean s → ⊥
+        other : (f : Found) (s : Counts) → ◌≡◌ {A = Result Counts Found} (Err f) (Ok s) → ⊥
         other f s c = cc
+
+    -- what planning met
+    pub found-planned : (o : Result Counts Found) → none ≡ get_elem? (clock_faults (findings_in t m)) 0 → uses_clocks n ≡ true
+        → PlansNode x.source.names x.source.tags.now x.source.values.now w.chain.now w.table.now w.env.now holds w.rows.now r.sheet.types r.sheet.nodes n (condact_id r.names) k.equations l.equations.at l.equations.end o
+        → EquationsSited x.source.names x.source.tags.now x.source.values.now w.sites.now k.equations l.equations.at l.equations.end → FoundIn x w holds r this l o
+    found-planned o e uses p sited =
+        record {
+          fault = p.met ∙ sym (ap (λ (x : List NodeFault). get_elem? x 0) (rewriting-faulty r.names r.sheet this (no-clock-fault e) uses) ∙ by_first (stops.fault_of r.sheet r.names this));
+          sited = λ clean. sited;
+          planned = p.planned;
+        }
+
+  -- the first, of what planning a node answers
+  pub found-first : (j : ℕ) (a : Result Counts Found) (found : code.Option Found) → j ≤ 0 → found ≡ result_err a → met_by a ≡ get_elem? (node_faults r.names r.sheet this) 0 → found_of found ≡ get_elem? (node_faults r.names r.sheet this) j
+  found-first j a found h e f =
+      let z : j ≡ 0 = omega arith in
+      ap found_of e ∙ (same a ∙ (f ∙ ap (λ (i : ℕ). get_elem? (node_faults r.names r.sheet this) i) (sym z)))
+    where
+      same : (a : Result Counts Found) → found_of (result_err a) ≡ met_by a
+      same (Ok s) = refl
+      same (Err f) = refl
 
 -- ---- node k
 module _ (t : Index) (r : Input) (ns : List ClockedNode) (h : Indexed t r) (f : clockings 0 r.sheet.nodes ≡ accepted ns) (k j : ℕ) where
@@ -186,11 +191,12 @@ laid-at t r h k n e l L F = let p = h.nodes.each.stands k n e in F p.0 (L n p.0 
 
 -- ---- node k, which has this layout
 module _ (t : Index) (k : ℕ) (l : NodeLayout) (L : (n : Node) (q : ℕ) → node t.source.names (tokens_of t.source) (get_or t.nodes.at k 0) ≡ got n q → LaidNode t.source.names (tokens_of t.source) n q l) (few : k < t.nodes.count)
-    (a : NodeFound) (deep : (n : Node) (q : ℕ) → LaidNode t.source.names (tokens_of t.source) n q l → deep_found a ≡ is_deep (clocking n)) where
+    (a : Result (code.Option Found) Refusal) (refused_at : IfErr a (λ r. r ≡ Refusal.Deep k)) (deep : (n : Node) (q : ℕ) → LaidNode t.source.names (tokens_of t.source) n q l → is_err a ≡ is_deep (clocking n)) where
   -- it uses clocks
   pub met-clocked : ((r : Input) (n : Node) (q : ℕ) (c : Clocking) → Indexed t r → LaidNode t.source.names (tokens_of t.source) n q l → clocking n ≡ formed c → fault_found a ≡ get_elem? (node_faults r.names r.sheet (record { node = n; clocking = c })) 0)
       → NodeMet t k a
   met-clocked fault = record {
+    refused_at = refused_at;
     deep = λ r n h here. laid-at t r h k n here l L (deep n);
     fault = λ r ns h f. at-node t r ns h f k 0 (fault_found a) l few L (λ n q c d e. fault r n q c h d e);
   }
@@ -198,6 +204,7 @@ module _ (t : Index) (k : ℕ) (l : NodeLayout) (L : (n : Node) (q : ℕ) → no
   -- it uses none
   pub met-unclocked : ((n : Node) (q : ℕ) → LaidNode t.source.names (tokens_of t.source) n q l → uses_clocks n ≡ false) → fault_found a ≡ none → NodeMet t k a
   met-unclocked unused nothing = record {
+    refused_at = refused_at;
     deep = λ r n h here. laid-at t r h k n here l L (deep n);
     fault = λ r ns h f. at-node t r ns h f k 0 (fault_found a) l few L (λ n q c d e. none-unclocked r n c 0 (fault_found a) (unused n q d) e nothing);
   }

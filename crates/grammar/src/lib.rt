@@ -14,15 +14,16 @@ ghost use Rattle.grammar.specs.Shape.{shape_of, literal_shape, following};
 ghost use Rattle.grammar.specs.Parts.{field, names, equations, ports, body, sheet_types, sheet_nodes};
 
 mod source;
+pub mod tags;
 mod tokens;
 
 use definitions::{
     ARRAY_LENGTH, ARRAY_LEVELS, DefinitionToken, EXPRESSION_LEVELS, ExprToken, Literal,
-    MOST_DECLARED, MOST_EQUATIONS, MOST_ITEMS, MOST_LEFT, MOST_NODES, MOST_TYPES, Refusal,
-    TypeToken,
+    MOST_DECLARED, MOST_EQUATIONS, MOST_ITEMS, MOST_LEFT, MOST_NODES, MOST_TYPES, NodeKind,
+    Refusal, TypeToken,
 };
 pub use source::{Reader, Source};
-pub use tokens::{code_of, node_kind};
+pub use tokens::code_of;
 use tokens::{find_definition, find_expr, find_type};
 
 // ---- The tokens of a sheet, one at a place.
@@ -32,7 +33,7 @@ fn token_at(source: &Source<'_>, at: usize) -> Option<(u8, u32, usize)>
     ensures token { result ≡ step_at (tokens_of source.now) at }
     ensures word { IfSome result (λ t. t.1 < 2 ^ 32) }
 {
-    source.reader(at).next()
+    source.reader(at).next_token()
 }
 
 // ---- Reading a sheet's tokens in their order: document 01, "The sheet", and refusals 5 and 6.
@@ -112,7 +113,7 @@ fn read_id(source: &Source<'_>, tag: u8, at: usize) -> Result<usize, Refusal>
 fn read_name(source: &Source<'_>, at: usize) -> Result<usize, Refusal>
     ensures { result ≡ outcome (name source.now.names (tokens_of source.now) at) }
 {
-    read_id(source, 4, at)
+    read_id(source, tags::NAME, at)
 }
 
 // A token of this tag: its value.
@@ -128,7 +129,7 @@ fn read_word(source: &Source<'_>, tag: u8, at: usize) -> Result<(u32, usize), Re
 fn read_high(source: &Source<'_>, at: usize) -> Result<usize, Refusal>
     ensures { result ≡ outcome (high (tokens_of source.now) at) }
 {
-    let (_, next) = read_word(source, 5, at)?;
+    let (_, next) = read_word(source, tags::HIGH, at)?;
     Ok(next)
 }
 
@@ -157,7 +158,11 @@ fn read_kind(source: &Source<'_>, at: usize) -> Result<usize, Refusal>
 {
     let (_, next) = read_token(
         source,
-        |tag, value| if tag == 41 { node_kind(value) } else { None },
+        |tag, value| if tag == tags::KIND {
+            NodeKind::try_from(value).ok()
+        } else {
+            None
+        },
         at,
     )?;
     Ok(next)
@@ -236,13 +241,14 @@ pub fn shape_of(t: ExprToken) -> Shape
     }
 }
 
-// A name that stands there, in an expression that may be so deep, is read by one look: the place after it; else that place itself.
+// A name that stands there, in an expression that may be so deep: the place after it.
+// Stays (speed): a look at the tag; by the whole token, a sheet of 4,096 tokens without a clock takes 5 instructions in 100 more.
 #[tactic(auto, unfolding(definitions::specs::Grammar::expr, definitions::specs::Grammar::form, definitions::specs::Tokens::expr_token_of))]
 fn var_end(source: &Source<'_>, depth: u32, at: usize) -> Option<usize>
     ensures { IfSome result (λ next. Ok next ≡ outcome (expr source.now.names depth (tokens_of source.now) at)) }
 {
     match token_at(source, at) {
-        Some((54, value, next)) if 0 < depth && value < source.names => Some(next),
+        Some((tags::VAR, value, next)) if 0 < depth && value < source.names => Some(next),
         _ => None,
     }
 }
@@ -289,7 +295,7 @@ fn read_following(
 fn read_items(source: &Source<'_>, depth: u32, at: usize) -> Result<usize, Refusal>
     ensures { result ≡ outcome (following source.now.names Shape.Items (expr source.now.names depth) (tokens_of source.now) at) }
 {
-    let (n, next) = read_count(source, 3, 0, MOST_ITEMS, at)?;
+    let (n, next) = read_count(source, tags::COUNT, 0, MOST_ITEMS, at)?;
     read_exprs(source, depth, n, next)
 }
 
@@ -299,7 +305,7 @@ fn read_items(source: &Source<'_>, depth: u32, at: usize) -> Result<usize, Refus
 fn read_record(source: &Source<'_>, depth: u32, at: usize) -> Result<usize, Refusal>
     ensures { result ≡ outcome (following source.now.names Shape.Fields (expr source.now.names depth) (tokens_of source.now) at) }
 {
-    let (n, next) = read_count(source, 3, 0, MOST_ITEMS, at)?;
+    let (n, next) = read_count(source, tags::COUNT, 0, MOST_ITEMS, at)?;
     read_fields(source, depth, n, next)
 }
 
@@ -319,7 +325,7 @@ fn read_cast(source: &Source<'_>, depth: u32, at: usize) -> Result<usize, Refusa
 fn read_iteration(source: &Source<'_>, depth: u32, at: usize) -> Result<usize, Refusal>
     ensures { result ≡ outcome (following source.now.names Shape.Iteration (expr source.now.names depth) (tokens_of source.now) at) }
 {
-    let (n, start) = read_count(source, 3, 0, 1, at)?;
+    let (n, start) = read_count(source, tags::COUNT, 0, 1, at)?;
     let next = read_exprs(source, depth, n, start)?;
     read_items(source, depth, next)
 }
@@ -384,7 +390,7 @@ fn read_probe(source: &Source<'_>, at: usize) -> Result<usize, Refusal>
 fn read_names(source: &Source<'_>, low: u32, most: u32, at: usize) -> Result<usize, Refusal>
     ensures { result ≡ outcome (names source.now.names low most (tokens_of source.now) at) }
 {
-    let (n, first) = read_count(source, 3, low, most, at)?;
+    let (n, first) = read_count(source, tags::COUNT, low, most, at)?;
     read_times(n, |place| read_name(source, place), first)
 }
 
@@ -393,7 +399,7 @@ fn read_names(source: &Source<'_>, low: u32, most: u32, at: usize) -> Result<usi
 fn read_declarations(source: &Source<'_>, most: u32, at: usize) -> Result<(u32, usize), Refusal>
     ensures { result ≡ listed (declarations source.now.names most (tokens_of source.now) at) }
 {
-    let (n, first) = read_count(source, 3, 0, most, at)?;
+    let (n, first) = read_count(source, tags::COUNT, 0, most, at)?;
     let end = read_times(n, |place| read_declaration(source, place), first)?;
     Ok((n, end))
 }
@@ -429,7 +435,7 @@ fn read_equation(source: &Source<'_>, at: usize) -> Result<usize, Refusal>
 fn read_equations(source: &Source<'_>, at: usize) -> Result<usize, Refusal>
     ensures { result ≡ outcome (equations source.now.names (tokens_of source.now) at) }
 {
-    let (n, first) = read_count(source, 3, 0, EQUATIONS, at)?;
+    let (n, first) = read_count(source, tags::COUNT, 0, EQUATIONS, at)?;
     read_times(n, |place| read_equation(source, place), first)
 }
 
@@ -450,7 +456,7 @@ fn read_body(source: &Source<'_>, at: usize) -> Result<usize, Refusal>
     ensures { result ≡ outcome (body source.now.names (tokens_of source.now) at) }
 {
     let next = read_equations(source, at)?;
-    let (n, first) = read_count(source, 3, 0, MOST_ITEMS, next)?;
+    let (n, first) = read_count(source, tags::COUNT, 0, MOST_ITEMS, next)?;
     read_times(n, |place| read_probe(source, place), first)
 }
 
@@ -459,7 +465,7 @@ fn read_body(source: &Source<'_>, at: usize) -> Result<usize, Refusal>
 fn read_node(source: &Source<'_>, at: usize) -> Result<usize, Refusal>
     ensures { result ≡ outcome (node source.now.names (tokens_of source.now) at) }
 {
-    let kind = read_id(source, 40, at)?;
+    let kind = read_id(source, tags::NODE, at)?;
     let interface = read_kind(source, kind)?;
     let body = read_interface(source, interface)?;
     read_body(source, body)
@@ -470,7 +476,7 @@ fn read_node(source: &Source<'_>, at: usize) -> Result<usize, Refusal>
 fn read_types(source: &Source<'_>, at: usize) -> Result<usize, Refusal>
     ensures { result ≡ outcome (sheet_types source.now.names (tokens_of source.now) at) }
 {
-    let (n, first) = read_count(source, 1, 0, TYPES, at)?;
+    let (n, first) = read_count(source, tags::TYPES, 0, TYPES, at)?;
     read_times(n, |place| read_definition(source, place), first)
 }
 
@@ -479,7 +485,7 @@ fn read_types(source: &Source<'_>, at: usize) -> Result<usize, Refusal>
 fn read_nodes(source: &Source<'_>, at: usize) -> Result<usize, Refusal>
     ensures { result ≡ outcome (sheet_nodes source.now.names (tokens_of source.now) at) }
 {
-    let (n, first) = read_count(source, 2, 0, NODES, at)?;
+    let (n, first) = read_count(source, tags::NODES, 0, NODES, at)?;
     read_times(n, |place| read_node(source, place), first)
 }
 

@@ -37,7 +37,7 @@ impl<'a, 'b> Reader<'a, 'b> {
     ghost use Rattle.grammar.specs.Step.{step_at};
 
     // What stands at the reader's place: a token's tag and value, and the next place.
-    pub fn next(&self) -> Option<(u8, u32, usize)>
+    pub(crate) fn next_token(&self) -> Option<(u8, u32, usize)>
         ensures token { result ≡ step_at (tokens self.now.tags.now self.now.values.now) self.now.at }
         ensures word { IfSome result (λ t. t.1 < 2 ^ 32) }
     {

@@ -3,22 +3,17 @@
 
 ghost use Rattle.std.specs.Prelude.{◌≡◌, ℕ, ◌+◌, ◌≤◌, ◌<◌};
 ghost use Rattle.std.proofs.Math.Option.{some};
-ghost use Rattle.definitions.specs.Tokens.{primitive_of, kind_of, type_token_of, definition_token_of, expr_token_of, literal_code, type_code, definition_code, expr_code, tag_of, value_of};
+ghost use Rattle.definitions.specs.Tokens.{primitive_of, type_token_of, definition_token_of, expr_token_of, literal_code, type_code, definition_code, expr_code, tag_of, value_of};
 ghost use Rattle.grammar.specs.Found.{option_of};
 ghost use Rattle.grammar.specs.Pair.{pair};
 
+use crate::tags;
 use definitions::{
-    BinOp, DefinitionToken, ExprToken, Literal, NodeKind, Primitive, Token, TypeToken, UnaryOp,
+    BinOp, DefinitionToken, ExprToken, Literal, Primitive, Token, TypeToken, UnaryOp,
 };
 
-// The kind of a node that a value says, if it says one.
-pub fn node_kind(value: u32) -> Option<NodeKind>
-    ensures { option_of result ≡ kind_of value }
-{
-    NodeKind::try_from(value).ok()
-}
-
 // "20 to 31 the types Bool to Char in the Rust's order": the type at a place of that order, Bool at 0.
+// Stays (no plainer): a `TryFrom` has the same twelve arms, and one more for what the range in `find_type` has ruled out.
 #[tactic(auto, unfolding(definitions::specs::Tokens::primitive_of))]
 fn primitive_at(place: u8) -> Primitive
     requires { place ≤ 11 }
@@ -47,8 +42,8 @@ fn definition_token(tag: u8, value: u32) -> DefinitionToken
     ensures { (M : ℕ) → value < M → definition_token_of M tag value ≡ some result }
 {
     match tag {
-        10 => DefinitionToken::Enum(value),
-        11 => DefinitionToken::Record(value),
+        tags::ENUM => DefinitionToken::Enum(value),
+        tags::RECORD => DefinitionToken::Record(value),
         _ => DefinitionToken::Alias(value),
     }
 }
@@ -59,7 +54,7 @@ pub(crate) fn find_definition(names: u32, tag: u8, value: u32) -> Option<Definit
     ensures { option_of result ≡ definition_token_of names tag value }
 {
     match tag {
-        10..=12 if value < names => Some(definition_token(tag, value)),
+        tags::ENUM..=tags::ALIAS if value < names => Some(definition_token(tag, value)),
         _ => None,
     }
 }
@@ -70,9 +65,11 @@ pub(crate) fn find_type(names: u32, tag: u8, value: u32) -> Option<TypeToken>
     ensures { option_of result ≡ type_token_of names tag value }
 {
     match tag {
-        20..=31 if value == 0 => Some(TypeToken::Basic(primitive_at(tag - 20))),
-        32 => Some(TypeToken::Array(value)),
-        33 => (value < names).then_some(TypeToken::Named(value)),
+        tags::FIRST_TYPE..=tags::LAST_TYPE if value == 0 => {
+            Some(TypeToken::Basic(primitive_at(tag - tags::FIRST_TYPE)))
+        }
+        tags::ARRAY_TYPE => Some(TypeToken::Array(value)),
+        tags::NAMED_TYPE => (value < names).then_some(TypeToken::Named(value)),
         _ => None,
     }
 }
@@ -84,27 +81,27 @@ fn expr_token(names: u32, tag: u8, value: u32) -> Option<ExprToken>
     ensures { option_of result ≡ expr_token_of names tag value }
 {
     match tag {
-        50 => (value < 2).then_some(ExprToken::Const(Literal::Bool(value))),
-        51 => Some(ExprToken::Const(Literal::Int(value))),
-        52 => Some(ExprToken::Const(Literal::Float(value))),
-        53 => (value < 256).then_some(ExprToken::Const(Literal::Char(value))),
-        54 => (value < names).then_some(ExprToken::Var(value)),
-        55 => UnaryOp::try_from(value).ok().map(ExprToken::Unary),
-        56 => BinOp::try_from(value).ok().map(ExprToken::Binary),
-        57 => (value == 0).then_some(ExprToken::If),
-        58 => (value == 0).then_some(ExprToken::Pre),
-        59 => (value == 0).then_some(ExprToken::Arrow),
-        60 => (value < names).then_some(ExprToken::Call(value)),
-        61 => (value < names).then_some(ExprToken::Field(value)),
-        62 => (value == 0).then_some(ExprToken::Index),
-        63 => (value == 0).then_some(ExprToken::Tuple),
-        64 => (value == 0).then_some(ExprToken::Array),
-        65 => (value < names).then_some(ExprToken::Struct(value)),
-        66 => (value == 0).then_some(ExprToken::Cast),
-        67 => (value < names).then_some(ExprToken::When(value)),
-        68 => (value < names).then_some(ExprToken::WhenNot(value)),
-        69 => (value < names).then_some(ExprToken::Merge(value)),
-        70 => (value < names).then_some(ExprToken::Map(value)),
+        tags::BOOL => (value < 2).then_some(ExprToken::Const(Literal::Bool(value))),
+        tags::INT => Some(ExprToken::Const(Literal::Int(value))),
+        tags::FLOAT => Some(ExprToken::Const(Literal::Float(value))),
+        tags::CHAR => (value < 256).then_some(ExprToken::Const(Literal::Char(value))),
+        tags::VAR => (value < names).then_some(ExprToken::Var(value)),
+        tags::UNARY => UnaryOp::try_from(value).ok().map(ExprToken::Unary),
+        tags::BINARY => BinOp::try_from(value).ok().map(ExprToken::Binary),
+        tags::IF => (value == 0).then_some(ExprToken::If),
+        tags::PRE => (value == 0).then_some(ExprToken::Pre),
+        tags::ARROW => (value == 0).then_some(ExprToken::Arrow),
+        tags::CALL => (value < names).then_some(ExprToken::Call(value)),
+        tags::FIELD => (value < names).then_some(ExprToken::Field(value)),
+        tags::INDEX => (value == 0).then_some(ExprToken::Index),
+        tags::TUPLE => (value == 0).then_some(ExprToken::Tuple),
+        tags::ARRAY => (value == 0).then_some(ExprToken::Array),
+        tags::STRUCT => (value < names).then_some(ExprToken::Struct(value)),
+        tags::CAST => (value == 0).then_some(ExprToken::Cast),
+        tags::WHEN => (value < names).then_some(ExprToken::When(value)),
+        tags::WHEN_NOT => (value < names).then_some(ExprToken::WhenNot(value)),
+        tags::MERGE => (value < names).then_some(ExprToken::Merge(value)),
+        tags::MAP => (value < names).then_some(ExprToken::Map(value)),
         _ => (value < names).then_some(ExprToken::Fold(value)),
     }
 }
@@ -115,7 +112,7 @@ pub(crate) fn find_expr(names: u32, tag: u8, value: u32) -> Option<ExprToken>
     ensures { option_of result ≡ expr_token_of names tag value }
 {
     match tag {
-        50..=71 => expr_token(names, tag, value),
+        tags::BOOL..=tags::FOLD => expr_token(names, tag, value),
         _ => None,
     }
 }
@@ -128,10 +125,10 @@ fn literal_code(l: Literal) -> (u8, u32)
     ensures { result ≡ pair (literal_code l) }
 {
     match l {
-        Literal::Bool(v) => (50, v),
-        Literal::Int(v) => (51, v),
-        Literal::Float(v) => (52, v),
-        Literal::Char(v) => (53, v),
+        Literal::Bool(v) => (tags::BOOL, v),
+        Literal::Int(v) => (tags::INT, v),
+        Literal::Float(v) => (tags::FLOAT, v),
+        Literal::Char(v) => (tags::CHAR, v),
     }
 }
 
@@ -141,9 +138,9 @@ fn type_code(t: TypeToken) -> (u8, u32)
     ensures { result ≡ pair (type_code t) }
 {
     match t {
-        TypeToken::Basic(p) => (20 + p as u8, 0),
-        TypeToken::Array(n) => (32, n),
-        TypeToken::Named(x) => (33, x),
+        TypeToken::Basic(p) => (tags::FIRST_TYPE + p as u8, 0),
+        TypeToken::Array(n) => (tags::ARRAY_TYPE, n),
+        TypeToken::Named(x) => (tags::NAMED_TYPE, x),
     }
 }
 
@@ -153,9 +150,9 @@ fn definition_code(t: DefinitionToken) -> (u8, u32)
     ensures { result ≡ pair (definition_code t) }
 {
     match t {
-        DefinitionToken::Enum(x) => (10, x),
-        DefinitionToken::Record(x) => (11, x),
-        DefinitionToken::Alias(x) => (12, x),
+        DefinitionToken::Enum(x) => (tags::ENUM, x),
+        DefinitionToken::Record(x) => (tags::RECORD, x),
+        DefinitionToken::Alias(x) => (tags::ALIAS, x),
     }
 }
 
@@ -166,24 +163,24 @@ fn expr_code(t: ExprToken) -> (u8, u32)
 {
     match t {
         ExprToken::Const(l) => literal_code(l),
-        ExprToken::Var(x) => (54, x),
-        ExprToken::Unary(o) => (55, o as u32),
-        ExprToken::Binary(o) => (56, o as u32),
-        ExprToken::If => (57, 0),
-        ExprToken::Pre => (58, 0),
-        ExprToken::Arrow => (59, 0),
-        ExprToken::Call(x) => (60, x),
-        ExprToken::Field(x) => (61, x),
-        ExprToken::Index => (62, 0),
-        ExprToken::Tuple => (63, 0),
-        ExprToken::Array => (64, 0),
-        ExprToken::Struct(x) => (65, x),
-        ExprToken::Cast => (66, 0),
-        ExprToken::When(x) => (67, x),
-        ExprToken::WhenNot(x) => (68, x),
-        ExprToken::Merge(x) => (69, x),
-        ExprToken::Map(x) => (70, x),
-        ExprToken::Fold(x) => (71, x),
+        ExprToken::Var(x) => (tags::VAR, x),
+        ExprToken::Unary(o) => (tags::UNARY, o as u32),
+        ExprToken::Binary(o) => (tags::BINARY, o as u32),
+        ExprToken::If => (tags::IF, 0),
+        ExprToken::Pre => (tags::PRE, 0),
+        ExprToken::Arrow => (tags::ARROW, 0),
+        ExprToken::Call(x) => (tags::CALL, x),
+        ExprToken::Field(x) => (tags::FIELD, x),
+        ExprToken::Index => (tags::INDEX, 0),
+        ExprToken::Tuple => (tags::TUPLE, 0),
+        ExprToken::Array => (tags::ARRAY, 0),
+        ExprToken::Struct(x) => (tags::STRUCT, x),
+        ExprToken::Cast => (tags::CAST, 0),
+        ExprToken::When(x) => (tags::WHEN, x),
+        ExprToken::WhenNot(x) => (tags::WHEN_NOT, x),
+        ExprToken::Merge(x) => (tags::MERGE, x),
+        ExprToken::Map(x) => (tags::MAP, x),
+        ExprToken::Fold(x) => (tags::FOLD, x),
     }
 }
 
@@ -193,15 +190,15 @@ pub fn code_of(t: Token) -> (u8, u32)
     ensures { result ≡ (tag_of t, value_of t) }
 {
     match t {
-        Token::Types(n) => (1, n),
-        Token::Nodes(n) => (2, n),
-        Token::Count(n) => (3, n),
-        Token::Name(x) => (4, x),
-        Token::High(w) => (5, w),
+        Token::Types(n) => (tags::TYPES, n),
+        Token::Nodes(n) => (tags::NODES, n),
+        Token::Count(n) => (tags::COUNT, n),
+        Token::Name(x) => (tags::NAME, x),
+        Token::High(w) => (tags::HIGH, w),
         Token::Definition(d) => definition_code(d),
         Token::Type(y) => type_code(y),
-        Token::Node(x) => (40, x),
-        Token::Kind(k) => (41, k as u32),
+        Token::Node(x) => (tags::NODE, x),
+        Token::Kind(k) => (tags::KIND, k as u32),
         Token::Expression(e) => expr_code(e),
     }
 }

@@ -1,6 +1,6 @@
 -- The first node of a name, and what its tokens say.
 -- Assumes nothing.
-use Rattle.std.specs.Prelude.{Option, Some, None, ◌==◌, position}
+use Rattle.std.specs.Prelude.{Option, Some, None, Result, Ok, ◌==◌, position}
 use Rattle.std.specs.Option.{is_some}
 use mathlib.Core.Path.{◌≡◌, refl, sym, ◌∙◌, ap}
 use mathlib.Core.List.{List, [], ◌∷◌}
@@ -13,13 +13,13 @@ use lib.Dec.{eqb}
 use lib.ListN.{length, get_or, get_elem?, take}
 use Rattle.definitions.specs.declared.NodeKind.{NodeKind}
 use Rattle.definitions.specs.Lists.{choose, find, place_by}
-use Rattle.definitions.specs.Tokens.{kind_of}
+use Rattle.definitions.specs.declared.values.UnknownValue.{UnknownValue}
+use Rattle.definitions.specs.Tokens.{converted, kind_of}
 use Rattle.definitions.specs.Bytes.{tokens}
 use Rattle.definitions.specs.Tree.{Node}
 use Rattle.definitions.specs.Reading.{got}
 use Rattle.definitions.specs.Grammar.{declaration, equation, probe, node}
 use Rattle.definitions.specs.Declock.{is_operator_kind, operator_outputs}
-use Rattle.grammar.specs.Found.{option_of}
 use Rattle.grammar.specs.Read.{tokens_of}
 use Rattle.layout.specs.declared.Span.{Span}
 use Rattle.layout.specs.Spans.{past_in, kind_in, kind_or, Spanned, Spans}
@@ -60,8 +60,8 @@ module _ (f : ℕ) (l : List Node) where
   node-called i e h = rw (find_at (λ (m : Node). eqb m.name f) l ∙ (ap (get_elem? l) (sym e) ∙ get_at l i h), operator_outputs)
 
 -- ---- the kind that a value says
-pub says-kind : (v : ℕ) (o : Option NodeKind) (k : NodeKind) → option_of o ≡ kind_of v → o ≡ Some k → operator_in v ≡ is_operator_kind k
-says-kind v o k e g = sym (ap (λ (z : logic.Option NodeKind). is_operator_kind (kind_or z)) (ap option_of (sym g) ∙ e))
+pub says-kind : (v : ℕ) (r : Result NodeKind UnknownValue) (k : NodeKind) → converted r ≡ kind_of v → r ≡ Ok k → operator_in v ≡ is_operator_kind k
+says-kind v r k e g = sym (ap (λ (z : logic.Option NodeKind). is_operator_kind (kind_or z)) (ap converted (sym g) ∙ e))
 
 -- ---- what stands at a node's place
 -- M is the number of names
@@ -120,8 +120,8 @@ module _ (t : Index) (l : List Node) (s : NodesIn t l) where
 
   pub operator-called : (f : ℕ) (r : Option ℕ) (p : ℕ) → OperatorStands t f l r → r ≡ Some p → (b : ℕ) (s o : Span) → b ≡ past_in (length t.source.tags.now) p →
       Spanned (declaration t.source.names) t.source.tags.now t.source.values.now b s → Spanned (declaration t.source.names) t.source.tags.now t.source.values.now s.end o →
-      OutputsStand t.source.names (tokens_of t.source) (operator_outputs l f) (Some (o.at, o.count))
+      OutputsStand t.source.names (tokens_of t.source) (operator_outputs l f) (Some o)
   unfolding OutputsStand
   operator-called f r p h e b s o eb ei eo =
       let k : OperatorStands t f l (Some p) = rw e at h in
-      rw (operator-named f k.0 k.2 k.1 p k.3 k.4) (_, ((at_place k.0 k.1).2 p b s o k.3 eb ei eo).items)
+      rw (operator-named f k.0 k.2 k.1 p k.3 k.4) ((at_place k.0 k.1).2 p b s o k.3 eb ei eo)

@@ -5,10 +5,10 @@ use Rattle.definitions.specs.Lists.{place_by}
 use Rattle.definitions.specs.Tokens.{TagValue}
 use Rattle.definitions.specs.Bytes.{tokens}
 use Rattle.definitions.specs.Tree.{Declared, Node}
-use Rattle.definitions.specs.Reading.{got, times}
 use Rattle.definitions.specs.Grammar.{declaration, node}
 use Rattle.definitions.specs.Declock.{is_operator_kind}
-use Rattle.layout.specs.Spans.{kind_in}
+use Rattle.layout.specs.Spans.{kind_in, Spans}
+use Rattle.layout.specs.declared.Span.{Span}
 use Rattle.layout.specs.Laid.{Places}
 use Rattle.std.specs.declared.option.Option as code
 use Rattle.std.specs.declared.option.Option.TheVariants.{None, Some}
@@ -32,8 +32,8 @@ pub record NodesStand (M : ℕ) (gs vs places : List ℕ) (n : ℕ) (l : List No
   pub each : Places (node M) (tokens gs vs) places l
 
 -- an operator's outputs stand where the answer says; anything else has none
-unfoldable pub OutputsStand : ℕ → List TagValue → Option (List Declared) → code.Option (ℕ × ℕ) → Type 0
-OutputsStand M ts none (Some (p, k)) = ⊥
+unfoldable pub OutputsStand : ℕ → List TagValue → Option (List Declared) → code.Option Span → Type 0
+OutputsStand M ts none (Some s) = ⊥
 OutputsStand M ts none None = Unit {0}
-OutputsStand M ts (some ds) (Some (p, k)) = (q : ℕ) × (times k (declaration M) ts p ≡ got ds q)
+OutputsStand M ts (some ds) (Some s) = Spans (declaration M) ts ds s
 OutputsStand M ts (some ds) None = ⊥

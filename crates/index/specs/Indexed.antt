@@ -21,7 +21,8 @@ NodesIn t l = NodesStand t.source.names t.source.tags.now t.source.values.now t.
 abbrev pub OperatorStands : Index → ℕ → List Node → Option ℕ → Type 0
 OperatorStands t f l None = operator_outputs l f ≡ none
 OperatorStands t f l (Some p) =
-    (i : ℕ) × (i < length l) × (i ≡ first_named f l) × (p ≡ past_in (length t.source.tags.now) (get_or t.nodes.at i 0)) × (operator_in (get_or t.source.values.now p 0) ≡ true)
+    (i : ℕ) × (i < length l) × (i ≡ first_named f l)
+    × (p ≡ past_in (length t.source.tags.now) (get_or t.nodes.at i 0)) × (operator_in (get_or t.source.values.now p 0) ≡ true)
 
 -- the sheet r in its index: its nodes and its types' definitions stand where this says, which of the definitions have a default, and
 -- the id of `condact` among its names

@@ -12,9 +12,10 @@ ghost use Rattle.definitions.specs.Answer.{Input};
 ghost use Rattle.index.specs.Callees.{operator_in, is_there, OutputsStand};
 ghost use Rattle.index.specs.Indexed.{NodesIn, OperatorStands, Indexed};
 
+use cycles::TypeTable;
 use definitions::{MOST_NODES, MOST_TYPES, NodeKind};
 use grammar::Source;
-use layout::{PlaceTable, SheetLayout};
+use layout::{PlaceTable, SheetLayout, Span};
 
 // ---- The index of an accepted sheet, made once a question, and what a called name is by it: whether it is an operator, and where that
 // operator's outputs stand.
@@ -40,7 +41,11 @@ pub fn index_of<'a>(source: &Source<'a>, condact: u32) -> Index<'a>
     let t = whole.types;
     let n = whole.nodes;
     let types = layout::definition_places(source, MOST_TYPES.min(t.count as usize), t.at);
-    let has = defaults::has_defaults(source, &types);
+    let table = TypeTable {
+        source: *source,
+        places: &types,
+    };
+    let has = defaults::has_defaults(&table);
     let nodes = layout::node_places(source, MOST_NODES.min(n.count as usize), n.at);
     Index {
         source: *source,
@@ -56,10 +61,20 @@ pub fn index_of<'a>(source: &Source<'a>, condact: u32) -> Index<'a>
 fn says_operator(value: u32) -> bool
     ensures { result ≡ operator_in value }
 {
-    matches!(grammar::node_kind(value), Some(NodeKind::Operator))
+    matches!(NodeKind::try_from(value), Ok(NodeKind::Operator))
 }
 
-impl Index<'_> {
+impl<'a> Index<'a> {
+    // The definitions of the sheet's types.
+    pub fn type_table<'b>(&'b self) -> TypeTable<'a, 'b>
+        ensures { (result.source ≡ self.now.source) × (result.places.now ≡ self.now.types) }
+    {
+        TypeTable {
+            source: self.source,
+            places: &self.types,
+        }
+    }
+
     // The place of the second token of the first node of a name, where it is an operator.
     fn operator_named(&self, f: u32) -> Option<usize>
         ensures { (l : List Node) → NodesIn self.now l → OperatorStands self.now f l result }
@@ -81,13 +96,12 @@ impl Index<'_> {
         self.operator_named(f).is_some()
     }
 
-    // The outputs of the operator that this name calls: where the first is declared, and how many there are.
-    pub fn operator_of(&self, f: u32) -> Option<(usize, u32)>
+    // The outputs of the operator that this name calls.
+    pub fn operator_of(&self, f: u32) -> Option<Span>
         ensures { (l : List Node) → NodesIn self.now l → OutputsStand self.now.source.names (tokens_of self.now.source) (operator_outputs l f) result }
     {
         let second = self.operator_named(f)?;
         let inputs = layout::declared_at(&self.source, layout::behind(self.source.tags, second));
-        let outputs = layout::declared_at(&self.source, inputs.end);
-        Some((outputs.at, outputs.count))
+        Some(layout::declared_at(&self.source, inputs.end))
     }
 }

@@ -351,7 +351,7 @@ pub record Ahead (i : ℕ) (rest : List Node) (v : Answer (List ClockedNode)) : 
   pub sunk : (j : ℕ) → clockings i rest ≡ refused (Refusal.Deep j) → v ≡ refused (Refusal.Deep j)
   pub fine : (l : List ClockedNode) → clockings i rest ≡ accepted l → (k : List ClockedNode) × (v ≡ accepted k)
 
-pub ahead-start : (ns : List Node) → Ahead 0 ns (clockings 0 ns)
+pub ahead-start : {i : ℕ} (ns : List Node) → Ahead i ns (clockings i ns)
 ahead-start ns = record { sunk = λ j e. e; fine = λ l e. (l, e) }
 
 module _ (i : ℕ) (rest : List Node) (v : Answer (List ClockedNode)) (h : Ahead i rest v) where
@@ -377,9 +377,9 @@ pub record Nodes (M : ℕ) (ts : List TagValue) (left i place q : ℕ) (v : Answ
   pub items : times left (node M) ts place ≡ got rest q
   pub ahead : Ahead i rest v
 
-pub nodes-start : (M : ℕ) (ts : List TagValue) (count at q : ℕ) (ns : List Node) → times count (node M) ts at ≡ got ns q → Nodes M ts (count - 0) 0 at q (clockings 0 ns)
-nodes-start M ts count at q ns g =
-    let k : count - 0 ≡ count = omega arith in
+pub nodes-start : (M : ℕ) (ts : List TagValue) (i count at q : ℕ) (ns : List Node) → times count (node M) ts at ≡ got ns q → Nodes M ts (i + count - i) i at q (clockings i ns)
+nodes-start M ts i count at q ns g =
+    let k : i + count - i ≡ count = omega arith in
     record { rest = ns; items = rw k g; ahead = ahead-start ns }
 
 pub nodes-end : (M : ℕ) (ts : List TagValue) (left i place q : ℕ) (v : Answer (List ClockedNode)) → left ≡ 0 → Nodes M ts left i place q v → Deeply q (Ok place) v
@@ -400,7 +400,7 @@ module _ (M : ℕ) (ts : List TagValue) (count i place q : ℕ) (v : Answer (Lis
       let u : count - (i + 1) ≡ count - i - 1 = omega arith in
       record { rest = c.2; items = rw (d.ends, u) c.4; ahead = ahead_step i h.rest v h.ahead c.0 c.2 c.5 b (E c.0 c.1 d) j }
 
-  pub nodes-deep : b ≡ true → Deeply q (Err i) v
+  pub nodes-deep : b ≡ true → Deeply q (Err (Refusal.Deep i)) v
   unfolding Deeply
   nodes-deep j =
       let c = times-cons (node M) ts (count - i) place h.rest q (λ y. omega (arith, y)) h.items in

@@ -63,7 +63,7 @@ unfoldable pub ClockedOrDeep : List ℕ → List ℕ → ℕ → Result NodeCloc
 ClockedOrDeep env t m (Err d) v = v ≡ deep
 ClockedOrDeep env t m (Ok c) v = (k : Clocking) × (v ≡ formed k) × ClocksStand env t m c.passes c.findings k
 
--- q, where the nodes end; or the first in which too deep a clock is formed
-unfoldable pub Deeply : ℕ → Result ℕ ℕ → Answer (List ClockedNode) → Type 0
-Deeply q (Err i) v = v ≡ refused (Refusal.Deep i)
+-- q, where the nodes end; or the refusal of the first in which too deep a clock is formed
+unfoldable pub Deeply : ℕ → Result ℕ Refusal → Answer (List ClockedNode) → Type 0
+Deeply q (Err r) v = v ≡ refused r
 Deeply q (Ok p) v = (p ≡ q) × (l : List ClockedNode) × (v ≡ accepted l)

@@ -2,7 +2,7 @@
 // `env` has seventeen words a name, `marks` has a mark a name, `table` thirty-eight words a token, `sites` seventeen words a token.
 #![tactic(auto)]
 
-ghost use Rattle.std.specs.Prelude.{◌≡◌, List, ◌++◌, true, ℕ, ◌*◌, ◌≤◌, ◌<◌, length, get_or, IsOk};
+ghost use Rattle.std.specs.Prelude.{◌≡◌, List, ◌++◌, true, ℕ, ◌+◌, ◌*◌, ◌≤◌, ◌<◌, length, get_or, IsOk};
 ghost use Rattle.std.proofs.Math.Option.{Option};
 ghost use Rattle.grammar.specs.Read.{tokens_of};
 ghost use Rattle.definitions.specs.Lists.{join, numbered};
@@ -18,14 +18,16 @@ ghost use Rattle.clock_tables.specs.Environment.{Agrees};
 ghost use Rattle.clock_tables.specs.Rows.{RowsHold};
 ghost use Rattle.findings.specs.Findings.{findings_in, FindingsHeld};
 ghost use Rattle.spelling.specs.Places.{letters_in};
-ghost use Rattle.chain_order.specs.Order.{row_of, picked};
+ghost use Rattle.chain_order.specs.Order.{ordered_clocks};
 ghost use Rattle.operands.specs.Spread.{tree};
 ghost use Rattle.layout.specs.Laid.{LaidNode};
 ghost use Rattle.checking.specs.Walk.{PortMarks, EquationStored, Stays};
 ghost use Rattle.infer_clocks.specs.Clocked.{is_deep, found_in, found_from, joined, Tallied, Counted, ClockedOrDeep, Deeply, SitesTold};
 
+use chain_order::OrderedClocks;
 use checking::{CheckInput, CheckOutput};
 use clock_tables::{Clock, ClockTable, TooDeep};
+use definitions::Refusal;
 use findings::{FindingList, Findings};
 use grammar::Source;
 use layout::{NodeLayout, Span};
@@ -98,6 +100,8 @@ fn check_node(
 }
 
 // The clocks of a node with this layout.
+// Stays (proof): four tables, here and below: of those lent from behind `Working` into a struct (tried: query `write_listing`) no length is
+// known when they come back.
 pub fn clock_laid(
     source: &Source<'_>,
     l: NodeLayout,
@@ -145,24 +149,27 @@ fn deep_laid(
         && clock_laid(source, l, env, marks, table, sites).is_err()
 }
 
-// Where so many nodes end, the first of which stands there; or the number of the first in which too deep a clock is formed.
+// Where so many nodes end, the first of which stands there and has this number; or refusal 9 at the first in which too deep a clock is
+// formed.
 // Stays (no plainer): a count and a place, for nodes before or behind one that is asked about: no part of a sheet, which a `Span` is.
 pub fn first_deep(
     source: &Source<'_>,
+    number: u32,
     count: u32,
     at: usize,
     env: &mut [u32],
     marks: &mut [bool],
     table: &mut [u32],
     sites: &mut [u32],
-) -> Result<usize, u32>
-    ensures { (ns : List Node) (q : ℕ) → times count (node source.now.names) (tokens_of source.now) at ≡ got ns q → 17 * source.now.names ≤ length env.old → source.now.names ≤ length marks.old → 38 * length source.now.tags.now ≤ length table.old → Deeply q result (clockings 0 ns) }
+) -> Result<usize, Refusal>
+    ensures { (ns : List Node) (q : ℕ) → times count (node source.now.names) (tokens_of source.now) at ≡ got ns q → 17 * source.now.names ≤ length env.old → source.now.names ≤ length marks.old → 38 * length source.now.tags.now ≤ length table.old → Deeply q result (clockings number ns) }
 {
+    let first = number as usize;
     let mut place = at;
-    for i in 0..count {
+    for k in first..first + count as usize {
         let l = layout::node_at(source, place);
         if deep_laid(source, l, env, marks, table, sites) {
-            return Err(i);
+            return Err(Refusal::Deep(k));
         }
         place = l.end;
     }
@@ -182,21 +189,21 @@ fn site_rows(findings: FindingList<'_>, rows: &mut [u32]) -> usize
     sites.count
 }
 
-// The chains of a node by its findings, in order: how many there are, and which rows.
-pub fn chain_rows(
+// The chains of a node by its findings, in order, over the lent rows and places.
+pub fn chain_rows<'a>(
     spelling: Spelling<'_>,
     findings: FindingList<'_>,
-    rows: &mut [u32],
-    chain: &mut [u32],
-) -> usize
-    ensures { 17 * findings.entry.count ≤ length rows.old → findings.entry.count ≤ length chain.old → findings.entry.count < 4294967296 → picked (row_of rows.new) chain.new 0 result ≡ chains (letters_in spelling.entry) (findings_in findings.entry.words.now findings.entry.count) }
+    rows: &'a mut [u32],
+    chain: &'a mut [u32],
+) -> OrderedClocks<'a>
+    ensures { 17 * findings.entry.count ≤ length rows.old → findings.entry.count ≤ length chain.old → findings.entry.count < 4294967296 → ordered_clocks result ≡ chains (letters_in spelling.entry) (findings_in findings.entry.words.now findings.entry.count) }
 {
-    let count = site_rows(findings, rows);
-    if chain.len() < count {
-        return 0;
-    }
-    match u32::try_from(count) {
-        Ok(n) => chain_order::sort_rows(spelling, rows, chain, n),
-        Err(_) => 0,
+    let sites = site_rows(findings, rows).min(chain.len());
+    let n = u32::try_from(sites).unwrap_or(0);
+    let count = chain_order::sort_rows(spelling, rows, chain, n);
+    OrderedClocks {
+        rows,
+        order: chain,
+        count,
     }
 }

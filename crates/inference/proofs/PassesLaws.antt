@@ -1,6 +1,5 @@
 -- Inference step by step: ports, one name, the left names, an equation, a pass, the passes.
 -- Assumes nothing.
-use Rattle.definitions.specs.declared.Refusal.{Refusal}
 use Rattle.std.specs.Prelude.{Result, Ok, Err}
 use Prim.Native.Nat.{ℕ, zero, suc, ◌+◌, ◌-◌, ◌*◌, ◌≤◌, ◌<◌}
 use mathlib.Core.Path.{◌≡◌, refl, sym, ◌∙◌, ap, subst}
@@ -12,8 +11,9 @@ use mathlib.Core.Logic.{◌⊎◌, inl, inr}
 use native.Mathlib.Omega.{arith}
 use native.Mathlib.Numerals.{add-one}
 use lib.Dec.{eqb}
-use lib.ListN.{length, get_or, set}
-use borrow.Author.Tests.{eq-eqb, ne_eqb, eqb-true, eqb-false, lt-ltb}
+use lib.ListN.{length, get_or, set, drop, drop_of_length-le}
+use lib.Seq.{drop-cons}
+use borrow.Author.Tests.{eq-eqb, ne_eqb, eqb-true, eqb-false}
 use Rattle.std.specs.Prelude.{Result, Ok, Err}
 use Rattle.std.specs.Prelude as maybe
 use Rattle.definitions.specs.Bytes.{tokens}
@@ -34,11 +34,13 @@ use Rattle.grammar.proofs.Laws.{tokens-length}
 use Rattle.grammar.proofs.Got.{same, tagged-value, times-nil, times-cons, declaration-got}
 use Rattle.layout.proofs.TypedefsLaws.{filled_more}
 use Rattle.operands.proofs.Laws.{name-place}
-use Rattle.layout.specs.Spans.{past_in, end_of, Spanned}
-use Rattle.layout.specs.Laid.{LaidEquation}
+use Rattle.layout.specs.Spans.{end_of, Spanned}
+use Rattle.layout.specs.Laid.{LaidDeclaration, LaidEquation}
+use Rattle.layout.specs.declared.DeclarationLayout.{DeclarationLayout}
 use Rattle.layout.specs.declared.Span.{Span}
 use Rattle.layout.proofs.Laws.{laid-equation}
-use Rattle.inference.specs.Passes.{Marked, PortsPlaced, PassSoFar, on_clock, given, stepped, Infers}
+use Rattle.inference.specs.declared.PassTables.{PassTables}
+use Rattle.inference.specs.Passes.{Marked, PortsPlaced, PassSoFar, Kept, on_clock, given, stepped, Infers}
 use Rattle.inference.specs.Settled.{end_from, place_of, Ended, Unchanged, Quiet, Calm, Calms, dated, dates, Moves, Turned, Gone}
 use Rattle.inference.proofs.Naming.{each-name}
 use Rattle.inference.proofs.Calm.{moves-none, moves-all, idle-step, calm-still, calm-idle, calm_free, calm-given}
@@ -107,24 +109,46 @@ module _ (M : ℕ) (gs vs : List ℕ) (same_length : length vs ≡ length gs) wh
       let e : d.name ≡ k.0 = ap name_of k.5 in
       (sym v.0 ∙ sym e, omega arith)
 
-  pub placing-step : (t : List ℕ) (p : List Bool) (t' : List ℕ) (p' : List Bool) (t₀ : List ℕ) (p₀ : List Bool) (count i place next : ℕ) (l : List Declared) (q : ℕ) (r : Result ℕ Refusal) (x : ℕ) → i < count → r ≡ outcome (declaration M (tokens gs vs) place) → r ≡ Ok next → x ≡ get_or vs place 0 →
-      ((m : ℕ) → 17 * m ≤ length t → m ≤ length p → x < m → PortsPlaced m t' p' [] t p (x ∷ [])) → 17 * M ≤ length t → M ≤ length p →
-      Placing M (tokens gs vs) t p t₀ p₀ (count - i) place l q → Placing M (tokens gs vs) t' p' t₀ p₀ (count - (i + 1)) next l q
-  placing-step t p t' p' t₀ p₀ count i place next l q r x z e b j s u v h =
-      let k = times-cons (declaration M) (tokens gs vs) (count - i) place h.rest q (λ y. omega (arith, y, z)) h.items in
-      let a : count - (i + 1) ≡ count - i - 1 = omega arith in
-      let d = declared-name place k.0 k.1 k.3 in
-      let n : k.1 ≡ next = same _ k.0 k.1 r next k.3 e b in
-      let w : PortsPlaced M t p (k.0.name ∷ map name_of k.2) t₀ p₀ (map name_of l) = rw k.5 at h.places in
-      let y : PortsPlaced M t' p' [] t p (k.0.name ∷ []) = rw (j ∙ d.0) at (s M u v (rw (j ∙ d.0) d.1)) in
-      record { rest = k.2; items = rw (a, sym n) k.4; places = places-step M t p t' p' t₀ p₀ (map name_of k.2) (map name_of l) k.0.name y w }
+  module _ (t : List ℕ) (p : List Bool) (t₀ : List ℕ) (p₀ : List Bool) (count i place : ℕ) (l : List Declared) (q : ℕ) (z : i < count) (h : Placing M (tokens gs vs) t p t₀ p₀ (count - i) place l q) where
+    -- the next declaration
+    next-read : (d : Declared) × (u : ℕ) × (rest : List Declared) × (declaration M (tokens gs vs) place ≡ got d u) × (times (count - i - 1) (declaration M) (tokens gs vs) u ≡ got rest q) × (h.rest ≡ d ∷ rest)
+    next-read = times-cons (declaration M) (tokens gs vs) (count - i) place h.rest q (λ y. omega (arith, y, z)) h.items
 
-  -- no declaration is refused
-  pub placing-none : (t : List ℕ) (p : List Bool) (t₀ : List ℕ) (p₀ : List Bool) (count i place : ℕ) (l : List Declared) (q : ℕ) (r : Result ℕ Refusal) (x : _) → i < count → r ≡ outcome (declaration M (tokens gs vs) place) → r ≡ Err x → Placing M (tokens gs vs) t p t₀ p₀ (count - i) place l q → ⊥
-  placing-none t p t₀ p₀ count i place l q r x z e b h =
-      let k = times-cons (declaration M) (tokens gs vs) (count - i) place h.rest q (λ y. omega (arith, y, z)) h.items in
-      let f : Ok k.1 ≡ Err x = sym (e ∙ ap outcome k.3) ∙ b in
-      let y : ◌≡◌ {A = ℕ} 0 1 = cc in omega arith
+    -- it is there
+    pub placing-none : ((d : Declared) (u : ℕ) → declaration M (tokens gs vs) place ≡ got d u → ⊥) → ⊥
+    placing-none gone = let k = next-read in gone k.0 k.1 k.3
+
+    pub placing-step : (t' : List ℕ) (p' : List Bool) (o : DeclarationLayout) → ((d : Declared) (u : ℕ) → declaration M (tokens gs vs) place ≡ got d u → LaidDeclaration M (tokens gs vs) place d u o)
+        → ((m : ℕ) → 17 * m ≤ length t → m ≤ length p → o.name < m → PortsPlaced m t' p' [] t p (o.name ∷ [])) → 17 * M ≤ length t → M ≤ length p
+        → Placing M (tokens gs vs) t' p' t₀ p₀ (count - (i + 1)) o.end l q
+    placing-step t' p' o laid s u v =
+        let k = next-read in
+        let a : count - (i + 1) ≡ count - i - 1 = omega arith in
+        let d = declared-name place k.0 k.1 k.3 in
+        let r = laid k.0 k.1 k.3 in
+        let w : PortsPlaced M t p (k.0.name ∷ map name_of k.2) t₀ p₀ (map name_of l) = rw k.5 at h.places in
+        let y : PortsPlaced M t' p' [] t p (k.0.name ∷ []) = rw r.named at (s M u v (rw r.named d.1)) in
+        record { rest = k.2; items = rw (a, r.ends) k.4; places = places-step M t p t' p' t₀ p₀ (map name_of k.2) (map name_of l) k.0.name y w }
+
+pub not-there : {A : Type 0} (P : A → Type 0) (o : maybe.Option A) → ((x : A) → o ≡ maybe.Some x → ⊥) → maybe.IsSomeAnd o P → ⊥
+not-there P maybe.None gone h = h
+not-there P (maybe.Some x) gone h = gone x refl
+
+-- ---- the tables of a pass
+pub kept-all : (t : PassTables) → Kept t t
+kept-all t = record { same_env = refl; same_since = refl; env_length = refl; since_length = refl }
+
+pub kept-then : (t t' t'' : PassTables) → Kept t t' → Kept t' t'' → Kept t t''
+kept-then t t' t'' k h =
+    record {
+      same_env = h.same_env ∙ k.same_env;
+      same_since = h.same_since ∙ k.same_since;
+      env_length = h.env_length ∙ k.env_length;
+      since_length = h.since_length ∙ k.since_length;
+    }
+
+pub infers-in : (t t' : List ℕ) (m : ℕ) (r : Result ℕ TooDeep) (v : Formed Inferred) → t' ≡ t → Infers t m r v → Infers t' m r v
+infers-in t t' m r v e h = subst (λ (x : List ℕ). Infers x m r v) (sym e) h
 
 -- ---- one left name
 or_left : (a b : Bool) → a ≡ true → (a || b) ≡ true
@@ -152,44 +176,61 @@ module _ (t : List ℕ) (marks : List Bool) (since : List ℕ) (present : ℕ) (
         (record { agrees = agrees-assign t t' m x c p.clocks l a s.agrees; changes = refl }, e)
 
 -- ---- the left names
--- so many names are left to be given the clock c; then the pass stands at f, and the names changed as s says
-pub record Giving (M : ℕ) (ts : List TagValue) (n : Node) (c : Clock) (present : ℕ) (t since : List ℕ) (made : Bool) (left place q : ℕ) (f : Pass) (s : List ℕ) : Type 0 where
-  pub rest : List ℕ
+-- these names are left to be given the clock c; then the pass stands at f, and the names changed as s says
+pub record Giving (M : ℕ) (n : Node) (c : Clock) (present : ℕ) (t since : List ℕ) (made : Bool) (rest : List ℕ) (f : Pass) (s : List ℕ) : Type 0 where
   pub pass : Pass
-  pub items : times left (name M) ts place ≡ got rest q
   pub stands : PassSoFar t M made pass
   pub final : give n c rest pass ≡ f
   pub changes : dates n c present rest pass since ≡ s
 
-pub giving-end : (M : ℕ) (ts : List TagValue) (n : Node) (c : Clock) (present : ℕ) (t since : List ℕ) (made : Bool) (left place q : ℕ) (f : Pass) (s : List ℕ) → left ≡ 0 → Giving M ts n c present t since made left place q f s → PassSoFar t M made f × (since ≡ s)
-unfolding give dates
-giving-end M ts n c present t since made left place q f s z h =
-    let e = times-nil (name M) ts left place h.rest q z h.items in
-    let i : h.pass ≡ f = rw e.0 at h.final in
-    let j : since ≡ s = rw e.0 at h.changes in
-    (rw (sym i) h.stands, j)
+-- the names that were read are names of the sheet
+names-below : (M : ℕ) (gs vs : List ℕ) → length vs ≡ length gs → (count at : ℕ) (xs : List ℕ) (q : ℕ) → times count (name M) (tokens gs vs) at ≡ got xs q → (i : ℕ) → i < length xs → get_or xs i 0 < M
+unfolding name
+names-below M gs vs same zero at xs q g i h = let e = times-nil (name M) (tokens gs vs) 0 at xs q refl g in absurd (omega (arith, h, ap length e.0))
+names-below M gs vs same (suc count) at xs q g i h =
+    let k = times-cons (name M) (tokens gs vs) (suc count) at xs q (λ y. omega (arith, y)) g in
+    let b : suc count - 1 ≡ count = omega arith in
+    let l = tokens-length gs vs same in
+    let w = name-place M (tokens gs vs) at k.0 k.1 k.3 in
+    let v = tagged-value gs vs same at 4 M k.0 k.1 (omega arith) k.3 in
+    go i (omega (arith, h, ap length k.5)) k.0 k.2 k.5 v.2 (names-below M gs vs same count k.1 k.2 q (rw b at k.4))
+  where
+    go : (i : ℕ) → i < length xs → (x : ℕ) (rest : List ℕ) → xs ≡ x ∷ rest → x < M → ((j : ℕ) → j < length rest → get_or rest j 0 < M) → get_or xs i 0 < M
+    go zero u x rest e v r = rw e v
+    go (suc j) u x rest e v r = rw e (r j (omega (arith, u, ap length e)))
 
-either-way : (x y b : Bool) → (y || (x || b)) ≡ ((x || y) || b)
-either-way true true b = refl
-either-way true false b = refl
-either-way false true b = refl
-either-way false false b = refl
+pub name-below : (M : ℕ) (gs vs : List ℕ) → length vs ≡ length gs → (count at : ℕ) (names xs : List ℕ) (q : ℕ) → names ≡ xs → times count (name M) (tokens gs vs) at ≡ got xs q → (i : ℕ) → i < length names → get_or names i 0 < M
+name-below M gs vs same count at names xs q e g i h = rw e (names-below M gs vs same count at xs q g i (omega (arith, h, ap length e)))
 
-pub giving-step : (M : ℕ) (gs vs : List ℕ) → length vs ≡ length gs → (n : Node) (c : Clock) (present : ℕ) (t t' since since' : List ℕ) (marks : List Bool) (changed r before : Bool) (count i place next q : ℕ) (f : Pass) (s : List ℕ) (x : ℕ) → i < count → next ≡ past_in (length gs) place → Marked marks M (ports n) → x ≡ get_or vs place 0 →
-    ((n : Node) (p : Pass) (m : ℕ) (b : Bool) → Marked marks m (ports n) → x < m → PassSoFar t m b p → PassSoFar t' m (r || b) (given n c x p) × (since' ≡ dated n c present x p since)) →
-    Giving M (tokens gs vs) n c present t since (changed || before) (count - i) place q f s → Giving M (tokens gs vs) n c present t' since' ((changed || r) || before) (count - (i + 1)) next q f s
-unfolding give dates name
-giving-step M gs vs same_length n c present t t' since since' marks changed r before count i place next q f s x z j m g o h =
-    let k = times-cons (name M) (tokens gs vs) (count - i) place h.rest q (λ y. omega (arith, y, z)) h.items in
-    let a : count - (i + 1) ≡ count - i - 1 = omega arith in
-    let l = tokens-length gs vs same_length in
-    let w = name-place M (tokens gs vs) place k.0 k.1 k.3 in
-    let u : place < length gs = omega arith in
-    let v = tagged-value gs vs same_length place 4 M k.0 k.1 u k.3 in
-    let e : next ≡ k.1 = j ∙ (ap (λ (b : Bool). choose b (place + 1) place) (lt-ltb place (length gs) u) ∙ sym w.0) in
-    let y : PassSoFar t' M (r || (changed || before)) (given n c k.0 h.pass) × (since' ≡ dated n c present k.0 h.pass since) = rw (v.0 ∙ sym g) (o n h.pass M (changed || before) m (rw (v.0 ∙ sym g) at v.2) h.stands) in
-    let d : dates n c present k.2 (given n c k.0 h.pass) (dated n c present k.0 h.pass since) ≡ s = rw k.5 at h.changes in
-    record { rest = k.2; pass = given n c k.0 h.pass; items = rw (a, e) k.4; stands = subst (λ (b : Bool). PassSoFar t' M b (given n c k.0 h.pass)) (either-way changed r before) y.0; final = rw k.5 at h.final; changes = rw y.1 d }
+module _ (M : ℕ) (n : Node) (c : Clock) (present : ℕ) (t since : List ℕ) (names : List ℕ) (f : Pass) (s : List ℕ) where
+  pub giving-end : (made : Bool) (i : ℕ) → length names ≤ i → Giving M n c present t since made (drop i names) f s → PassSoFar t M made f × (since ≡ s)
+  unfolding give dates
+  giving-end made i z h =
+      let e : drop i names ≡ [] = drop_of_length-le names z in
+      let j : h.pass ≡ f = rw e at h.final in
+      let k : since ≡ s = rw e at h.changes in
+      (rw (sym j) h.stands, k)
+
+  either-way : (x y b : Bool) → (y || (x || b)) ≡ ((x || y) || b)
+  either-way true true b = refl
+  either-way true false b = refl
+  either-way false true b = refl
+  either-way false false b = refl
+
+  pub giving-step : (t' since' : List ℕ) (marks : List Bool) (changed r before : Bool) (i x : ℕ) → i < length names → x ≡ get_or names i 0 → x < M → Marked marks M (ports n)
+      → ((n : Node) (p : Pass) (m : ℕ) (b : Bool) → Marked marks m (ports n) → x < m → PassSoFar t m b p → PassSoFar t' m (r || b) (given n c x p) × (since' ≡ dated n c present x p since))
+      → Giving M n c present t since (changed || before) (drop i names) f s → Giving M n c present t' since' ((changed || r) || before) (drop (i + 1) names) f s
+  unfolding give dates
+  giving-step t' since' marks changed r before i x z e below m o h =
+      let k : drop i names ≡ x ∷ drop (i + 1) names = rw (add-one i, e) (drop-cons names i 0 z) in
+      let y : PassSoFar t' M (r || (changed || before)) (given n c x h.pass) × (since' ≡ dated n c present x h.pass since) = o n h.pass M (changed || before) m below h.stands in
+      let d : dates n c present (drop (i + 1) names) (given n c x h.pass) (dated n c present x h.pass since) ≡ s = rw k at h.changes in
+      record {
+        pass = given n c x h.pass;
+        stands = subst (λ (b : Bool). PassSoFar t' M b (given n c x h.pass)) (either-way changed r before) y.0;
+        final = rw k at h.final;
+        changes = rw y.1 d;
+      }
 
 -- ---- where equations stand
 -- an equation that was read ends where the table says

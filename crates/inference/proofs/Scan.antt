@@ -23,9 +23,7 @@ use Rattle.layout.proofs.Owed.{owed_none, owed-step, owed-on}
 use Rattle.layout.proofs.Ends.{expr-part}
 use Rattle.layout.proofs.Marks.{bears, borne, expr-marks, marks-none, marks-found, marks-past}
 use Rattle.operands.specs.Spread.{tree}
-use Rattle.std.specs.declared.option.Option as code
-use Rattle.std.specs.declared.option.Option.TheVariants.{None, Some}
-use Rattle.inference.specs.Natural.{is_free, listed, Tells}
+use Rattle.inference.specs.Natural.{is_free, listed}
 use Rattle.inference.proofs.NaturalLaws.{free-none, kept-first}
 
 -- ---- a token
@@ -141,11 +139,3 @@ module _ {env gs vs : List ℕ} {p : ℕ} where
         let n = owed-on rest.0 in
         let s = says-by clocks M e (some (named v)) (marks-found (named v) rest.1 (omega arith) m) in
         s.0 ∙ ap formed (sym (a.same v s.2))
-
--- ---- what is told, found
-module _ (t : code.Option (code.Option ℕ)) (env : List ℕ) (n : Natural) (h : Tells t env n) (r : Natural) where
-  pub told_free : t ≡ Some None → r ≡ formed none → r ≡ n
-  told_free i k = k ∙ sym (subst (λ (x : code.Option (code.Option ℕ)). Tells x env n) i h)
-
-  pub told-name : (x : ℕ) → t ≡ Some (Some x) → r ≡ formed (env_at env x) → r ≡ n
-  told-name x i k = k ∙ sym (subst (λ (y : code.Option (code.Option ℕ)). Tells y env n) i h)

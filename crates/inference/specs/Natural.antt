@@ -6,8 +6,7 @@ use Rattle.definitions.specs.InferClocks.{Natural, Clocks, deep, formed, ◌or�
 use Rattle.clock_tables.specs.Value.{natural_of}
 use Rattle.clock_tables.specs.Environment.{env_at}
 use Rattle.inference.specs.declared.FoundClock.{FoundClock}
-use Rattle.std.specs.declared.option.Option as code
-use Rattle.std.specs.declared.option.Option.TheVariants.{None, Some}
+use Rattle.inference.specs.declared.TokensTell.{TokensTell}
 
 -- is there no clock?
 abbrev pub is_free : Natural → Bool
@@ -36,7 +35,7 @@ abbrev pub listed : List ℕ → ℕ → Bool
 listed env x = not (eqb (get_or env (17 * x) 0) 0)
 
 -- what is told is so of the natural clock n
-abbrev pub Tells : code.Option (code.Option ℕ) → List ℕ → Natural → Type 0
-Tells (Some None) env n = n ≡ formed none
-Tells (Some (Some x)) env n = n ≡ formed (env_at env x)
-Tells None env n = Unit {0}
+abbrev pub Tells : TokensTell → List ℕ → Natural → Type 0
+Tells TokensTell.NoClock env n = n ≡ formed none
+Tells (TokensTell.ClockOf x) env n = n ≡ formed (env_at env x)
+Tells TokensTell.NoMore env n = Unit {0}

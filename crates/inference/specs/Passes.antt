@@ -1,5 +1,5 @@
 -- What inference keeps in its tables, and what it answers.
-use Rattle.std.specs.Prelude.{ℕ, ◌<◌, ◌≡◌, List, ◌∷◌, Bool, true, false, ◌||◌, get_or, Result, Ok, Err}
+use Rattle.std.specs.Prelude.{ℕ, ◌<◌, ◌≡◌, List, ◌∷◌, Bool, true, false, ◌||◌, length, get_or, Result, Ok, Err}
 use Rattle.std.proofs.Math.Option.{Option, none, some}
 use Rattle.definitions.specs.Lists.{choose, among}
 use Rattle.definitions.specs.Tree.{Equation, Node}
@@ -7,6 +7,7 @@ use Rattle.definitions.specs.Clock.{Clock, base, same_clock}
 use Rattle.definitions.specs.InferClocks.{Formed, deep, formed, ◌>>=◌, Pass, Inferred, natural, is_port, has_clock, give_natural}
 use Rattle.clock_tables.specs.Environment.{env_at, Agrees}
 use Rattle.clock_tables.specs.declared.TooDeep.{TooDeep}
+use Rattle.inference.specs.declared.PassTables.{PassTables}
 
 -- of the names below m, those of l are marked
 pub record Marked (t : List Bool) (m : ℕ) (l : List ℕ) : Type 0 where
@@ -21,6 +22,13 @@ pub record PortsPlaced (m : ℕ) (t : List ℕ) (p : List Bool) (r t₀ : List �
 pub record PassSoFar (t : List ℕ) (m : ℕ) (changed : Bool) (p : Pass) : Type 0 where
   pub agrees : Agrees t m p.clocks
   pub changes : changed ≡ p.changed
+
+-- the tables of a pass are the same two, as long as before
+pub record Kept (t t' : PassTables) : Type 0 where
+  pub same_env : t'.env.ghost_name ≡ t.env.ghost_name
+  pub same_since : t'.since.ghost_name ≡ t.since.ghost_name
+  pub env_length : length t'.env.now ≡ length t.env.now
+  pub since_length : length t'.since.now ≡ length t.since.now
 
 -- is there a clock, and is it this one?
 abbrev pub on_clock : Option Clock → Clock → Bool

@@ -15,13 +15,13 @@ ghost use Rattle.layout.specs.Marks.{mark_of, there};
 ghost use Rattle.inference.specs.Natural.{is_free, Finds, lifted, first_of, listed, Tells};
 ghost use Rattle.definitions.specs.Grammar.{name, declaration, equation};
 ghost use Rattle.layout.specs.Laid.{LaidNode};
-ghost use Rattle.inference.specs.Passes.{Marked, PortsPlaced, PassSoFar, on_clock, given, Infers};
+ghost use Rattle.inference.specs.Passes.{Marked, PortsPlaced, PassSoFar, Kept, on_clock, given, Infers};
 ghost use Rattle.inference.specs.Settled.{end_from, Ended, named, Unchanged, Quiet, Calm, Calms, dated, dates, Turned, Gone};
 ghost use Rattle.definitions.specs.InferClocks as rules;
 
 use clock_tables::{Clock, Natural, TooDeep};
 use definitions::{Condition, MOST_EQUATIONS, MOST_NAMES};
-use grammar::Source;
+use grammar::{Source, tags};
 use layout::{NodeLayout, Span};
 use operands::{Leaf, Operands, Role};
 
@@ -173,54 +173,66 @@ fn first_found(source: &Source<'_>, env: &[u32], up: bool, operands: Operands) -
 }
 
 // Can a token give a clock? A when or a merge does, and a name that has one.
-// Stays (speed): numbers of tags, here and below; a loop over tags takes a tenth of the instructions that reading tokens does.
+// Stays (speed): by tags, here and below; a loop over tags takes a tenth of the instructions that reading tokens does.
 fn gives(env: &[u32], tag: u8, value: u32) -> bool
     ensures { result ≡ there (mark_of (listed env.now) tag value) }
 {
-    if tag == 54 {
+    if tag == tags::VAR {
         let w = clock_tables::word_at(env, clock_tables::WORDS * (value as usize));
         return w != 0;
     }
     layout::is_sample(tag)
 }
 
-// What the tokens of the expression that stands there tell of its natural clock, up to the first that gives one: none, the one of a name;
-// or no more.
-fn scanned(source: &Source<'_>, env: &[u32], at: usize) -> Option<Option<u32>>
+// What the tokens of an expression tell of its natural clock.
+enum TokensTell {
+    NoClock,
+    // The clock of this name.
+    ClockOf(u32),
+    // A when or a merge gives it.
+    NoMore,
+}
+
+// What the tokens of the expression that stands there tell, up to the first that gives a clock.
+fn scanned(source: &Source<'_>, env: &[u32], at: usize) -> TokensTell
     ensures { (M : ℕ) (e : Expr) (q : ℕ) (clocks : Clocks) → tree M (tokens_of source.now) at ≡ got e q → Agrees env.now M clocks → Tells result env.now (natural clocks e) }
 {
     let table = layout::parts_table();
     let mut owed: usize = 1;
     for place in at..source.tags.len() {
         if source.tags.len() < owed {
-            return None;
+            return TokensTell::NoMore;
         }
         let tag = source.tags[place];
         let value = source.values[place];
         if gives(env, tag, value) {
-            return if tag == 54 { Some(Some(value)) } else { None };
+            return if tag == tags::VAR {
+                TokensTell::ClockOf(value)
+            } else {
+                TokensTell::NoMore
+            };
         }
         let more = table.follow(tag, value);
         owed = owed - 1 + (more as usize);
         if owed == 0 {
-            return Some(None);
+            return TokensTell::NoClock;
         }
     }
-    None
+    TokensTell::NoMore
 }
 
 // The natural clock of the expression that stands there. Its tokens tell most, since a walk of its operands costs much more.
 pub fn natural_clock(source: &Source<'_>, env: &[u32], at: usize) -> Natural
     ensures { (e : Expr) (q : ℕ) (clocks : Clocks) → tree source.now.names (tokens_of source.now) at ≡ got e q → Agrees env.now source.now.names clocks → natural_of result ≡ natural clocks e }
 {
-    let Some(told) = scanned(source, env, at) else {
-        let f = found_at(source, env, at);
-        return f.natural;
-    };
-    let Some(x) = told else {
-        return Ok(None);
-    };
-    Ok(clock_tables::lookup(env, x))
+    match scanned(source, env, at) {
+        TokensTell::NoClock => Ok(None),
+        TokensTell::ClockOf(x) => Ok(clock_tables::lookup(env, x)),
+        TokensTell::NoMore => {
+            let f = found_at(source, env, at);
+            f.natural
+        }
+    }
 }
 
 // ---- The clocks of a node's names, found in passes over its equations, and the number of passes.
@@ -234,6 +246,29 @@ struct Round<'a> {
     source: &'a Source<'a>,
     marks: &'a [bool],
     present: usize,
+}
+
+// What a pass writes: the names' clocks, and for each name the pass, from 1, in which its clock last changed.
+#[derive(Drop)]
+struct PassTables<'a> {
+    env: &'a mut [u32],
+    since: &'a mut [usize],
+}
+
+impl PassTables<'_> {
+    // The names' clocks, to read.
+    fn clocks(&self) -> &[u32]
+        ensures { result.now ≡ self.now.env.now }
+    {
+        self.env
+    }
+
+    // The passes in which they last changed, to read.
+    fn dates(&self) -> &[usize]
+        ensures { result.now ≡ self.now.since.now }
+    {
+        self.since
+    }
 }
 
 // No name below m is marked, if there are marks for them.
@@ -266,12 +301,11 @@ fn set_ports(source: &Source<'_>, ports: Span, env: &mut [u32], marks: &mut [boo
 {
     let mut place = ports.at;
     for _ in 0..ports.count {
-        let x = clock_tables::word_at(source.values, place);
-        let Ok(next) = grammar::read_declaration(source, place) else {
+        let Some(port) = layout::declaration_at(source, place) else {
             return;
         };
-        set_port(env, marks, x);
-        place = next;
+        set_port(env, marks, port.name);
+        place = port.end;
     }
 }
 
@@ -304,27 +338,27 @@ fn date(since: &mut [usize], x: u32, present: usize)
 }
 
 // A clock for one left name, unless it is an input or output, or has that clock: did it change?
-fn give_name(round: &Round<'_>, x: u32, c: Clock, env: &mut [u32], since: &mut [usize]) -> bool
-    ensures { (n : Node) (p : Pass) (m : ℕ) (b : Bool) → Marked round.now.marks.now m (ports n) → x < m → PassSoFar env.old m b p → PassSoFar env.new m (result || b) (given n (value_of c) x p) × (since.new ≡ dated n (value_of c) round.now.present x p since.old) }
+fn give_name(round: &Round<'_>, x: u32, c: Clock, tables: &mut PassTables<'_>) -> bool
+    ensures kept { Kept tables.old tables.new }
+    ensures held { (n : Node) (p : Pass) (m : ℕ) (b : Bool) → Marked round.now.marks.now m (ports n) → x < m → PassSoFar tables.old.env.now m b p → PassSoFar tables.new.env.now m (result || b) (given n (value_of c) x p) × (tables.new.since.now ≡ dated n (value_of c) round.now.present x p tables.old.since.now) }
 {
-    if is_port(round.marks, x) || has_clock(env, x, c) {
+    if is_port(round.marks, x) || has_clock(tables.clocks(), x, c) {
         return false;
     }
-    clock_tables::assign(env, x, c);
-    date(since, x, round.present);
+    clock_tables::assign(tables.env, x, c);
+    date(tables.since, x, round.present);
     true
 }
 
 // A clock for the left names of an equation: did one change?
-fn give_names(round: &Round<'_>, left: Span, c: Clock, env: &mut [u32], since: &mut [usize]) -> bool
-    ensures { let s = round.now.source.now in (n : Node) (p : Pass) (xs : List ℕ) (q : ℕ) (b : Bool) → Marked round.now.marks.now s.names (ports n) → times left.count (name s.names) (tokens_of s) left.at ≡ got xs q → PassSoFar env.old s.names b p → PassSoFar env.new s.names (result || b) (give n (value_of c) xs p) × (since.new ≡ dates n (value_of c) round.now.present xs p since.old) }
+fn give_names(round: &Round<'_>, left: Span, c: Clock, tables: &mut PassTables<'_>) -> bool
+    ensures kept { Kept tables.old tables.new }
+    ensures held { let s = round.now.source.now in (n : Node) (p : Pass) (xs : List ℕ) (q : ℕ) (b : Bool) → Marked round.now.marks.now s.names (ports n) → times left.count (name s.names) (tokens_of s) left.at ≡ got xs q → PassSoFar tables.old.env.now s.names b p → PassSoFar tables.new.env.now s.names (result || b) (give n (value_of c) xs p) × (tables.new.since.now ≡ dates n (value_of c) round.now.present xs p tables.old.since.now) }
 {
     let mut changed = false;
-    let mut place = left.at;
-    for _ in 0..left.count {
-        let x = clock_tables::word_at(round.source.values, place);
-        changed |= give_name(round, x, c, env, since);
-        place = layout::behind(round.source.tags, place);
+    let names = layout::names_in(round.source, left);
+    for &x in names {
+        changed |= give_name(round, x, c, tables);
     }
     changed
 }
@@ -333,7 +367,7 @@ fn give_names(round: &Round<'_>, left: Span, c: Clock, env: &mut [u32], since: &
 fn is_name(tag: u8) -> bool
     ensures { result ≡ named tag }
 {
-    matches!(tag, 4 | 54 | 67..=69)
+    matches!(tag, tags::NAME | tags::VAR | tags::WHEN..=tags::MERGE)
 }
 
 // Did a name's clock change in the last of the passes made, or in the one after it?
@@ -358,28 +392,20 @@ fn touched(source: &Source<'_>, since: &[usize], made: usize, from: usize, to: u
     if made == 0 {
         return true;
     }
-    for i in from..to.min(source.tags.len()) {
-        if is_changed(since, source.tags[i], source.values[i], made) {
-            return true;
-        }
-    }
-    false
+    let Source { tags, values, .. } = *source;
+    (from..to.min(tags.len())).any(|i| is_changed(since, tags[i], values[i], made))
 }
 
 // One equation that is read in a pass: did a clock change?
-fn read_equation(
-    round: &Round<'_>,
-    at: usize,
-    env: &mut [u32],
-    since: &mut [usize],
-) -> Result<bool, TooDeep>
-    ensures { let s = round.now.source.now in (n : Node) (p : Pass) (e : Equation) (q : ℕ) (b : Bool) → Marked round.now.marks.now s.names (ports n) → equation s.names (tokens_of s) at ≡ got e q → PassSoFar env.old s.names b p → Turned n e round.now.present since.old since.new env.new s.names p b result }
+fn read_equation(round: &Round<'_>, at: usize, tables: &mut PassTables<'_>) -> Result<bool, TooDeep>
+    ensures kept { Kept tables.old tables.new }
+    ensures held { let s = round.now.source.now in (n : Node) (p : Pass) (e : Equation) (q : ℕ) (b : Bool) → Marked round.now.marks.now s.names (ports n) → equation s.names (tokens_of s) at ≡ got e q → PassSoFar tables.old.env.now s.names b p → Turned n e round.now.present tables.old.since.now tables.new.since.now tables.new.env.now s.names p b result }
 {
     let left = layout::names_at(round.source, at);
-    let Some(c) = natural_clock(round.source, env, left.end)? else {
+    let Some(c) = natural_clock(round.source, tables.clocks(), left.end)? else {
         return Ok(false);
     };
-    Ok(give_names(round, left, c, env, since))
+    Ok(give_names(round, left, c, tables))
 }
 
 // One equation in a pass: it is read, unless it can change nothing.
@@ -387,14 +413,14 @@ fn one_equation(
     round: &Round<'_>,
     at: usize,
     end: usize,
-    env: &mut [u32],
-    since: &mut [usize],
+    tables: &mut PassTables<'_>,
 ) -> Result<bool, TooDeep>
-    ensures { let s = round.now.source.now in (n : Node) (p : Pass) (e : Equation) (b : Bool) → Marked round.now.marks.now s.names (ports n) → equation s.names (tokens_of s) at ≡ got e end → PassSoFar env.old s.names b p → Calm n since.old (round.now.present - 1) p.clocks e → Turned n e round.now.present since.old since.new env.new s.names p b result }
+    ensures kept { Kept tables.old tables.new }
+    ensures held { let s = round.now.source.now in (n : Node) (p : Pass) (e : Equation) (b : Bool) → Marked round.now.marks.now s.names (ports n) → equation s.names (tokens_of s) at ≡ got e end → PassSoFar tables.old.env.now s.names b p → Calm n tables.old.since.now (round.now.present - 1) p.clocks e → Turned n e round.now.present tables.old.since.now tables.new.since.now tables.new.env.now s.names p b result }
 {
     let made = round.present.saturating_sub(1);
-    if touched(round.source, since, made, at, end) {
-        return read_equation(round, at, env, since);
+    if touched(round.source, tables.dates(), made, at, end) {
+        return read_equation(round, at, tables);
     }
     Ok(false)
 }
@@ -428,16 +454,16 @@ fn one_pass(
     round: &Round<'_>,
     equations: Span,
     ends: &[usize; MOST_EQUATIONS],
-    env: &mut [u32],
-    since: &mut [usize],
+    tables: &mut PassTables<'_>,
 ) -> Result<bool, TooDeep>
-    ensures { let s = round.now.source.now in (n : Node) (es : List Equation) (q : ℕ) (clocks : Clocks) → Marked round.now.marks.now s.names (ports n) → Ended s.names (tokens_of s) equations.at equations.count ends.now → times equations.count (equation s.names) (tokens_of s) equations.at ≡ got es q → Agrees env.old s.names clocks → Calms n since.old (round.now.present - 1) clocks es → Gone n es round.now.present since.new env.new s.names result (rules.pass n es (record { changed = false; clocks = clocks })) }
+    ensures kept { Kept tables.old tables.new }
+    ensures held { let s = round.now.source.now in (n : Node) (es : List Equation) (q : ℕ) (clocks : Clocks) → Marked round.now.marks.now s.names (ports n) → Ended s.names (tokens_of s) equations.at equations.count ends.now → times equations.count (equation s.names) (tokens_of s) equations.at ≡ got es q → Agrees tables.old.env.now s.names clocks → Calms n tables.old.since.now (round.now.present - 1) clocks es → Gone n es round.now.present tables.new.since.now tables.new.env.now s.names result (rules.pass n es (record { changed = false; clocks = clocks })) }
 {
     let mut changed = false;
     let mut place = equations.at;
     for i in 0..equations.count {
         let end = end_at(round.source, ends, i, place);
-        changed |= one_equation(round, place, end, env, since)?;
+        changed |= one_equation(round, place, end, tables)?;
         place = end;
     }
     Ok(changed)
@@ -454,6 +480,10 @@ fn repeat_passes<'a>(
 {
     let ends = equation_ends(source, equations);
     let mut since = [0usize; MOST_NAMES];
+    let mut tables = PassTables {
+        env,
+        since: &mut since,
+    };
     let most = (equations.count as usize) + 1;
     for made in 0..most {
         let round = Round {
@@ -461,7 +491,7 @@ fn repeat_passes<'a>(
             marks,
             present: made + 1,
         };
-        let changed = one_pass(&round, equations, &ends, env, &mut since)?;
+        let changed = one_pass(&round, equations, &ends, &mut tables)?;
         if !changed {
             return Ok(made + 1);
         }

@@ -15,8 +15,8 @@ use grammar::Source;
 use layout::{Defined, NodeLayout};
 use parts::Sizes;
 use spelling::Spelling;
-use std::io;
 use std::io::Write;
+use std::{fmt, io};
 
 // What a type's definition makes.
 #[derive(Clone, Copy)]
@@ -26,16 +26,17 @@ enum TypeKind {
     Alias,
 }
 
-impl TypeKind {
-    fn word(self) -> &'static str {
-        match self {
+impl fmt::Display for TypeKind {
+    fn fmt<W: fmt::Write>(&self, f: &mut fmt::Formatter<W>) -> fmt::Result {
+        f.write_str(match self {
             TypeKind::Enum => "enum",
             TypeKind::Record => "record",
             TypeKind::Alias => "alias",
-        }
+        })
     }
 }
 
+// Stays (no plainer): the kind is another crate's type, which cannot be given a `Display` here.
 fn node_word(kind: NodeKind) -> &'static str {
     match kind {
         NodeKind::Function => "function",
@@ -57,17 +58,17 @@ fn type_summary(source: &Source<'_>, at: usize) -> Option<TypeSummary>
     ensures { (d : TypeDef) (q : ℕ) → type_def source.now.names (tokens_of source.now) at ≡ got d q → result ≡ Some (type_summary d) }
 {
     match layout::describe(source, at) {
-        Some(Defined::Enum(name, count, _)) => Some(TypeSummary {
+        Some(Defined::Enum { name, count, .. }) => Some(TypeSummary {
             name,
             kind: TypeKind::Enum,
             count,
         }),
-        Some(Defined::Record(name, count, _)) => Some(TypeSummary {
+        Some(Defined::Record { name, count, .. }) => Some(TypeSummary {
             name,
             kind: TypeKind::Record,
             count,
         }),
-        Some(Defined::Alias(name, _)) => Some(TypeSummary {
+        Some(Defined::Alias { name, .. }) => Some(TypeSummary {
             name,
             kind: TypeKind::Alias,
             count: 1,
@@ -80,7 +81,7 @@ fn type_summary(source: &Source<'_>, at: usize) -> Option<TypeSummary>
 fn print_type(to: &mut impl Write, spelling: Spelling<'_>, t: TypeSummary) -> io::Result<()> {
     to.write_all(b"type ")?;
     to.write_all(spelling.name(t.name))?;
-    writeln!(to, " {} {}", t.kind.word(), t.count)
+    writeln!(to, " {} {}", t.kind, t.count)
 }
 
 // `node NAME function|operator|imported INPUTS OUTPUTS LOCALS EQUATIONS PROBES clocks|base`

@@ -1,19 +1,23 @@
 -- Where the parts of what was read stand, by the code's places and counts.
 -- Assumes nothing.
-use mathlib.Core.Path.{◌≡◌, refl, sym, ◌∙◌, ap, subst}
+use Rattle.std.specs.Prelude.{Result, Ok, Err}
+use Rattle.std.specs.Result.{result_unwrap_or}
+use mathlib.Core.Path.{◌≡◌, refl, sym, ◌∙◌, ap, ap₂, subst}
 use mathlib.Core.List.{List, [], ◌∷◌}
 use mathlib.Core.Bool.{Bool, true, false}
 use mathlib.Core.Option.{Option, none, some}
-use Prim.Native.Nat.{ℕ, zero, suc, ◌+◌, ◌<◌, min}
+use Prim.Native.Nat.{ℕ, zero, suc, ◌+◌, ◌<◌, ◌≤◌, min}
 use native.Mathlib.Omega.{arith}
 use lib.Dec.{eqb}
 use native.Mathlib.Numerals.{add-one, sub-one}
 use lib.ListN.{length, get_or, take, drop, get_elem?}
 use lib.Seq.{drop-cons}
 use borrow.Author.Tests.{lt-ltb}
+use Rattle.definitions.specs.declared.Refusal.{Refusal}
 use Rattle.definitions.specs.declared.NodeKind.{NodeKind}
 use Rattle.definitions.specs.Lists.{choose}
-use Rattle.definitions.specs.Tokens.{TagValue, kind_of}
+use Rattle.definitions.specs.declared.values.UnknownValue.{UnknownValue}
+use Rattle.definitions.specs.Tokens.{TagValue, converted, kind_of}
 use Rattle.definitions.specs.Tree.{TypeDef, Declared, Expr, Equation, Node, Sheet}
 use Rattle.definitions.specs.Bytes.{tokens}
 use Rattle.definitions.specs.Reading.{Got, got, Reader, token, times}
@@ -22,13 +26,13 @@ use Rattle.grammar.specs.Outcome.{outcome}
 use Rattle.grammar.proofs.Laws.{tokens-length, times-length}
 use Rattle.grammar.proofs.Parts.{counted-within}
 use Rattle.grammar.proofs.Longer.{token-got, counted-grows, tagged-grows, name-grows}
-use Rattle.grammar.proofs.Got.{times-nil, times-cons, token-value, tagged-value, counted-value, declarations-got, equation-got, node-got, sheet-got}
+use Rattle.grammar.proofs.Got.{times-nil, times-cons, token-value, tagged-value, counted-value, declaration-got, declarations-got, same, equation-got, node-got, sheet-got}
 use Rattle.layout.proofs.TypedefsLaws.{place_at, item}
 use Rattle.layout.specs.declared.Span.{Span}
 use Rattle.layout.specs.declared.SheetLayout.{SheetLayout}
 use Rattle.layout.specs.Spans.{past_in, kind_or, kind_in, end_of, Spanned, Spans}
 use Rattle.layout.specs.Table.{Table}
-use Rattle.layout.specs.Laid.{LaidNode, LaidEquation, LaidSheet, Places}
+use Rattle.layout.specs.Laid.{LaidDeclaration, LaidNode, LaidEquation, LaidSheet, Places}
 
 past_is : (n p : ℕ) → p < n → past_in n p ≡ p + 1
 past_is n p h = rw (lt-ltb p n h)
@@ -40,6 +44,11 @@ kind-is t v k g = go (eqb t 41) (kind_of v) g
     go : (b : Bool) (o : Option NodeKind) → choose b o none ≡ some k → kind_or o ≡ k
     go false o e = let z : ◌≡◌ {A = ℕ} 0 1 = cc in absurd (omega arith)
     go true o e = rw e
+
+-- the kind that a value says, as it is found
+pub kind-by : (v : ℕ) (r : Result NodeKind UnknownValue) (k : NodeKind) → converted r ≡ kind_of v → k ≡ result_unwrap_or r NodeKind.Function → k ≡ kind_in v
+kind-by v (Ok x) k e u = u ∙ ap kind_or e
+kind-by v (Err x) k e u = u ∙ ap kind_or e
 
 -- over the two arrays
 module _ (ts vs : List ℕ) (same_length : length vs ≡ length ts) where
@@ -83,6 +92,27 @@ module _ (ts vs : List ℕ) (same_length : length vs ≡ length ts) where
       let f : take k (drop t.1 vs) ≡ take k (drop (suc p) vs) = ap (λ (s : ℕ). take k (drop s vs)) (v.1 ∙ add-one p) in
       let c : p < length vs = omega arith in
       (t.5 ∙ ap (λ (x : ℕ). x ∷ t.2) v.0 ∙ ap (λ (y : List ℕ). get_or vs p 0 ∷ y) (r.0 ∙ f) ∙ ap (take (suc k)) (sym (drop-cons vs p 0 c)), omega (arith, r.1, v.1))
+
+  -- the part of the values that holds them
+  pub names-lent : (M k p : ℕ) (l : List ℕ) (q : ℕ) → times k (name M) (tokens ts vs) p ≡ got l q → (from many : ℕ) → many ≡ k → (1 ≤ k → from ≡ p) → take many (drop from vs) ≡ l
+  names-lent M zero p l q g from many e f = rw e (sym (names_stand M 0 p l q g).0)
+  names-lent M (suc k) p l q g from many e f = rw (e, f (omega arith)) (sym (names_stand M (suc k) p l q g).0)
+
+  -- a name with its type: its type stands behind it
+  pub laid-declaration : (M p : ℕ) (d : Declared) (q : ℕ) → declaration M (tokens ts vs) p ≡ got d q → (r : Result ℕ Refusal) → r ≡ outcome (declaration M (tokens ts vs) p) → (end : ℕ) → r ≡ Ok end →
+      (x t : ℕ) → x ≡ get_or vs p 0 → t ≡ past_in (length ts) p → LaidDeclaration M (tokens ts vs) p d q (record { name = x; type_at = t; end = end })
+  laid-declaration M p d q g r i end e x t j k =
+      let b = declaration-got M (tokens ts vs) p d q g in
+      let w = name-grows M (tokens ts vs) p b.0 b.1 b.3 in
+      let h : p < length ts = omega (arith, w.0, w.1, tokens-length ts vs same_length) in
+      let n = at_name M p b.0 b.1 h b.3 in
+      let f : b.1 ≡ t = n.1 ∙ sym (past_is (length ts) p h) ∙ sym k in
+      record {
+        named = j ∙ sym n.0 ∙ sym (ap (λ (y : Declared). y.name) b.5);
+        label = b.3 ∙ ap₂ got (sym (ap (λ (y : Declared). y.name) b.5)) f;
+        typed = rw (sym f) (b.4 ∙ ap (λ (y : Declared). got y.type q) (sym b.5));
+        ends = sym (same (declaration M (tokens ts vs) p) d q r end g i e);
+      }
 
   -- a node's name and kind
   module _ (M : ℕ) (n : Node) (p k q : ℕ) where

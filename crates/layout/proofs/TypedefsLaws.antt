@@ -2,6 +2,7 @@
 -- Assumes nothing.
 use Rattle.std.specs.Prelude.{Result, Ok, Err, Option, Some, None, ◌==◌, nat_lt, cond, position}
 use Rattle.std.specs.List.{position_or_len}
+use Rattle.std.specs.Result.{result_ok}
 use Rattle.std.proofs.lemmas.List.{get_or-take, length-take-le}
 use mathlib.Core.Path.{◌≡◌, refl, sym, ◌∙◌, ap, ap₂}
 use mathlib.Core.List.{List, [], ◌∷◌}
@@ -13,7 +14,7 @@ use native.Mathlib.Numerals.{add-one}
 use lib.ListN.{length, get_or, set, take}
 use lib.Seq.{get_or-set_same, get_or-set_other}
 use lib.Dec.{eqb, ltb}
-use borrow.Author.Tests.{eqb-true, eqb-false, lt-ltb, ltb-true, ltb-false}
+use borrow.Author.Tests.{eqb-true, eqb-false, ltb-true, ltb-false}
 use Rattle.definitions.specs.declared.Refusal.{Refusal}
 use Rattle.definitions.specs.declared.DefinitionToken.{DefinitionToken}
 use Rattle.definitions.specs.declared.Primitive.{Primitive}
@@ -24,13 +25,24 @@ use Rattle.definitions.specs.Tree.{Ty, Declared, TypeDef}
 use Rattle.definitions.specs.Reading.{Got, got, rejected, Reader, token, times}
 use Rattle.definitions.specs.Grammar.{counted, count, name, tagged, ty, declaration, definition, type_def}
 use Rattle.definitions.specs.Bytes.{tokens}
-use Rattle.grammar.specs.Outcome.{outcome, told, told, told}
+use Rattle.grammar.specs.Outcome.{told}
 use Rattle.grammar.proofs.Laws.{told-got, told-refused, after-got, wrap-got, times-length, tokens-length}
 use Rattle.grammar.proofs.Longer.{token-got}
-use Rattle.grammar.proofs.Got.{definition-got, enum-got, record-got, alias-got, token-value, tagged-value, type-got, primitive-got, named-got, element-got, declaration-got, times-cons, no, same}
+use Rattle.grammar.proofs.Got.{definition-got, enum-got, record-got, alias-got, token-value, tagged-value, type-got, primitive-got, named-got, element-got, times-cons}
 use Rattle.layout.specs.declared.Defined.{Defined}
-use Rattle.layout.specs.Spans.{past_in, Ended, here, later}
+use Rattle.layout.specs.declared.DeclarationLayout.{DeclarationLayout}
+use Rattle.layout.specs.Spans.{Ended, here, later}
+use Rattle.layout.specs.Laid.{LaidDeclaration}
 use Rattle.layout.specs.Table.{nowhere, def_at, is_named, Found, FoundFirst, Table, Named, Described}
+
+-- what a reading was, by its good answer
+pub err-of : {A E : Type 0} (r : Result A E) (o : Option A) → o ≡ result_ok r → o ≡ None → (t : E) × (r ≡ Err t)
+err-of (Ok a) o e f = let z : ◌≡◌ {A = ℕ} 0 1 = cc in absurd (omega arith)
+err-of (Err t) o e f = (t, refl)
+
+pub ok-of : {A E : Type 0} (r : Result A E) (o : Option A) (a : A) → o ≡ result_ok r → o ≡ Some a → r ≡ Ok a
+ok-of {A} (Ok b) o a e f = let g : ◌≡◌ {A = Option A} (Some b) (Some a) = sym e ∙ f in cc
+ok-of (Err t) o a e f = let z : ◌≡◌ {A = ℕ} 0 1 = cc in absurd (omega arith)
 
 -- a list that a loop fills, one element a turn: of each element so far, with its place, P is known
 pub filled-such : (P : ℕ → ℕ → Type 0) (l : List ℕ) (i v : ℕ) → i < length l → ((k : ℕ) → k < i → P k (get_or l k 0)) → P i v → (k : ℕ) → k < i + 1 → P k (get_or (set l i v) k 0)
@@ -159,15 +171,6 @@ module _ (M : ℕ) (tags vs : List ℕ) (same_length : length vs ≡ length tags
   name-value p x q g =
       let k = token-got _ (tokens tags vs) p x q g in
       (tagged-value tags vs same_length p 4 M x q (omega (arith, k.1, tokens-length tags vs same_length)) g).0
-
-  -- what follows a name stands behind it
-  pub name-next : (p x q : ℕ) → name M (tokens tags vs) p ≡ got x q → q ≡ past_in (length tags) p
-  unfolding name tagged
-  name-next p x q g =
-      let k = token-got _ (tokens tags vs) p x q g in
-      let b : p < length tags = omega (arith, k.1, tokens-length tags vs same_length) in
-      let e : p + 1 ≡ past_in (length tags) p = rw (lt-ltb p (length tags) b) in
-      (tagged-value tags vs same_length p 4 M x q b g).3 ∙ e
 
   -- where the definitions stand, their names stand
   pub named : (places : List ℕ) (n : ℕ) (types : List TypeDef) → Table M (tokens tags vs) places n types → Named vs places n types
@@ -309,59 +312,28 @@ pub record FirstField (M : ℕ) (ts : List TagValue) (k p first : ℕ) (fs : Lis
   pub others : times (k - 1) (declaration M) ts next ≡ got rest q
   pub whole : fs ≡ record { name = id; type = type } ∷ rest
 
-module _ (M : ℕ) (ts : List TagValue) (k p : ℕ) (fs : List Declared) (q : ℕ) (some_left : k ≡ 0 → ⊥) (g : times k (declaration M) ts p ≡ got fs q) (r : Result ℕ Refusal) (i : r ≡ outcome (name M ts p)) where
-  pub field-read : (first : ℕ) → r ≡ Ok first → FirstField M ts k p first fs q
-  field-read first e =
+module _ (M : ℕ) (ts : List TagValue) (k p : ℕ) (fs : List Declared) (q : ℕ) (some_left : k ≡ 0 → ⊥) (g : times k (declaration M) ts p ≡ got fs q) where
+  pub declared-there : ((d : Declared) (s : ℕ) → declaration M ts p ≡ got d s → ⊥) → ⊥
+  declared-there f = let a = times-cons (declaration M) ts k p fs q some_left g in f a.0 a.1 a.3
+
+  pub declared-first : (l : DeclarationLayout) → ((d : Declared) (s : ℕ) → declaration M ts p ≡ got d s → LaidDeclaration M ts p d s l) →
+      (f : FirstField M ts k p l.type_at fs q) × (times (k - 1) (declaration M) ts l.end ≡ got f.rest q) × (l.name ≡ f.id)
+  declared-first l f =
       let a = times-cons (declaration M) ts k p fs q some_left g in
-      let b = declaration-got M ts p a.0 a.1 a.3 in
-      let u : b.1 ≡ first = same (name M ts p) b.0 b.1 r first b.3 i e in
-      record {
-        id = b.0;
-        type = b.2;
-        next = a.1;
-        rest = a.2;
-        label = b.3 ∙ ap (got b.0) u;
-        typed = rw u at b.4;
-        others = a.4;
-        whole = a.5 ∙ ap (λ (y : Declared). y ∷ a.2) b.5;
-      }
-
-  pub field-not-refused : (t : Refusal) → r ≡ Err t → ⊥
-  field-not-refused t e =
-      let a = times-cons (declaration M) ts k p fs q some_left g in
-      let b = declaration-got M ts p a.0 a.1 a.3 in
-      no (name M ts p) b.0 b.1 r t b.3 i e
-
-module _ (M : ℕ) (ts : List TagValue) (k p first : ℕ) (fs : List Declared) (q : ℕ) (f : FirstField M ts k p first fs q) (r : Result ℕ Refusal) (i : r ≡ outcome (ty M 8 ts first)) where
-  pub field_next : (s : ℕ) → r ≡ Ok s → times (k - 1) (declaration M) ts s ≡ got f.rest q
-  field_next s e = let u : f.next ≡ s = same (ty M 8 ts first) f.type f.next r s f.typed i e in rw u at f.others
-
-  pub field-typed : (t : Refusal) → r ≡ Err t → ⊥
-  field-typed t e = no (ty M 8 ts first) f.type f.next r t f.typed i e
-
--- the same of a declaration that is read whole: its type stands behind its name
-module _ (M : ℕ) (tags vs : List ℕ) (same_length : length vs ≡ length tags) (k p : ℕ) (fs : List Declared) (q : ℕ) (some_left : k ≡ 0 → ⊥) (g : times k (declaration M) (tokens tags vs) p ≡ got fs q) (r : Result ℕ Refusal) (i : r ≡ outcome (declaration M (tokens tags vs) p)) where
-  pub declared-read : (next : ℕ) → r ≡ Ok next → (first : ℕ) → first ≡ past_in (length tags) p → (f : FirstField M (tokens tags vs) k p first fs q) × (times (k - 1) (declaration M) (tokens tags vs) next ≡ got f.rest q)
-  declared-read next e first j =
-      let a = times-cons (declaration M) (tokens tags vs) k p fs q some_left g in
-      let b = declaration-got M (tokens tags vs) p a.0 a.1 a.3 in
-      let u : b.1 ≡ first = name-next M tags vs same_length p b.0 b.1 b.3 ∙ sym j in
-      let w : a.1 ≡ next = same (declaration M (tokens tags vs) p) a.0 a.1 r next a.3 i e in (
+      let h = f a.0 a.1 a.3 in (
         record {
-          id = b.0;
-          type = b.2;
-          next = a.1;
+          id = a.0.name;
+          type = a.0.type;
+          next = l.end;
           rest = a.2;
-          label = b.3 ∙ ap (got b.0) u;
-          typed = rw u at b.4;
-          others = a.4;
-          whole = a.5 ∙ ap (λ (y : Declared). y ∷ a.2) b.5;
+          label = h.label;
+          typed = h.typed ∙ ap (got a.0.type) (sym h.ends);
+          others = rw h.ends a.4;
+          whole = a.5;
         },
-        rw w at a.4,
+        rw h.ends a.4,
+        h.named,
       )
-
-  pub declared-not-refused : (t : Refusal) → r ≡ Err t → ⊥
-  declared-not-refused t e = let a = times-cons (declaration M) (tokens tags vs) k p fs q some_left g in no (declaration M (tokens tags vs) p) a.0 a.1 r t a.3 i e
 
 -- the first definition that passes a test, and whether there is one
 module _ (p : TypeDef → Bool) where

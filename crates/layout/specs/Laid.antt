@@ -3,13 +3,21 @@ use Rattle.std.specs.Prelude.{ℕ, ◌≤◌, ◌≡◌, List, length, get_or}
 use Rattle.std.proofs.Math.Option.{some}
 use Rattle.std.proofs.Math.ListN.{get_elem?}
 use Rattle.definitions.specs.Tokens.{TagValue}
-use Rattle.definitions.specs.Tree.{Equation, Node, Sheet}
+use Rattle.definitions.specs.Tree.{Declared, Equation, Node, Sheet}
 use Rattle.definitions.specs.Reading.{Reader, got}
-use Rattle.definitions.specs.Grammar.{name, declaration, expr, equation, probe, type_def, node}
+use Rattle.definitions.specs.Grammar.{name, ty, declaration, expr, equation, probe, type_def, node}
 use Rattle.layout.specs.Spans.{Spans}
+use Rattle.layout.specs.declared.DeclarationLayout.{DeclarationLayout}
 use Rattle.layout.specs.declared.NodeLayout.{NodeLayout}
 use Rattle.layout.specs.declared.EquationLayout.{EquationLayout}
 use Rattle.layout.specs.declared.SheetLayout.{SheetLayout}
+
+-- a name with its type, from p up to q: the type stands behind the name, where the layout says
+pub record LaidDeclaration (M : ℕ) (ts : List TagValue) (p : ℕ) (d : Declared) (q : ℕ) (l : DeclarationLayout) : Type 0 where
+  pub named : l.name ≡ d.name
+  pub label : name M ts p ≡ got d.name l.type_at
+  pub typed : ty M 8 ts l.type_at ≡ got d.type q
+  pub ends : l.end ≡ q
 
 -- a node that ends at q: its lists stand where the layout says
 pub record LaidNode (M : ℕ) (ts : List TagValue) (n : Node) (q : ℕ) (l : NodeLayout) : Type 0 where

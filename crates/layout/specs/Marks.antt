@@ -35,4 +35,5 @@ there (some m) = true
 -- the first mark of the tokens from p up to q
 pub data Marks (test : ℕ → Bool) (gs vs : List ℕ) : ℕ → ℕ → Option Mark → Type 0 where
   unmarked : {p : ℕ} → Marks test gs vs p p none
-  marked : {p q : ℕ} {b : Option Mark} → Marks test gs vs (p + 1) q b → Marks test gs vs p q (first (mark_of test (get_or gs p 0) (get_or vs p 0)) b)
+  marked : {p q : ℕ} {b : Option Mark} → Marks test gs vs (p + 1) q b →
+      Marks test gs vs p q (first (mark_of test (get_or gs p 0) (get_or vs p 0)) b)

@@ -48,6 +48,8 @@ pub record Named (vs : List ℕ) (places : List ℕ) (n : ℕ) (types : List Typ
 
 -- the parts of a definition that ends at q: its name, how many variants or fields it has and where the first is, or where its type is
 unfoldable pub Described : ℕ → List TagValue → TypeDef → ℕ → Defined → Type 0
-Described M ts d q (Defined.Enum x n p) = (vs : List ℕ) × (times n (name M) ts p ≡ got vs q) × (d ≡ record { name = x; body = Body.enum vs })
-Described M ts d q (Defined.Record x n p) = (fs : List Declared) × (times n (declaration M) ts p ≡ got fs q) × (d ≡ record { name = x; body = Body.fields fs })
+Described M ts d q (Defined.Enum x n p) =
+    (vs : List ℕ) × (times n (name M) ts p ≡ got vs q) × (d ≡ record { name = x; body = Body.enum vs })
+Described M ts d q (Defined.Record x n p) =
+    (fs : List Declared) × (times n (declaration M) ts p ≡ got fs q) × (d ≡ record { name = x; body = Body.fields fs })
 Described M ts d q (Defined.Alias x p) = (t : Ty) × (ty M 8 ts p ≡ got t q) × (d ≡ record { name = x; body = Body.alias t })

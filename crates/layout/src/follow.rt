@@ -2,6 +2,8 @@
 ghost use Rattle.std.specs.Prelude.{◌≡◌};
 ghost use Rattle.layout.specs.Owed.{parts, follows};
 
+use grammar::tags;
+
 // How many parts follow each tag: made once a walk, and lent.
 #[derive(Clone, Copy)]
 pub struct PartsTable {
@@ -27,7 +29,7 @@ impl PartsTable {
     pub fn follow(&self, tag: u8, value: u32) -> u32
         ensures { result ≡ follows tag value }
     {
-        if tag == 3 {
+        if tag == tags::COUNT {
             return value;
         }
         let i = usize::from(tag);

@@ -2,10 +2,11 @@
 #![tactic(auto)]
 
 ghost use Rattle.std.specs.Option.{IsSomeAnd};
-ghost use Rattle.std.specs.Prelude.{◌≡◌, List, ℕ, ◌≤◌, ◌<◌, IfSome, length, get_or};
+ghost use Rattle.std.specs.Prelude.{◌≡◌, List, ℕ, ◌≤◌, ◌<◌, IfSome, None, length, get_or};
 ghost use Rattle.grammar.specs.Read.{tokens_of};
 ghost use Rattle.definitions.specs.Tree.{TypeDef, Expr, Declared, Equation, Probe, Node, Sheet};
-ghost use Rattle.definitions.specs.Reading.{got, times};
+ghost use Rattle.definitions.specs.declared.Refusal.{Refusal};
+ghost use Rattle.definitions.specs.Reading.{got, rejected, times};
 ghost use Rattle.definitions.specs.Grammar.{type_def, name, declaration, expr, equation, probe, node, sheet};
 ghost use Rattle.layout.specs.Table.{Named, Described, FoundFirst, Table};
 ghost use Rattle.std.proofs.Math.Option.{Option};
@@ -13,15 +14,15 @@ ghost use Rattle.definitions.specs.Lists.{any};
 ghost use Rattle.definitions.specs.InferClocks.{samples};
 ghost use Rattle.layout.specs.Owed.{Owed};
 ghost use Rattle.layout.specs.Marks.{is_sample, nowhere, there, Mark, Marks};
-ghost use Rattle.layout.specs.Spans.{past_in, kind_in, Spanned, Ended};
-ghost use Rattle.layout.specs.Laid.{LaidNode, LaidEquation, LaidSheet, Places};
+ghost use Rattle.layout.specs.Spans.{past_in, Spanned, Spans, Ended};
+ghost use Rattle.layout.specs.Laid.{LaidDeclaration, LaidNode, LaidEquation, LaidSheet, Places};
 
 mod follow;
 mod place_table;
 
 use definitions::{DefinitionToken, MOST_ITEMS, MOST_NODES, MOST_TYPES, NodeKind};
 pub use follow::{PartsTable, parts_table};
-use grammar::Source;
+use grammar::{Source, tags};
 pub use place_table::PlaceTable;
 
 // ---- Where the definitions of a sheet's types stand, and their parts: document 01, "The sheet".
@@ -29,16 +30,16 @@ pub use place_table::PlaceTable;
 // A definition: its name, how many variants or fields it has and the first's place; or its name and its type's place.
 #[derive(Clone, Copy)]
 pub enum Defined {
-    Enum(u32, u32, usize),
-    Record(u32, u32, usize),
-    Alias(u32, usize),
+    Enum { name: u32, count: u32, first: usize },
+    Record { name: u32, count: u32, first: usize },
+    Alias { name: u32, target: usize },
 }
 
 // The value at a place, 0 past the end.
 pub fn value_at(values: &[u32], at: usize) -> u32
     ensures { result ≡ get_or values.now at 0 }
 {
-    if at < values.len() { values[at] } else { 0 }
+    values.get(at).copied().unwrap_or(0)
 }
 
 // The number of the first definition of a name.
@@ -53,23 +54,29 @@ pub fn find_definition(values: &[u32], types: &PlaceTable<MOST_TYPES>, x: u32) -
 pub fn describe(source: &Source<'_>, at: usize) -> Option<Defined>
     ensures { (d : TypeDef) (q : ℕ) → type_def source.now.names (tokens_of source.now) at ≡ got d q → IsSomeAnd result (Described source.now.names (tokens_of source.now) d q) }
 {
-    let Ok((t, next)) = grammar::definition_head(source, at) else {
-        return None;
-    };
+    let (t, next) = grammar::definition_head(source, at).ok()?;
     match t {
-        DefinitionToken::Enum(x) => {
-            let Ok((n, first)) = grammar::read_count(source, 3, 0, MOST_ITEMS, next) else {
-                return None;
-            };
-            Some(Defined::Enum(x, n, first))
+        DefinitionToken::Enum(name) => {
+            let (count, first) = grammar::read_count(
+                source,
+                tags::COUNT,
+                0,
+                MOST_ITEMS,
+                next,
+            ).ok()?;
+            Some(Defined::Enum { name, count, first })
         }
-        DefinitionToken::Record(x) => {
-            let Ok((n, first)) = grammar::read_count(source, 3, 0, MOST_ITEMS, next) else {
-                return None;
-            };
-            Some(Defined::Record(x, n, first))
+        DefinitionToken::Record(name) => {
+            let (count, first) = grammar::read_count(
+                source,
+                tags::COUNT,
+                0,
+                MOST_ITEMS,
+                next,
+            ).ok()?;
+            Some(Defined::Record { name, count, first })
         }
-        DefinitionToken::Alias(x) => Some(Defined::Alias(x, next)),
+        DefinitionToken::Alias(name) => Some(Defined::Alias { name, target: next }),
     }
 }
 
@@ -154,9 +161,9 @@ fn definition_end(source: &Source<'_>, at: usize) -> usize
     ensures { (d : TypeDef) (q : ℕ) → type_def source.now.names (tokens_of source.now) at ≡ got d q → result ≡ q }
 {
     match describe(source, at) {
-        Some(Defined::Enum(_, n, first)) => names_end(source, n, first),
-        Some(Defined::Record(_, n, first)) => declarations_end(source, n, first),
-        Some(Defined::Alias(_, first)) => past(source, 1, first),
+        Some(Defined::Enum { count, first, .. }) => names_end(source, count, first),
+        Some(Defined::Record { count, first, .. }) => declarations_end(source, count, first),
+        Some(Defined::Alias { target, .. }) => past(source, 1, target),
         None => at,
     }
 }
@@ -172,7 +179,7 @@ fn definitions_end(source: &Source<'_>, n: u32, at: usize) -> usize
 pub fn is_sample(tag: u8) -> bool
     ensures { result ≡ is_sample tag }
 {
-    matches!(tag, 67..=69)
+    matches!(tag, tags::WHEN..=tags::MERGE)
 }
 
 // Is a when or a merge among the tokens of a stretch?
@@ -198,6 +205,14 @@ pub fn equations_use_clocks(source: &Source<'_>, n: u32, at: usize) -> bool
 pub struct Span {
     pub at: usize,
     pub count: u32,
+    pub end: usize,
+}
+
+// A name with its type: the name, where the type stands, and the place after it.
+#[derive(Clone, Copy)]
+pub struct DeclarationLayout {
+    pub name: u32,
+    pub type_at: usize,
     pub end: usize,
 }
 
@@ -236,13 +251,6 @@ pub fn behind(tags: &[u8], at: usize) -> usize
     if at < tags.len() { at + 1 } else { at }
 }
 
-// The node's kind that a value says.
-fn kind_of(value: u32) -> NodeKind
-    ensures { result ≡ kind_in value }
-{
-    grammar::node_kind(value).unwrap_or(NodeKind::Function)
-}
-
 // A list behind its count, by where so many items end.
 fn list_at<F: Fn(u32, usize) -> usize>(source: &Source<'_>, at: usize, items_end: F) -> Span
     requires { F.IsAlwaysCallable items_end }
@@ -272,6 +280,28 @@ pub fn names_at(source: &Source<'_>, at: usize) -> Span
     list_at(source, at, |n, first| names_end(source, n, first))
 }
 
+// The names of a span, as the values have them.
+pub fn names_in<'a>(source: &Source<'a>, names: Span) -> &'a [u32]
+    ensures read { (xs : List ℕ) (q : ℕ) → times names.count (name source.now.names) (tokens_of source.now) names.at ≡ got xs q → result.now ≡ xs }
+    ensures spanned { (xs : List ℕ) → Spans (name source.now.names) (tokens_of source.now) xs names → result.now ≡ xs }
+{
+    let values = source.values;
+    let from = names.at.min(values.len());
+    let to = from.saturating_add(names.count as usize).min(values.len());
+    &values[from..to]
+}
+
+// The name with its type that stands at a place.
+pub fn declaration_at(source: &Source<'_>, at: usize) -> Option<DeclarationLayout>
+    ensures read { (d : Declared) (q : ℕ) → declaration source.now.names (tokens_of source.now) at ≡ got d q → IsSomeAnd result (LaidDeclaration source.now.names (tokens_of source.now) at d q) }
+    ensures refused { (r : Refusal) → declaration source.now.names (tokens_of source.now) at ≡ rejected r → result ≡ None }
+{
+    let end = grammar::read_declaration(source, at).ok()?;
+    let name = value_at(source.values, at);
+    let type_at = behind(source.tags, at);
+    Some(DeclarationLayout { name, type_at, end })
+}
+
 // The parts of the node that stands at a place.
 pub fn node_at(source: &Source<'_>, at: usize) -> NodeLayout
     ensures { (n : Node) (q : ℕ) → node source.now.names (tokens_of source.now) at ≡ got n q → LaidNode source.now.names (tokens_of source.now) n q result }
@@ -292,7 +322,7 @@ pub fn node_at(source: &Source<'_>, at: usize) -> NodeLayout
         |n, first| probes_end(source, n, first),
     );
     let name = value_at(source.values, at);
-    let kind = kind_of(value_at(source.values, second));
+    let kind = NodeKind::try_from(value_at(source.values, second)).unwrap_or(NodeKind::Function);
     let end = probes.end;
     NodeLayout {
         name,

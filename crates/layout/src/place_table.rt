@@ -2,6 +2,7 @@
 ghost use Rattle.std.specs.Prelude.{◌≡◌, ◌≤◌, ◌<◌, ◌==◌, IfSome, position, take, length, get_or};
 
 // The places of parts of a sheet in their order: of at most N, so many.
+// Stays (fixed memory): how many there are is the sheet's, and the array is as long as there can be.
 #[derive(Clone, Copy)]
 pub struct PlaceTable<const N: usize> {
     pub at: [usize; N],

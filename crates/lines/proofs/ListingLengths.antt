@@ -1,10 +1,10 @@
 -- A node's listing can be measured. Assumes nothing.
-use mathlib.Core.Path.{◌≡◌, refl, sym, ap}
+use mathlib.Core.Path.{◌≡◌, refl, ap}
 use mathlib.Core.List.{List, [], ◌∷◌, ◌++◌, map}
 use mathlib.Core.Bool.{Bool, true, false}
 use Prim.Native.Nat.{ℕ, zero, suc, ◌+◌, ◌-◌, ◌*◌, ◌≤◌, ◌<◌, Ordering}
 use native.Mathlib.Omega.{arith}
-use lib.ListN.{length, get_or, take, drop, length-append}
+use lib.ListN.{length, get_or, length-append, length-map}
 use lib.Dec.{eqb, ltb}
 use Rattle.definitions.specs.Lists.{choose, join, numbered, Letters}
 use Rattle.definitions.specs.Tokens.{TagValue}
@@ -26,12 +26,7 @@ use Rattle.findings.proofs.Laws.{length_from}
 use Rattle.spelling.specs.Places.{letters_in}
 use Rattle.chain_order.specs.Order.{row_of, picked}
 use Rattle.skeleton.specs.Sites.{EquationsOn}
-use Rattle.spelling.specs.Writing.{Put, farthest}
-use Rattle.spelling.proofs.Writing.{over-past}
-use Rattle.std.specs.Prelude.{Ok, Err}
-use Rattle.definitions.specs.declared.Refusal.{Refusal}
-use Rattle.lines.specs.Lending.{Gives}
-use Rattle.lines.proofs.Giving.{gives-written, gives-lent}
+use Rattle.spelling.specs.Writing.{farthest}
 use Rattle.lines.specs.Pieces.{head_line, equation_line, chain_line}
 use Rattle.lines.proofs.Pieces.{listing-pieces}
 use Rattle.lines.proofs.TextsLengths.{IsShallow, name-length, head-length, equation-length, chain_length, line-length, Within, join-length}
@@ -43,10 +38,6 @@ use Rattle.chain_order.specs.declared.OrderedClocks.{OrderedClocks}
 use Rattle.lines.proofs.Laws.{node-many}
 
 -- ---- how many
-map-length : {A B : Type 0} (f : A → B) (l : List A) → length (map f l) ≡ length l
-map-length f [] = refl
-map-length f (a ∷ l) = ap suc (map-length f l)
-
 numbered-length : {A B : Type 0} (f : ℕ → A → B) (k : ℕ) (l : List A) → length (numbered f k l) ≡ length l
 numbered-length f k [] = refl
 numbered-length f k (a ∷ l) = ap suc (numbered-length f (suc k) l)
@@ -155,7 +146,7 @@ module _ (letters : ℕ → Letters) (short : (x : ℕ) → length (letters x) �
       let e₁ = join-length 131114 (numbered (equation_line letters) 0 es) (equations-within 0 es a) in
       let e₂ = join-length 131099 (map (chain_line letters) cs) (chains-within cs b) in
       let e₃ = join-length 278998 (map (fault_line letters i) (clock_faults (findings_in t f))) (faults-within t i 0 f) in
-      let n₃ = map-length (fault_line letters i) (clock_faults (findings_in t f)) in
+      let n₃ = length-map (clock_faults (findings_in t f)) (fault_line letters i) in
       omega (
         arith,
         k,
@@ -170,7 +161,7 @@ module _ (letters : ℕ → Letters) (short : (x : ℕ) → length (letters x) �
         e₂,
         e₃,
         numbered-length (equation_line letters) 0 es,
-        map-length (chain_line letters) cs,
+        length-map cs (chain_line letters),
         n₃,
         few-faults (findings_in t f),
         length_from t 0 f,
@@ -196,24 +187,10 @@ node-fits l o n h e small =
     let b : Low (map (λ (c : Clocked). c.clock) k.equations) = low-read told.names tags values l.sites.now k.equations told.layout.equations.at told.layout.equations.end h.tells.on in
     let c : Low (chains letters (findings_in t told.findings)) = rw e at (low-picked o.rows.now o.order.now 0 o.count) in
     let d : length (map (λ (c : Clocked). c.clock) k.equations) ≤ 4096 =
-    omega (arith, map-length (λ (c : Clocked). c.clock) k.equations, node-many n.node k h.formed, h.laid.equations.many, few-equations told.names (tokens tags values) told.layout.equations.count told.layout.equations.at n.node.equations told.layout.equations.end h.laid.equations.items, tokens-length tags values l.source.same_length, small.tokens) in
+    omega (arith, length-map k.equations (λ (c : Clocked). c.clock), node-many n.node k h.formed, h.laid.equations.many, few-equations told.names (tokens tags values) told.layout.equations.count told.layout.equations.at n.node.equations told.layout.equations.end h.laid.equations.items, tokens-length tags values l.source.same_length, small.tokens) in
     let g : length (chains letters (findings_in t told.findings)) ≤ 4096 = omega (arith, few-chains letters (findings_in t told.findings), length_from t 0 told.findings, small.findings) in
     let r = parts-fit letters short told.number n.node.name k.passes told.findings (map (λ (c : Clocked). c.clock) k.equations) (chains letters (findings_in t told.findings)) t b c d g small.findings in
     rw h.tells.all at r
 
 pub few : (n : ℕ) → n ≤ 4096 → n < 4294967296
 few n h = omega arith
-
--- a text measured, and then put where the lent bytes are enough
-module _ (text : Letters) (lent : List ℕ) (n : ℕ) (h : n ≤ farthest) (e : n ≡ length text) where
-  fits : length text ≤ farthest
-  fits = omega (arith, h, e)
-
-  put-empty : Put text 0 [] n []
-  put-empty = record { place = omega (arith, h, e); bytes = sym (over-past 0 text [] (omega arith)) }
-
-  pub measured-written : {q : ℕ} {part : List ℕ} → n ≤ length lent → Put text 0 (take n lent) q part → Gives text lent (Ok n) (part ++ drop n lent)
-  measured-written k v = gives-written text lent n fits put-empty k v
-
-  pub measured-lent : length lent < n → Gives text lent (Err (Refusal.Lent n)) lent
-  measured-lent k = gives-lent text lent n fits put-empty k

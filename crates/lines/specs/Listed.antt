@@ -14,6 +14,7 @@ use Rattle.lines.specs.ToldClocks.{ToldClocks}
 use Rattle.lines.specs.declared.ListedNode.{ListedNode}
 
 -- the node that is listed, with its clocks, is n: laid out so, and what was told and found is of its clocks
+-- Stays (proof): as a short name for a record over the tables, which `query` has too, it would not tell the struct (`node-short` there).
 pub record Lists (l : ListedNode) (n : ClockedNode) : Type 0 where
   pub end : ℕ
   pub laid : LaidNode l.told.names (tokens_of l.source) n.node end l.told.layout

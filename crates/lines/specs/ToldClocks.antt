@@ -3,10 +3,10 @@ use Rattle.std.specs.Prelude.{ℕ, ◌*◌, ◌≤◌, ◌≡◌, List, length}
 use Rattle.definitions.specs.InferClocks.{Clocking}
 use Rattle.findings.specs.Findings.{findings_in}
 use Rattle.skeleton.specs.Sites.{EquationsOn}
-use Rattle.lines.specs.declared.Told.{Told}
+use Rattle.lines.specs.declared.ToldNode.{ToldNode}
 
 -- a node's clocks: the number of passes, the findings in one table, the equations' clocks in the rows of their counts in another
-pub record ToldClocks (gs vs t sites : List ℕ) (told : Told) (k : Clocking) : Type 0 where
+pub record ToldClocks (gs vs t sites : List ℕ) (told : ToldNode) (k : Clocking) : Type 0 where
   pub made : k.passes ≡ told.passes
   pub room : 38 * told.findings ≤ length t
   pub all : findings_in t told.findings ≡ k.findings

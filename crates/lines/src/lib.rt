@@ -2,7 +2,7 @@
 #![tactic(auto)]
 
 ghost use Rattle.std.specs.Prelude.{◌∷◌, ◌++◌, List, map, ◌≤◌, ◌<◌, ℕ, ◌+◌, ◌*◌, min, length, ◌≡◌};
-ghost use Rattle.definitions.specs.Lists.{bytes, decimal, join, numbered};
+ghost use Rattle.definitions.specs.Lists.{Letters, bytes, decimal, join, numbered};
 ghost use Rattle.definitions.specs.Texts.{when_text, test_sign, quoted, condition_text, clock_text, fault_text, clock_key, fault_line};
 ghost use Rattle.clock_tables.specs.Value.{clock_at, value_of};
 ghost use Rattle.findings.specs.Value.{clock_fault_of, fault_of};
@@ -10,7 +10,8 @@ ghost use Rattle.spelling.specs.Places.{letters_in};
 ghost use Rattle.spelling.specs.Writing.{Put, farthest};
 ghost use Rattle.spelling.specs.Written.{Wrote};
 ghost use Rattle.lines.specs.Pieces.{words, on_another, head_line, equation_line, chain_line};
-ghost use Rattle.lines.specs.Lending.{Gives};
+ghost use Rattle.lines.specs.Lending.{Gives, PutsFront};
+ghost use Rattle.lines.specs.Spelled.{Spells};
 ghost use Rattle.definitions.specs.InferClocks.{Clocked, clock_faults, left_elsewhere, used_elsewhere, when_elsewhere, clock_name_elsewhere, undeclared, no_default, no_output_default};
 ghost use Rattle.definitions.specs.Output.{ClockedNode};
 ghost use Rattle.findings.specs.Findings.{findings_in};
@@ -28,15 +29,6 @@ use spelling::{Spelling, TextWriter};
 
 // ---- The texts of faults, and the lines of a listing, put at a place of lent bytes.
 
-// A name between backquotes.
-fn put_quoted(text: &mut TextWriter<'_>, spelling: Spelling<'_>, x: u32)
-    ensures { Wrote (quoted (letters_in spelling.entry) x) text.old text.new }
-{
-    text.put(b'`');
-    text.put_name(spelling, x);
-    text.put(b'`');
-}
-
 // What stands before a condition's name in a text.
 fn put_when(text: &mut TextWriter<'_>, test: Test)
     ensures { Wrote (when_text test) text.old text.new }
@@ -44,193 +36,6 @@ fn put_when(text: &mut TextWriter<'_>, test: Test)
     match test {
         Test::On => text.put_all(b"when "),
         Test::Not => text.put_all(b"when not "),
-    }
-}
-
-// A condition in a text.
-fn put_condition(text: &mut TextWriter<'_>, spelling: Spelling<'_>, k: Condition)
-    ensures { Wrote (condition_text (letters_in spelling.entry) k) text.old text.new }
-{
-    put_when(text, k.test);
-    text.put_name(spelling, k.name);
-}
-
-// The first d conditions of a clock, with blanks between.
-fn put_conditions(text: &mut TextWriter<'_>, spelling: Spelling<'_>, c: Clock, d: usize)
-    requires d_nonzero { 0 < d }
-    requires d_bound { d ≤ 8 }
-    ensures { Wrote (words (letters_in spelling.entry) (clock_at c.conditions d)) text.old text.new }
-{
-    put_condition(text, spelling, c.conditions[0]);
-    for i in 1..d {
-        text.put(b' ');
-        put_condition(text, spelling, c.conditions[i]);
-    }
-}
-
-// A clock in a text.
-fn put_clock_text(text: &mut TextWriter<'_>, spelling: Spelling<'_>, c: Clock)
-    ensures { Wrote (clock_text (letters_in spelling.entry) (value_of c)) text.old text.new }
-{
-    let d = c.depth();
-    if d == 0 {
-        text.put_all(b"the base clock");
-        return;
-    }
-    text.put_all(b"clock `");
-    put_conditions(text, spelling, c, d);
-    text.put(b'`');
-}
-
-// That a name is on one clock, and, behind the letters between, another clock.
-fn put_on_another(
-    text: &mut TextWriter<'_>,
-    spelling: Spelling<'_>,
-    name: u32,
-    on: Clock,
-    between: &[u8],
-    expected: Clock,
-)
-    ensures { Wrote (on_another (letters_in spelling.entry) name (value_of on) between.now (value_of expected)) text.old text.new }
-{
-    put_quoted(text, spelling, name);
-    text.put_all(b" is on ");
-    put_clock_text(text, spelling, on);
-    text.put_all(between);
-    put_clock_text(text, spelling, expected);
-}
-
-// Fault 1: a left name on another clock than its equation.
-fn put_left_elsewhere(
-    text: &mut TextWriter<'_>,
-    spelling: Spelling<'_>,
-    name: u32,
-    on: Clock,
-    expected: Clock,
-    port: bool,
-)
-    ensures { Wrote (fault_text (letters_in spelling.entry) (left_elsewhere name (value_of on) (value_of expected) port)) text.old text.new }
-{
-    let between = b" but its defining equation runs on ";
-    put_on_another(text, spelling, name, on, between, expected);
-    if port {
-        text.put_all(
-            b" \xe2\x80\x94 inputs and outputs are always base-clocked; use merge(...) to bring the stream back up",
-        );
-    }
-}
-
-// Fault 2: a name used on another clock.
-fn put_used_elsewhere(
-    text: &mut TextWriter<'_>,
-    spelling: Spelling<'_>,
-    name: u32,
-    on: Clock,
-    expected: Clock,
-)
-    ensures { Wrote (fault_text (letters_in spelling.entry) (used_elsewhere name (value_of on) (value_of expected))) text.old text.new }
-{
-    let between = b" but is used here on ";
-    put_on_another(text, spelling, name, on, between, expected);
-    text.put_all(b" \xe2\x80\x94 sample it with `when` or join it with `merge` first");
-}
-
-// Fault 3: a when where another clock is expected.
-fn put_when_elsewhere(
-    text: &mut TextWriter<'_>,
-    spelling: Spelling<'_>,
-    condition: Condition,
-    expected: Clock,
-)
-    ensures { Wrote (fault_text (letters_in spelling.entry) (when_elsewhere condition (value_of expected))) text.old text.new }
-{
-    text.put(b'`');
-    put_condition(text, spelling, condition);
-    text.put_all(b"` produces a sampled stream, but this position expects ");
-    put_clock_text(text, spelling, expected);
-    text.put_all(b" \xe2\x80\x94 every operand of an operator must be on the same clock");
-}
-
-// Fault 4: a clock name on another clock.
-fn put_clock_name_elsewhere(
-    text: &mut TextWriter<'_>,
-    spelling: Spelling<'_>,
-    name: u32,
-    on: Clock,
-    expected: Clock,
-)
-    ensures { Wrote (fault_text (letters_in spelling.entry) (clock_name_elsewhere name (value_of on) (value_of expected))) text.old text.new }
-{
-    text.put_all(b"clock variable ");
-    let between = b" but samples a stream on ";
-    put_on_another(text, spelling, name, on, between, expected);
-}
-
-// The text of a clock fault.
-fn put_clock_fault(text: &mut TextWriter<'_>, spelling: Spelling<'_>, fault: ClockFault)
-    ensures { Wrote (fault_text (letters_in spelling.entry) (clock_fault_of fault)) text.old text.new }
-{
-    match fault {
-        ClockFault::LeftElsewhere {
-            name,
-            on,
-            expected,
-            port,
-        } => { put_left_elsewhere(text, spelling, name, on, expected, port) }
-        ClockFault::UsedElsewhere { name, on, expected } => {
-            put_used_elsewhere(text, spelling, name, on, expected)
-        }
-        ClockFault::WhenElsewhere {
-            condition,
-            expected,
-        } => { put_when_elsewhere(text, spelling, condition, expected) }
-        ClockFault::ClockNameElsewhere { name, on, expected } => {
-            put_clock_name_elsewhere(text, spelling, name, on, expected)
-        }
-    }
-}
-
-// Fault 5: a left name undeclared.
-fn put_undeclared(text: &mut TextWriter<'_>, spelling: Spelling<'_>, name: u32)
-    ensures { Wrote (fault_text (letters_in spelling.entry) (undeclared name)) text.old text.new }
-{
-    put_quoted(text, spelling, name);
-    text.put_all(b" is not declared");
-}
-
-// Fault 6: no default for it.
-fn put_no_default(text: &mut TextWriter<'_>, spelling: Spelling<'_>, name: u32)
-    ensures { Wrote (fault_text (letters_in spelling.entry) (no_default name)) text.old text.new }
-{
-    text.put_all(b"no default value for the type of ");
-    put_quoted(text, spelling, name);
-}
-
-// Fault 7: no default for a call's output.
-fn put_no_output_default(text: &mut TextWriter<'_>, spelling: Spelling<'_>, output: u32, node: u32)
-    ensures { Wrote (fault_text (letters_in spelling.entry) (no_output_default output node)) text.old text.new }
-{
-    text.put_all(b"no default value for output ");
-    put_quoted(text, spelling, output);
-    text.put_all(b" of ");
-    put_quoted(text, spelling, node);
-}
-
-// The text of a fault.
-fn put_fault_text(text: &mut TextWriter<'_>, spelling: Spelling<'_>, fault: Fault)
-    ensures { Wrote (fault_text (letters_in spelling.entry) (fault_of fault)) text.old text.new }
-{
-    match fault {
-        Fault::Clock(fault) => put_clock_fault(text, spelling, fault),
-        Fault::Undeclared(name) => put_undeclared(text, spelling, name),
-        Fault::NoDefault(name) => put_no_default(text, spelling, name),
-        Fault::NoOutputDefault { output, node } => {
-            put_no_output_default(text, spelling, output, node)
-        }
-        Fault::NotSingleCall => text.put_all(
-            b"a clocked equation with several outputs must be a single call",
-        ),
-        Fault::PreUntyped => text.put_all(b"cannot determine the type of a clocked `pre` operand"),
     }
 }
 
@@ -244,23 +49,196 @@ fn put_sign(text: &mut TextWriter<'_>, test: Test)
     }
 }
 
-// A condition in the listing.
-fn put_key_part(text: &mut TextWriter<'_>, spelling: Spelling<'_>, k: Condition)
-    ensures { Wrote (bytes "/" ++ (letters_in spelling.entry k.name ++ test_sign k.test)) text.old text.new }
-{
-    text.put(b'/');
-    text.put_name(spelling, k.name);
-    put_sign(text, k.test);
+// A text, and the spelling of the names in it.
+// Stays (no plainer): no `write!`, which puts `str`s alone: that letters are text is known where a sheet is checked, and not of these bytes.
+#[derive(Drop)]
+struct NamedText<'a, 'b> {
+    text: &'a mut TextWriter<'b>,
+    spelling: Spelling<'a>,
 }
 
-// A clock in the listing.
-fn put_clock_key(text: &mut TextWriter<'_>, spelling: Spelling<'_>, c: Clock)
-    ensures { Wrote (clock_key (letters_in spelling.entry) (value_of c)) text.old text.new }
-{
-    let d = c.depth();
-    text.put_all(b"base");
-    for i in 0..d {
-        put_key_part(text, spelling, c.conditions[i]);
+impl NamedText<'_, '_> {
+    // A name between backquotes.
+    fn put_quoted(&mut self, x: u32)
+        ensures { Spells (λ n. quoted n x) self.old self.new }
+    {
+        self.text.put(b'`');
+        self.text.put_name(self.spelling, x);
+        self.text.put(b'`');
+    }
+
+    // A condition in a text.
+    fn put_condition(&mut self, k: Condition)
+        ensures { Spells (λ n. condition_text n k) self.old self.new }
+    {
+        put_when(self.text, k.test);
+        self.text.put_name(self.spelling, k.name);
+    }
+
+    // A condition and others, with blanks between.
+    fn put_conditions(&mut self, first: Condition, others: &[Condition])
+        ensures { Spells (λ n. words n (clock_at (first ∷ others.now) (length others.now + 1))) self.old self.new }
+    {
+        self.put_condition(first);
+        for k in others {
+            self.text.put(b' ');
+            self.put_condition(*k);
+        }
+    }
+
+    // A clock in a text.
+    fn put_clock_text(&mut self, c: Clock)
+        ensures { Spells (λ n. clock_text n (value_of c)) self.old self.new }
+    {
+        match c.conditions().split_first() {
+            None => self.text.put_all(b"the base clock"),
+            Some((first, others)) => {
+                self.text.put_all(b"clock `");
+                self.put_conditions(*first, others);
+                self.text.put(b'`');
+            }
+        }
+    }
+
+    // That a name is on one clock, and, behind the letters between, another clock.
+    fn put_on_another(&mut self, name: u32, on: Clock, between: &[u8], expected: Clock)
+        ensures { Spells (λ n. on_another n name (value_of on) between.now (value_of expected)) self.old self.new }
+    {
+        self.put_quoted(name);
+        self.text.put_all(b" is on ");
+        self.put_clock_text(on);
+        self.text.put_all(between);
+        self.put_clock_text(expected);
+    }
+
+    // Fault 1: a left name on another clock than its equation.
+    fn put_left_elsewhere(&mut self, name: u32, on: Clock, expected: Clock, port: bool)
+        ensures { Spells (λ n. fault_text n (left_elsewhere name (value_of on) (value_of expected) port)) self.old self.new }
+    {
+        let between = b" but its defining equation runs on ";
+        self.put_on_another(name, on, between, expected);
+        if port {
+            self.text.put_all(
+                b" \xe2\x80\x94 inputs and outputs are always base-clocked; use merge(...) to bring the stream back up",
+            );
+        }
+    }
+
+    // Fault 2: a name used on another clock.
+    fn put_used_elsewhere(&mut self, name: u32, on: Clock, expected: Clock)
+        ensures { Spells (λ n. fault_text n (used_elsewhere name (value_of on) (value_of expected))) self.old self.new }
+    {
+        let between = b" but is used here on ";
+        self.put_on_another(name, on, between, expected);
+        self.text.put_all(b" \xe2\x80\x94 sample it with `when` or join it with `merge` first");
+    }
+
+    // Fault 3: a when where another clock is expected.
+    fn put_when_elsewhere(&mut self, condition: Condition, expected: Clock)
+        ensures { Spells (λ n. fault_text n (when_elsewhere condition (value_of expected))) self.old self.new }
+    {
+        self.text.put(b'`');
+        self.put_condition(condition);
+        self.text
+            .put_all(b"` produces a sampled stream, but this position expects ");
+        self.put_clock_text(expected);
+        self.text.put_all(b" \xe2\x80\x94 every operand of an operator must be on the same clock");
+    }
+
+    // Fault 4: a clock name on another clock.
+    fn put_clock_name_elsewhere(&mut self, name: u32, on: Clock, expected: Clock)
+        ensures { Spells (λ n. fault_text n (clock_name_elsewhere name (value_of on) (value_of expected))) self.old self.new }
+    {
+        self.text.put_all(b"clock variable ");
+        let between = b" but samples a stream on ";
+        self.put_on_another(name, on, between, expected);
+    }
+
+    // The text of a clock fault.
+    fn put_clock_fault(&mut self, fault: ClockFault)
+        ensures { Spells (λ n. fault_text n (clock_fault_of fault)) self.old self.new }
+    {
+        match fault {
+            ClockFault::LeftElsewhere {
+                name,
+                on,
+                expected,
+                port,
+            } => self.put_left_elsewhere(name, on, expected, port),
+            ClockFault::UsedElsewhere { name, on, expected } => {
+                self.put_used_elsewhere(name, on, expected)
+            }
+            ClockFault::WhenElsewhere {
+                condition,
+                expected,
+            } => self.put_when_elsewhere(condition, expected),
+            ClockFault::ClockNameElsewhere { name, on, expected } => {
+                self.put_clock_name_elsewhere(name, on, expected)
+            }
+        }
+    }
+
+    // Fault 5: a left name undeclared.
+    fn put_undeclared(&mut self, name: u32)
+        ensures { Spells (λ n. fault_text n (undeclared name)) self.old self.new }
+    {
+        self.put_quoted(name);
+        self.text.put_all(b" is not declared");
+    }
+
+    // Fault 6: no default for it.
+    fn put_no_default(&mut self, name: u32)
+        ensures { Spells (λ n. fault_text n (no_default name)) self.old self.new }
+    {
+        self.text.put_all(b"no default value for the type of ");
+        self.put_quoted(name);
+    }
+
+    // Fault 7: no default for a call's output.
+    fn put_no_output_default(&mut self, output: u32, node: u32)
+        ensures { Spells (λ n. fault_text n (no_output_default output node)) self.old self.new }
+    {
+        self.text.put_all(b"no default value for output ");
+        self.put_quoted(output);
+        self.text.put_all(b" of ");
+        self.put_quoted(node);
+    }
+
+    // The text of a fault.
+    fn put_fault_text(&mut self, fault: Fault)
+        ensures { Spells (λ n. fault_text n (fault_of fault)) self.old self.new }
+    {
+        match fault {
+            Fault::Clock(fault) => self.put_clock_fault(fault),
+            Fault::Undeclared(name) => self.put_undeclared(name),
+            Fault::NoDefault(name) => self.put_no_default(name),
+            Fault::NoOutputDefault { output, node } => self.put_no_output_default(output, node),
+            Fault::NotSingleCall => self.text.put_all(
+                b"a clocked equation with several outputs must be a single call",
+            ),
+            Fault::PreUntyped => self
+                .text
+                .put_all(b"cannot determine the type of a clocked `pre` operand"),
+        }
+    }
+
+    // A condition in the listing.
+    fn put_key_part(&mut self, k: Condition)
+        ensures { Spells (λ n. bytes "/" ++ (n k.name ++ test_sign k.test)) self.old self.new }
+    {
+        self.text.put(b'/');
+        self.text.put_name(self.spelling, k.name);
+        put_sign(self.text, k.test);
+    }
+
+    // A clock in the listing.
+    fn put_clock_key(&mut self, c: Clock)
+        ensures { Spells (λ n. clock_key n (value_of c)) self.old self.new }
+    {
+        self.text.put_all(b"base");
+        for k in c.conditions() {
+            self.put_key_part(*k);
+        }
     }
 }
 
@@ -280,7 +258,7 @@ pub fn put_fault_line(
     text.put_number(number);
     text.put_number(equation);
     text.put(b' ');
-    put_fault_text(text, spelling, fault);
+    NamedText { text, spelling }.put_fault_text(fault);
     text.put(b'\n');
 }
 
@@ -308,7 +286,7 @@ pub fn put_equation_line(text: &mut TextWriter<'_>, spelling: Spelling<'_>, i: u
 {
     text.put_decimal(i as u64);
     text.put(b' ');
-    put_clock_key(text, spelling, c);
+    NamedText { text, spelling }.put_clock_key(c);
     text.put(b'\n');
 }
 
@@ -317,7 +295,7 @@ pub fn put_chain_line(text: &mut TextWriter<'_>, spelling: Spelling<'_>, c: Cloc
     ensures { Wrote (chain_line (letters_in spelling.entry) (value_of c)) text.old text.new }
 {
     text.put_all(b"chain ");
-    put_clock_key(text, spelling, c);
+    NamedText { text, spelling }.put_clock_key(c);
     text.put(b'\n');
 }
 
@@ -326,8 +304,26 @@ fn put_front(out: &mut [u8], spelling: Spelling<'_>, fault: Fault) -> usize
     ensures { Put (fault_text (letters_in spelling.entry) (fault_of fault)) 0 out.old result out.new }
 {
     let mut text = TextWriter { out, at: 0 };
-    put_fault_text(&mut text, spelling, fault);
+    NamedText {
+        text: &mut text,
+        spelling,
+    }
+    .put_fault_text(fault);
     text.place()
+}
+
+// A text over the front of the lent bytes, if these are enough, by what puts it over any bytes as far as they reach and tells how long it
+// is; else none is changed.
+fn lend_put<F: Fn(&mut [u8]) -> usize>(out: &mut [u8], put: F) -> Result<usize, Refusal>
+    requires callable { F.IsAlwaysCallable put }
+    ensures { (text : Letters) → length text ≤ farthest → PutsFront (F.post put) text → Gives text out.old result out.new }
+{
+    let size = put(&mut [0u8; 1]);
+    if size <= out.len() {
+        put(&mut out[..size]);
+        return Ok(size);
+    }
+    Err(Refusal::Lent(size))
 }
 
 // The text of a fault over the front of the lent bytes, if these are enough; else none is changed.
@@ -335,19 +331,14 @@ pub fn text_into(out: &mut [u8], spelling: Spelling<'_>, fault: Fault) -> Result
     requires { length spelling.letters.now ≤ 65536 }
     ensures { Gives (fault_text (letters_in spelling.entry) (fault_of fault)) out.old result out.new }
 {
-    let needed = put_front(&mut [0u8; 1], spelling, fault);
-    if needed <= out.len() {
-        put_front(&mut out[..needed], spelling, fault);
-        return Ok(needed);
-    }
-    Err(Refusal::Lent(needed))
+    lend_put(out, |bytes: &mut [u8]| put_front(bytes, spelling, fault))
 }
 
 // ---- A node's clock listing put at a place of lent bytes.
 
 // A node: its layout and its number, how many names its sheet has, and how many passes and findings clock inference told.
 #[derive(Clone, Copy)]
-pub struct Told {
+pub struct ToldNode {
     pub layout: NodeLayout,
     pub number: usize,
     pub names: u32,
@@ -361,8 +352,8 @@ pub struct Told {
 pub struct ListedNode<'a> {
     pub spelling: Spelling<'a>,
     pub source: Source<'a>,
-    pub told: Told,
-    // Stays (no plainer): clocking tells the count while it writes the table, which is lent to be read only then; `findings` has both.
+    pub told: ToldNode,
+    // Stays (no plainer): apart from its count, which clocking tells while it still writes the table; `findings` has both.
     pub table: &'a [u32],
     pub sites: &'a [u32],
 }
@@ -442,22 +433,12 @@ impl ListedNode<'_> {
     }
 
     // The same over the front of the lent bytes, as far as they reach: how long it is.
-    pub fn put(&self, out: &mut [u8], ordered: &OrderedClocks<'_>) -> usize
-        ensures upper_bound { result ≤ farthest }
-        ensures put { (n : ClockedNode) → Lists self.now n → AreChains self.now ordered.now → Put (listed self.now n) 0 out.old result out.new }
-        ensures fits { (n : ClockedNode) → Lists self.now n → AreChains self.now ordered.now → IsSmall self.now → length (listed self.now n) ≤ farthest }
+    fn put(&self, out: &mut [u8], ordered: &OrderedClocks<'_>) -> usize
+        ensures { (n : ClockedNode) → Lists self.now n → AreChains self.now ordered.now → Put (listed self.now n) 0 out.old result out.new }
     {
         let mut listing = TextWriter { out, at: 0 };
         self.write(&mut listing, ordered);
         listing.place()
-    }
-
-    // How long its listing is.
-    pub fn measure(&self, ordered: &OrderedClocks<'_>) -> usize
-        ensures upper_bound { result ≤ farthest }
-        ensures value { (n : ClockedNode) → Lists self.now n → AreChains self.now ordered.now → IsSmall self.now → result ≡ length (listed self.now n) }
-    {
-        self.put(&mut [0u8; 1], ordered)
     }
 
     // Its listing over the front of the lent bytes, if these are enough; else none is changed.
@@ -469,17 +450,7 @@ impl ListedNode<'_> {
     ) -> Result<usize, Refusal>
         ensures { (n : ClockedNode) → Lists self.now n → 17 * self.now.told.findings ≤ length rows.old → self.now.told.findings ≤ length chain.old → IsSmall self.now → Gives (listed self.now n) out.old result out.new }
     {
-        let count = infer_clocks::chain_rows(self.spelling, self.findings(), rows, chain);
-        let ordered = OrderedClocks {
-            rows,
-            order: chain,
-            count,
-        };
-        let size = self.measure(&ordered);
-        if size <= out.len() {
-            self.put(&mut out[..size], &ordered);
-            return Ok(size);
-        }
-        Err(Refusal::Lent(size))
+        let ordered = infer_clocks::chain_rows(self.spelling, self.findings(), rows, chain);
+        lend_put(out, |bytes: &mut [u8]| self.put(bytes, &ordered))
     }
 }

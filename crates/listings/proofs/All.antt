@@ -1,4 +1,4 @@
--- A text that is lent, and the listings of all nodes: put aside and lent, or put again. Assumes nothing.
+-- A text that is lent: put aside and lent, or put again; and the listings of all nodes. Assumes nothing.
 use mathlib.Core.Path.{◌≡◌, refl, sym, subst, ◌∙◌, ap}
 use mathlib.Core.List.{List, [], ◌∷◌, append-nil}
 use mathlib.Core.Bool.{Bool, true, false}
@@ -9,22 +9,23 @@ use lib.ListN.{length, take}
 use borrow.Author.Tests.{le-leb, lt-leb}
 use Rattle.std.proofs.Common.{Result, Ok, Err}
 use Rattle.definitions.specs.declared.Refusal.{Refusal}
-use Rattle.definitions.specs.Lists.{choose, join, numbered, over, Letters}
+use Rattle.definitions.specs.Lists.{choose, over, Letters}
 use Rattle.definitions.specs.Tokens.{TagValue}
 use Rattle.definitions.specs.Tree.{Node}
 use Rattle.definitions.specs.Reading.{got, times}
 use Rattle.definitions.specs.Grammar.{node}
-use Rattle.definitions.specs.Refusals.{accepted, refused}
+use Rattle.definitions.specs.Refusals.{Answer, accepted, refused, faulty, ◌>>=◌}
 use Rattle.definitions.specs.InferClocks.{Formed, deep, formed, Clocking, clocking}
-use Rattle.definitions.specs.Output.{letters_of, ClockedNode}
+use Rattle.definitions.specs.Output.{letters_of}
 use Rattle.definitions.specs.Answer.{Input, clockings, node_at, node_listing}
 use Rattle.grammar.proofs.Got.{times-nil, times-cons}
 use Rattle.parts.specs.Bytes.{written_answer, written_bytes}
 use Rattle.lines.specs.Lending.{lent_text}
 use Rattle.spelling.proofs.Writing.{over-front}
-use Rattle.query.specs.Listed.{ListingsStand}
+use Rattle.query.specs.Listed.{TextStands}
 use Rattle.query.specs.Words.{PutText}
 use Rattle.query.proofs.Nodes.{node-formed, node-deep}
+use Rattle.listings.specs.Lending.{lent_answer}
 use Rattle.listings.specs.Answers.{nodes_listed, listing_of, listings_of, ListingGiven}
 use Rattle.listings.proofs.Given.{listing-same}
 
@@ -74,49 +75,51 @@ take-over [] s h = refl
 take-over (a ∷ t) [] h = absurd (omega arith)
 take-over (a ∷ t) (b ∷ s) h = ap (λ (r : List ℕ). a ∷ r) (take-over t s (omega arith))
 
-module _ (letters : ℕ → Letters) (ns : List Node) (aside aside' lent : List ℕ) where
-  -- 9
-  pub aside-deep : (r : Refusal) → ListingsStand letters ns aside aside' (Err r) → ListingGiven (nodes_listed letters ns (length lent)) lent lent (Err r)
-  unfolding ListingsStand
-  aside-deep r h = rw h (record { answer = refl; bytes = refl })
+-- each item's text of those that are answered
+pub lent-each : {A : Type 0} (v : Answer A) (text : A → Letters) (lent : ℕ) → lent_answer (v >>= λ a. accepted (text a)) lent ≡ (v >>= λ a. lent_text (text a) lent)
+lent-each (accepted a) text lent = refl
+lent-each (refused r) text lent = refl
+lent-each (faulty l) text lent = refl
 
-  module _ (m : ℕ) (h : ListingsStand letters ns aside aside' (Ok m)) where
-    put_all : (l : List ClockedNode) × (clockings 0 ns ≡ accepted l) × PutText (join (numbered (node_listing letters) 0 l)) 0 aside m aside'
-    unfolding ListingsStand
-    put_all = h
+module _ (v : Answer Letters) (aside aside' lent : List ℕ) where
+  -- refused
+  pub aside-refused : (r : Refusal) → TextStands v aside aside' (Err r) → ListingGiven (lent_answer v (length lent)) lent lent (Err r)
+  unfolding TextStands
+  aside-refused r h = rw h (record { answer = refl; bytes = refl })
 
-    as-listed : (after : List ℕ) (a : Result ℕ Refusal) → ListingGiven (lent_text (join (numbered (node_listing letters) 0 put_all.0)) (length lent)) lent after a → ListingGiven (nodes_listed letters ns (length lent)) lent after a
-    as-listed after a g = rw put_all.1 g
+  module _ (m : ℕ) (h : TextStands v aside aside' (Ok m)) where
+    put_text : (text : Letters) × (v ≡ accepted text) × PutText text 0 aside m aside'
+    unfolding TextStands
+    put_text = h
 
-    -- put aside, where they have room
-    pub aside-lent : m ≤ length aside → (after : List ℕ) (a : Result ℕ Refusal) → ListingGiven (lent_text (take m aside') (length lent)) lent after a → ListingGiven (nodes_listed letters ns (length lent)) lent after a
+    as-answered : (after : List ℕ) (a : Result ℕ Refusal) → ListingGiven (lent_text put_text.0 (length lent)) lent after a → ListingGiven (lent_answer v (length lent)) lent after a
+    as-answered after a g = rw put_text.1 g
+
+    -- put aside, where it has room
+    pub aside-lent : m ≤ length aside → (after : List ℕ) (a : Result ℕ Refusal) → ListingGiven (lent_text (take m aside') (length lent)) lent after a → ListingGiven (lent_answer v (length lent)) lent after a
     aside-lent room after a g =
-        let p = put_all.2 in
-        let text = join (numbered (node_listing letters) 0 put_all.0) in
+        let p = put_text.2 in
+        let text = put_text.0 in
         let w : take m aside' ≡ text = ap (λ (n : ℕ). take n aside') p.long ∙ (ap (take (length text)) (p.bytes ∙ over-front text aside) ∙ take-over text aside (omega (arith, room, p.long))) in
-        as-listed after a (subst (λ (t : List ℕ). ListingGiven (lent_text t (length lent)) lent after a) w g)
+        as-answered after a (subst (λ (t : List ℕ). ListingGiven (lent_text t (length lent)) lent after a) w g)
 
     -- 12
-    pub aside-few : length lent < m → ListingGiven (nodes_listed letters ns (length lent)) lent lent (Err (Refusal.Lent m))
+    pub aside-few : length lent < m → ListingGiven (lent_answer v (length lent)) lent lent (Err (Refusal.Lent m))
     aside-few few =
-        let p = put_all.2 in
-        let text = join (numbered (node_listing letters) 0 put_all.0) in
-        let g = lt-leb (length text) (length lent) (omega (arith, few, p.long)) in
-        as-listed lent (Err (Refusal.Lent m)) (rw g (record { answer = ap (λ (x : ℕ). Err (Refusal.Lent x)) p.long; bytes = refl }))
+        let p = put_text.2 in
+        let g = lt-leb (length put_text.0) (length lent) (omega (arith, few, p.long)) in
+        as-answered lent (Err (Refusal.Lent m)) (rw g (record { answer = ap (λ (x : ℕ). Err (Refusal.Lent x)) p.long; bytes = refl }))
 
     -- put again, over the lent bytes
-    pub never-again : (r : Refusal) (after : List ℕ) → ListingsStand letters ns lent after (Err r) → ⊥
-    unfolding ListingsStand
-    never-again r after s =
-        let x : accepted put_all.0 ≡ refused r = sym put_all.1 ∙ s in
-        let z : ◌≡◌ {A = ℕ} 0 1 = cc in omega arith
-
-    pub put-again : (q : ℕ) (after : List ℕ) → m ≤ length lent → ListingsStand letters ns lent after (Ok q) → ListingGiven (nodes_listed letters ns (length lent)) lent after (Ok m)
-    unfolding ListingsStand
-    put-again q after enough s =
-        let x : accepted s.0 ≡ accepted put_all.0 = sym s.1 ∙ put_all.1 in
-        let y : s.0 ≡ put_all.0 = cc in
-        let text = join (numbered (node_listing letters) 0 put_all.0) in
+    pub put-again : (a : Result ℕ Refusal) (after : List ℕ) → m ≤ length lent → TextStands v lent after a → ListingGiven (lent_answer v (length lent)) lent after a
+    unfolding TextStands
+    put-again (Err r) after enough s =
+        let x : accepted put_text.0 ≡ refused r = sym put_text.1 ∙ s in
+        let z : ◌≡◌ {A = ℕ} 0 1 = cc in absurd (omega arith)
+    put-again (Ok q) after enough s =
+        let x : accepted s.0 ≡ accepted put_text.0 = sym s.1 ∙ put_text.1 in
+        let y : s.0 ≡ put_text.0 = cc in
+        let text = put_text.0 in
         let p : PutText text 0 lent q after = rw y at s.2 in
-        let g = le-leb (length text) (length lent) (omega (arith, enough, put_all.2.long)) in
-        as-listed after (Ok m) (rw g (record { answer = ap Ok put_all.2.long; bytes = p.bytes ∙ over-front text lent }))
+        let g = le-leb (length text) (length lent) (omega (arith, enough, put_text.2.long)) in
+        as-answered after (Ok q) (rw g (record { answer = ap Ok p.long; bytes = p.bytes ∙ over-front text lent }))

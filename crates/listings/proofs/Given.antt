@@ -6,16 +6,17 @@ use native.Mathlib.Omega.{arith}
 use lib.ListN.{length}
 use Rattle.std.proofs.Common.{Result, Ok, Err}
 use Rattle.definitions.specs.declared.Refusal.{Refusal}
+use Rattle.definitions.specs.declared.FaultRecord.{FaultRecord}
 use Rattle.definitions.specs.Lists.{Letters}
 use Rattle.definitions.specs.Refusals.{Answer, accepted, refused, faulty, down, told, ◌>>=◌}
 use Rattle.definitions.specs.Output.{letters_of, ClockedNode}
 use Rattle.definitions.specs.Answer.{Input, input, NodeClocks, node_at, node_clocks, node_listing, clocks_answer, listing_answer, listings_answer}
-use Rattle.lines.specs.declared.Told as listing
+use Rattle.lines.specs.declared.ToldNode as listing
 use Rattle.lines.specs.Lending.{lent_text, Gives}
 use Rattle.query.specs.declared.NodeCounts.{NodeCounts}
 use Rattle.query.specs.Standing.{NodeWithClocks, NodeTold}
 use Rattle.query.specs.Words.{Written}
-use Rattle.listings.specs.Answers.{clocks_of, listing_of, listings_of, listing_answered, ClocksInWords, ListingGiven}
+use Rattle.listings.specs.Answers.{clocks_of, listing_of, listings_of, listing_answered, ClocksGiven, ListingGiven}
 
 -- ---- refusals 1 to 7
 module _ {A : Type 0} (f : Input → Answer A) where
@@ -25,7 +26,7 @@ module _ {A : Type 0} (f : Input → Answer A) where
   turned (refused r) t h = h
   turned (faulty l) t h = h
 
-clocks-down : (k : ℕ) (v : Answer NodeClocks) (es cs fs : List ℕ) (t : Refusal) → told v ≡ down t → ClocksInWords k v es cs fs es cs fs (Err t)
+clocks-down : (k : ℕ) (v : Answer NodeClocks) (es cs : List ℕ) (fs : List FaultRecord) (t : Refusal) → told v ≡ down t → ClocksGiven k v es cs fs es cs fs (Err t)
 clocks-down k (accepted q) es cs fs t h = let z : ◌≡◌ {A = ℕ} 0 1 = cc in absurd (omega arith)
 clocks-down k (refused r) es cs fs t h = let e : t ≡ r = cc in record { answer = ap Err e; equations = refl; chains = refl; faults = refl }
 clocks-down k (faulty l) es cs fs t h = let e : t ≡ Refusal.Faulty (length l) = cc in record { answer = ap Err e; equations = refl; chains = refl; faults = refl }
@@ -36,7 +37,7 @@ listing-down (refused r) lent t h = let e : t ≡ r = cc in record { answer = ap
 listing-down (faulty l) lent t h = let e : t ≡ Refusal.Faulty (length l) = cc in record { answer = ap Err e; bytes = refl }
 
 module _ (b : List ℕ) (t : Refusal) (h : told (input b) ≡ down t) where
-  pub clocks-refused : (k : ℕ) (es cs fs : List ℕ) → ClocksInWords k (clocks_answer b k) es cs fs es cs fs (Err t)
+  pub clocks-refused : (k : ℕ) (es cs : List ℕ) (fs : List FaultRecord) → ClocksGiven k (clocks_answer b k) es cs fs es cs fs (Err t)
   unfolding clocks_answer
   clocks-refused k es cs fs = clocks-down k (input b >>= λ r. clocks_of r k) es cs fs t (turned (λ r. clocks_of r k) (input b) t h)
 
@@ -67,7 +68,7 @@ listing-same v w lent after r e g = rw e g
 
 -- ---- refusals 8 and 9
 module _ (M : ℕ) (gs vs t sites : List ℕ) (i : Input) (k : ℕ) where
-  pub clocks-turned : (r : Refusal) (es cs fs : List ℕ) → NodeTold M gs vs t sites k (Err r) (node_at i k) → ClocksInWords k (clocks_of i k) es cs fs es cs fs (Err r)
+  pub clocks-turned : (r : Refusal) (es cs : List ℕ) (fs : List FaultRecord) → NodeTold M gs vs t sites k (Err r) (node_at i k) → ClocksGiven k (clocks_of i k) es cs fs es cs fs (Err r)
   unfolding NodeTold
   clocks-turned r es cs fs h = rw h (record { answer = refl; equations = refl; chains = refl; faults = refl })
 
@@ -76,13 +77,13 @@ module _ (M : ℕ) (gs vs t sites : List ℕ) (i : Input) (k : ℕ) where
   listing-turned r lent h = rw h (record { answer = refl; bytes = refl })
 
   -- node k
-  pub node-there : (told : listing.Told) → NodeTold M gs vs t sites k (Ok told) (node_at i k) → (n : ClockedNode) × (node_at i k ≡ accepted n) × NodeWithClocks M gs vs t sites k told n × (k < 16)
+  pub node-there : (told : listing.ToldNode) → NodeTold M gs vs t sites k (Ok told) (node_at i k) → (n : ClockedNode) × (node_at i k ≡ accepted n) × NodeWithClocks gs vs t sites told n × (told.number ≡ k) × (k < 16)
   unfolding NodeTold
-  node-there told h = h
+  node-there told h = (h.0, h.1, h.2, h.3, h.5)
 
 -- the clocks of node k
-pub clocks-given : (letters : ℕ → Letters) (i : Input) (k number : ℕ) (n : ClockedNode) (es cs fs es' cs' fs' : List ℕ) (r : NodeCounts) → letters ≡ letters_of i.names → number ≡ k → node_at i k ≡ accepted n
-    → Written number (node_clocks letters n) es cs fs es' cs' fs' r → ClocksInWords k (clocks_of i k) es cs fs es' cs' fs' (Ok r)
+pub clocks-given : (letters : ℕ → Letters) (i : Input) (k number : ℕ) (n : ClockedNode) (es cs : List ℕ) (fs : List FaultRecord) (es' cs' : List ℕ) (fs' : List FaultRecord) (r : NodeCounts) → letters ≡ letters_of i.names → number ≡ k → node_at i k ≡ accepted n
+    → Written number (node_clocks letters n) es cs fs es' cs' fs' r → ClocksGiven k (clocks_of i k) es cs fs es' cs' fs' (Ok r)
 clocks-given letters i k number n es cs fs es' cs' fs' r e f h w =
     let x : Written k (node_clocks (letters_of i.names) n) es cs fs es' cs' fs' r = rw (e, f) at w in
     rw h (record { answer = ap Ok x.counts; equations = x.equations; chains = x.chains; faults = x.faults })

@@ -2,13 +2,14 @@
 use Rattle.std.specs.Prelude.{ℕ, ◌≡◌, List, length, Result, Ok, Err}
 use Rattle.query.specs.declared.NodeCounts.{NodeCounts}
 use Rattle.definitions.specs.declared.Refusal.{Refusal}
+use Rattle.definitions.specs.declared.FaultRecord.{FaultRecord}
 use Rattle.definitions.specs.Lists.{join, numbered, Letters}
 use Rattle.definitions.specs.Tree.{Node}
 use Rattle.definitions.specs.Refusals.{Answer, accepted, refused, faulty, bytes_after, ◌>>=◌}
 use Rattle.definitions.specs.Output.{letters_of}
-use Rattle.definitions.specs.Answer.{Input, NodeClocks, clockings, node_at, node_clocks, node_listing}
+use Rattle.definitions.specs.Answer.{Input, NodeClocks, clockings, node_at, node_clocks, node_listing, clock_faults_after}
 use Rattle.lines.specs.Lending.{lent_text}
-use Rattle.query.specs.Words.{clocks_over, faults_over, counts_of}
+use Rattle.query.specs.Words.{clocks_over, counts_of}
 
 -- the questions of a sheet that was read: `clocks_answer`, `listing_answer` and `listings_answer` behind refusals 1 to 7
 abbrev pub clocks_of : Input → ℕ → Answer NodeClocks
@@ -42,18 +43,12 @@ chains_after (accepted q) lent = clocks_over q.chains lent
 chains_after (refused r) lent = lent
 chains_after (faulty l) lent = lent
 
--- the fault list afterwards: all clock faults of node k, as far as it reaches (`clock_faults_after`, in words)
-abbrev pub clock_fault_words_after : ℕ → Answer NodeClocks → List ℕ → List ℕ
-clock_fault_words_after k (accepted q) lent = faults_over k q.faults lent
-clock_fault_words_after k (refused r) lent = lent
-clock_fault_words_after k (faulty l) lent = lent
-
 -- the clock query of node k: the answer, and the three lent lists afterwards
-pub record ClocksInWords (k : ℕ) (v : Answer NodeClocks) (es cs fs es' cs' fs' : List ℕ) (r : Result NodeCounts Refusal) : Type 0 where
+pub record ClocksGiven (k : ℕ) (v : Answer NodeClocks) (es cs : List ℕ) (fs : List FaultRecord) (es' cs' : List ℕ) (fs' : List FaultRecord) (r : Result NodeCounts Refusal) : Type 0 where
   pub answer : r ≡ clocks_answered v
   pub equations : es' ≡ equations_after v es
   pub chains : cs' ≡ chains_after v cs
-  pub faults : fs' ≡ clock_fault_words_after k v fs
+  pub faults : fs' ≡ clock_faults_after k v fs
 
 -- a listing's answer: how many bytes were written, or the refusal
 abbrev pub listing_answered : Answer Letters → Result ℕ Refusal

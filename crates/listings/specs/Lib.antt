@@ -1,2 +1,3 @@
 -- The answers of the entry points.
 pub mod Answers
+pub mod Lending

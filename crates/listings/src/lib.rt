@@ -4,7 +4,9 @@
 
 ghost use Rattle.std.specs.Prelude.{◌≡◌, List, ℕ, ◌≤◌, ◌<◌, ◌*◌, length};
 ghost use Rattle.grammar.specs.Read.{tokens_of};
+ghost use Rattle.definitions.specs.Lists.{Letters};
 ghost use Rattle.definitions.specs.Tree.{Node};
+ghost use Rattle.definitions.specs.Refusals.{Answer};
 ghost use Rattle.definitions.specs.Reading.{got, times};
 ghost use Rattle.definitions.specs.Grammar.{node};
 ghost use Rattle.definitions.specs.Output.{ClockedNode};
@@ -14,11 +16,12 @@ ghost use Rattle.lines.specs.Lending.{lent_text, Gives};
 ghost use Rattle.workspace.specs.Room.{SameRoom, Ample, RoomToList};
 ghost use Rattle.query.specs.Standing.{Standing, NodeWithClocks};
 ghost use Rattle.query.specs.Words.{Written};
-ghost use Rattle.listings.specs.Answers.{clocks_of, listing_of, nodes_listed, listings_of, ClocksInWords, ListingGiven};
+ghost use Rattle.listings.specs.Lending.{KeepsRoom, Puts, lent_answer};
+ghost use Rattle.listings.specs.Answers.{clocks_of, listing_of, nodes_listed, listings_of, ClocksGiven, ListingGiven};
 
-use definitions::Refusal;
+use definitions::{FaultRecord, Refusal};
 use grammar::Source;
-use lines::{ListedNode, Told};
+use lines::{ListedNode, ToldNode};
 use query::NodeCounts;
 use spelling::Spelling;
 use workspace::Working;
@@ -31,16 +34,16 @@ const ASIDE: usize = 65536;
 fn write_clocked(
     spelling: Spelling<'_>,
     source: &Source<'_>,
-    told: Told,
+    told: ToldNode,
     table: &mut [u32],
     rows: &mut [u32],
     chain: &mut [u32],
     sites: &mut [u32],
     equations: &mut [u32],
     chains: &mut [u32],
-    faults: &mut [u32],
+    faults: &mut [FaultRecord],
 ) -> NodeCounts
-    ensures { (n : ClockedNode) → NodeWithClocks told.names source.now.tags.now source.now.values.now table.old sites.old told.number told n → Ample table.old rows.old chain.old → told.number < 16 → Written told.number (node_clocks (letters_in spelling.entry) n) equations.old chains.old faults.old equations.new chains.new faults.new result }
+    ensures { (n : ClockedNode) → NodeWithClocks source.now.tags.now source.now.values.now table.old sites.old told n → Ample table.old rows.old chain.old → told.number < 16 → Written told.number (node_clocks (letters_in spelling.entry) n) equations.old chains.old faults.old equations.new chains.new faults.new result }
 {
     let node = ListedNode {
         spelling,
@@ -57,13 +60,13 @@ fn put_clocked(
     out: &mut [u8],
     spelling: Spelling<'_>,
     source: &Source<'_>,
-    told: Told,
+    told: ToldNode,
     table: &mut [u32],
     rows: &mut [u32],
     chain: &mut [u32],
     sites: &mut [u32],
 ) -> Result<usize, Refusal>
-    ensures { (n : ClockedNode) → NodeWithClocks told.names source.now.tags.now source.now.values.now table.old sites.old told.number told n → 17 * told.findings ≤ length rows.old → told.findings ≤ length chain.old → length spelling.entry.letters.now ≤ 16384 → length source.now.tags.now ≤ 4096 → told.findings ≤ 4096 → Gives (node_listing (letters_in spelling.entry) told.number n) out.old result out.new }
+    ensures { (n : ClockedNode) → NodeWithClocks source.now.tags.now source.now.values.now table.old sites.old told n → 17 * told.findings ≤ length rows.old → told.findings ≤ length chain.old → length spelling.entry.letters.now ≤ 16384 → length source.now.tags.now ≤ 4096 → told.findings ≤ 4096 → Gives (node_listing (letters_in spelling.entry) told.number n) out.old result out.new }
 {
     let node = ListedNode {
         spelling,
@@ -83,10 +86,10 @@ pub fn clocks_in(
     working: &mut Working<'_>,
     equations: &mut [u32],
     chains: &mut [u32],
-    faults: &mut [u32],
+    faults: &mut [FaultRecord],
 ) -> Result<NodeCounts, Refusal>
     ensures same_room { SameRoom working.old working.new }
-    ensures given { (i : Input) → Standing spelling.entry.starts.now spelling.entry.letters.now source.now.tags.now source.now.values.now source.now.names i → RoomToList source.now.names (length source.now.tags.now) working.old → ClocksInWords k (clocks_of i k) equations.old chains.old faults.old equations.new chains.new faults.new result }
+    ensures given { (i : Input) → Standing spelling.entry source.now i → RoomToList source.now.names (length source.now.tags.now) working.old → ClocksGiven k (clocks_of i k) equations.old chains.old faults.old equations.new chains.new faults.new result }
 {
     let told = query::clock_at(source, k, working)?;
     Ok(write_clocked(
@@ -112,7 +115,7 @@ pub fn listing_in(
     working: &mut Working<'_>,
 ) -> Result<usize, Refusal>
     ensures same_room { SameRoom working.old working.new }
-    ensures given { (i : Input) → Standing spelling.entry.starts.now spelling.entry.letters.now source.now.tags.now source.now.values.now source.now.names i → RoomToList source.now.names (length source.now.tags.now) working.old → ListingGiven (listing_of i k (length out.old)) out.old out.new result }
+    ensures given { (i : Input) → Standing spelling.entry source.now i → RoomToList source.now.names (length source.now.tags.now) working.old → ListingGiven (listing_of i k (length out.old)) out.old out.new result }
 {
     let told = query::clock_at(source, k, working)?;
     put_clocked(
@@ -128,14 +131,36 @@ pub fn listing_in(
 }
 
 // A text over the front of the lent bytes, if these are enough.
-pub fn lend(text: &[u8], out: &mut [u8]) -> Result<usize, Refusal>
+fn lend(text: &[u8], out: &mut [u8]) -> Result<usize, Refusal>
     ensures { ListingGiven (lent_text text.now (length out.old)) out.old out.new result }
 {
     parts::write_bytes(text, out)
 }
 
-// The listings of n nodes, of which the first stands at `from`, over the front of the lent bytes, if these are enough. They are put aside
-// first, which measures them, so that each node is clocked once; longer ones are put again.
+// A text over the front of the lent bytes, if these are enough, by what puts it over any bytes as far as they reach, and tells how long it
+// is. It is put aside first, which measures it, so that it is made once; one that is longer than what is there for that is put again.
+pub fn lend_put<F: Fn(&mut [u8], &mut Working<'_>) -> Result<usize, Refusal>>(
+    out: &mut [u8],
+    aside: &mut [u8],
+    working: &mut Working<'_>,
+    put: F,
+) -> Result<usize, Refusal>
+    requires callable { F.IsAlwaysCallable put }
+    requires keeps { KeepsRoom (F.post put) }
+    ensures same_room { SameRoom working.old working.new }
+    ensures given { (v : Answer Letters) → Puts (F.post put) working.old v → ListingGiven (lent_answer v (length out.old)) out.old out.new result }
+{
+    let m = put(aside, working)?;
+    if m <= aside.len() {
+        return lend(&aside[..m], out);
+    }
+    if out.len() < m {
+        return Err(Refusal::Lent(m));
+    }
+    put(out, working)
+}
+
+// The listings of n nodes, of which the first stands at `from`, over the front of the lent bytes, if these are enough.
 fn listings_lent(
     out: &mut [u8],
     spelling: Spelling<'_>,
@@ -147,16 +172,10 @@ fn listings_lent(
     ensures same_room { SameRoom working.old working.new }
     ensures given { (ns : List Node) (q : ℕ) → times n (node source.now.names) (tokens_of source.now) from ≡ got ns q → RoomToList source.now.names (length source.now.tags.now) working.old → length spelling.entry.letters.now ≤ 16384 → length source.now.tags.now ≤ 4096 → ListingGiven (nodes_listed (letters_in spelling.entry) ns (length out.old)) out.old out.new result }
 {
-    let mut aside = [0u8; ASIDE];
-    let m = query::put_listings(&mut aside, spelling, source, n, from, working)?;
-    if m <= ASIDE {
-        return lend(&aside[..m], out);
-    }
-    if out.len() < m {
-        return Err(Refusal::Lent(m));
-    }
-    query::put_listings(out, spelling, source, n, from, working)?;
-    Ok(m)
+    let put = |bytes: &mut [u8], tables: &mut Working<'_>| query::put_listings(
+        bytes, spelling, source, n, from, tables,
+    );
+    lend_put(out, &mut [0u8; ASIDE], working, put)
 }
 
 // The listings of all nodes, in order, over the front of the lent bytes.
@@ -167,7 +186,7 @@ pub fn listings_in(
     working: &mut Working<'_>,
 ) -> Result<usize, Refusal>
     ensures same_room { SameRoom working.old working.new }
-    ensures given { (i : Input) → Standing spelling.entry.starts.now spelling.entry.letters.now source.now.tags.now source.now.values.now source.now.names i → RoomToList source.now.names (length source.now.tags.now) working.old → ListingGiven (listings_of i (length out.old)) out.old out.new result }
+    ensures given { (i : Input) → Standing spelling.entry source.now i → RoomToList source.now.names (length source.now.tags.now) working.old → ListingGiven (listings_of i (length out.old)) out.old out.new result }
 {
     let whole = layout::sheet_at(source);
     let nodes = whole.nodes;

@@ -1,28 +1,27 @@
 -- New names added one after another, and their numbers and ids in tables.
 use Prim.Native.Nat.{ℕ, zero, suc, ◌+◌, ◌-◌, ◌*◌, ◌≤◌, ◌<◌, min}
 use lib.Dec.{leb}
-use mathlib.Core.Path.{◌≡◌, refl, sym, ap, ◌∙◌, subst⁻¹}
+use mathlib.Core.Path.{◌≡◌, refl, sym, ap, ◌∙◌, subst, subst⁻¹}
 use mathlib.Core.Bool.{Bool, true, false, ◌||◌}
 use mathlib.Core.List.{List, [], ◌∷◌, ◌++◌, map, map-append, map-map}
 use native.Mathlib.Nat.{zero-add}
 use native.Mathlib.Numerals.{add-one}
 use native.Mathlib.Omega.{arith}
-use lib.ListN.{length, get_or, take, drop, set, length-map}
+use lib.ListN.{length, get_or, take, set, replicate, length-replicate, length-map, get_or-append}
 use lib.Seq.{get_or-take, length-take-le}
 use borrow.Author.Tests.{leb-true, leb-false}
-use Rattle.definitions.specs.Lists.{choose, any, place_by, up_from, over, Letters, decimal, bytes}
+use Rattle.definitions.specs.Lists.{choose, any, place_by, up_from, Letters, decimal, bytes}
 use Rattle.definitions.specs.Tree.{Declared, Node}
 use Rattle.definitions.specs.Clock.{Clock, same_clock, in_chain_order}
 use Rattle.definitions.specs.Declock.{Stem, ck, first, hold, clock_place, declared}
 use Rattle.definitions.specs.Output.{stem_letters, id_of, add_name, add_names, letters_of, new_letters, new_id}
 use Rattle.spelling.specs.Writing.{over_at}
-use Rattle.spelling.proofs.Writing.{over_nothing, over-front, over-past, over-set, over-then, over-take, length_over}
+use Rattle.spelling.proofs.Writing.{over_nothing, over-past, over-set, over-then, over-take, length_over}
 use Rattle.spelling.specs.declared.name_table.NameTable.{NameTable}
 use Rattle.spelling.specs.Table.{names_of, NamesHeld}
 use Rattle.spelling.specs.Free.{new_number, new_numbers, taken_of}
 use Rattle.spelling.proofs.Free.{new-letters}
 use Rattle.spelling.proofs.Table.{id-most, names-count, add-last-name}
-use Rattle.spelling.proofs.Places.{cut-length}
 use Rattle.clock_tables.specs.Rows.{clocks_in, RowsHold}
 use Rattle.clock_tables.proofs.RowsLaws.{has_all, has-count}
 use Rattle.clock_tables.proofs.Distinct.{Distinct, row-place}
@@ -107,29 +106,41 @@ module _ (f : ℕ → ℕ) (out₀ : List ℕ) where
       ap (λ (l : List ℕ). take n l) h ∙ (ap (λ (i : ℕ). take i (over_at 0 (map f (up_from 0 n)) out₀)) (sym (filled-length n)) ∙ over-take 0 (map f (up_from 0 n)) out₀ (omega (arith, filled-length n))) in
       sym (get_or-take n out j 0 u) ∙ (ap (λ (l : List ℕ). get_or l j 0) t ∙ (up_at f 0 0 n j u ∙ ap f z))
 
-over-split : (l s : List ℕ) → length l ≤ length s → over l s ≡ l ++ drop (length l) s
-over-split [] s h = refl
-over-split (a ∷ l) [] h = absurd (omega arith)
-over-split (a ∷ l) (b ∷ s) h = ap (λ (x : List ℕ). a ∷ x) (over-split l s (omega arith))
+-- the ids of so many names of a stem, by the numbers that a table has for them
+pub ids-cut : (all : List Letters) (stem : Stem) (numbers cut : List ℕ) (n : ℕ) → cut ≡ take n numbers → length cut ≡ min n 1024
+    → over_at 0 (ids_of all stem cut (length cut)) (replicate 1024 0) ≡ over_at 0 (ids_of all stem numbers n) (replicate 1024 0)
+ids-cut all stem numbers cut n e k =
+    let f : (i : ℕ) → 0 ≤ i → i < 0 + length cut → id_of all (numbered_name stem cut i) ≡ id_of all (numbered_name stem numbers i) =
+    λ i u v. ap (λ (j : ℕ). id_of all (stem_letters stem ++ decimal j)) (ap (λ (l : List ℕ). get_or l i 0) e ∙ get_or-take n numbers i 0 (omega (arith, v, k))) in
+    filled-min (λ i. id_of all (numbered_name stem numbers i)) (replicate 1024 0) (length cut) n _ (k ∙ ap (min n) (sym (length-replicate {A = ℕ} 1024 0)))
+    (ap (λ (l : List ℕ). over_at 0 l (replicate 1024 0)) (up_same (λ i. id_of all (numbered_name stem cut i)) (λ i. id_of all (numbered_name stem numbers i)) 0 (length cut) f))
+
+-- the names of so many numbers
+names-cut : (stem : Stem) (numbers cut : List ℕ) (n : ℕ) → cut ≡ take n numbers → length cut ≡ min n 1024 → n ≤ 1024 → counted_names stem cut (length cut) ≡ counted_names stem numbers n
+names-cut stem numbers cut n e k few =
+    up_same (numbered_name stem cut) (numbered_name stem numbers) 0 (length cut) (λ i u v. ap (λ (j : ℕ). stem_letters stem ++ decimal j) (ap (λ (l : List ℕ). get_or l i 0) e ∙ get_or-take n numbers i 0 (omega (arith, v, k))))
+    ∙ ap (counted_names stem numbers) (omega (arith, k, few))
 
 -- ---- the numbers of a node's new names
 module _ (names : List Letters) (node : Node) (stem : Stem) where
-  -- a table of numbers has them
-  pub numbers-filled : (n : ℕ) (out after : List ℕ) → n ≤ length out → after ≡ over_at 0 (new_numbers (taken_of names node) stem n) out → Numbered names node stem after n
-  numbers-filled n out after room h = record { same = filled_at (new_number (taken_of names node) stem) out n after room h }
+  -- the numbers that are free among the names of these ids
+  pub numbers-free : (letters : ℕ → Letters) (ids : List ℕ) (n : ℕ) (part : List ℕ) → letters ≡ letters_of names → ids ≡ map name_of (declared node)
+      → part ≡ new_numbers (map letters ids) stem n → part ≡ new_numbers (taken_of names node) stem n
+  numbers-free letters ids n part e f g =
+      let a : map letters ids ≡ taken_of names node = ap (map letters) f ∙ (map-map letters name_of (declared node) ∙ ap (λ (l : ℕ → Letters). map (λ (d : Declared). l d.name) (declared node)) e) in
+      g ∙ ap (λ (l : List Letters). new_numbers l stem n) a
+
+  -- a table that has them in front has them
+  pub numbers-front : (part rest out : List ℕ) (n : ℕ) → n ≤ length out → part ≡ new_numbers (taken_of names node) stem (length (take n out)) → Numbered names node stem (part ++ rest) n
+  numbers-front part rest out n room e =
+      let f : ℕ → ℕ = new_number (taken_of names node) stem in
+      let g : part ≡ map f (up_from 0 n) = e ∙ ap (new_numbers (taken_of names node) stem) (length-take-le n out room) in
+      let m : length part ≡ n = ap length g ∙ (length-map (up_from 0 n) f ∙ up-length 0 n) in
+      record { same = λ j u. let z : 0 + j ≡ j = omega arith in get_or-append part rest 0 j (omega arith) ∙ (ap (λ (l : List ℕ). get_or l j 0) g ∙ (up_at f 0 0 n j u ∙ ap f z)) }
 
   -- a new name is its stem with its number
   pub numbers-letters : {numbers : List ℕ} {n : ℕ} → Numbered names node stem numbers n → (j : ℕ) → j < n → new_letters names node stem j ≡ stem_letters stem ++ decimal (get_or numbers j 0)
   numbers-letters h j u = new-letters names node stem j ∙ ap (λ (k : ℕ). stem_letters stem ++ decimal k) (sym (h.same j u))
-
--- the front of a table has the numbers that are free among the names of these ids
-pub front-filled : (names : List Letters) (node : Node) (stem : Stem) (letters : ℕ → Letters) (ids : List ℕ) (n count : ℕ) (out part : List ℕ) → letters ≡ letters_of names → take n ids ≡ map name_of (declared node) → count ≤ length out
-    → part ≡ new_numbers (map letters (take n ids)) stem (length (take count out)) → part ++ drop count out ≡ over_at 0 (new_numbers (taken_of names node) stem count) out
-front-filled names node stem letters ids n count out part e f room g =
-    let a : map letters (take n ids) ≡ taken_of names node = ap (map letters) f ∙ (map-map letters name_of (declared node) ∙ ap (λ (l : ℕ → Letters). map (λ (d : Declared). l d.name) (declared node)) e) in
-    let b : part ≡ new_numbers (taken_of names node) stem count = g ∙ (ap (λ (l : List Letters). new_numbers l stem (length (take count out))) a ∙ ap (new_numbers (taken_of names node) stem) (length-take-le count out room)) in
-    let c : length (new_numbers (taken_of names node) stem count) ≡ count = length-map (up_from 0 count) (new_number (taken_of names node) stem) ∙ up-length 0 count in
-    ap (λ (l : List ℕ). l ++ drop count out) b ∙ (ap (λ (k : ℕ). new_numbers (taken_of names node) stem count ++ drop k out) (sym c) ∙ sym (over-front (new_numbers (taken_of names node) stem count) out ∙ over-split (new_numbers (taken_of names node) stem count) out (omega arith)))
 
 -- ---- names added one by one
 pub add-append : (all a b : List Letters) → add_names all (a ++ b) ≡ add_names (add_names all a) b
@@ -178,6 +189,10 @@ module _ (names : List Letters) (node : Node) (w : Needs) {needs : NodeNeeds} {t
 
   abbrev pub with_all : List Letters → List Letters
   with_all all = add_names (with_firsts all) (counted_names hold t.hold_numbers t.holds)
+
+  -- its holds are added by their numbers
+  pub holds-added : {o : NameTable 1024 16384} (all : List Letters) (cut : List ℕ) → cut ≡ take t.holds t.hold_numbers → length cut ≡ min t.holds 1024 → NamesHeld o (add_names (with_firsts all) (counted_names hold cut (length cut))) → NamesHeld o (with_all all)
+  holds-added {o} all cut e k h = subst (λ (l : List Letters). NamesHeld o (add_names (with_firsts all) l)) (names-cut hold t.hold_numbers cut t.holds e k (omega (arith, f.held, f.counted.held, f.few.holds))) h
 
   all-names : (all : List Letters) → with_all all ≡ add_names all (new_names names node w)
   unfolding new_names

@@ -11,8 +11,7 @@ use Rattle.definitions.specs.InferClocks.{Clocked}
 use Rattle.definitions.specs.Declock.{Shape, bare, other, calls, operator_outputs}
 use Rattle.index.specs.Callees.{is_there}
 use Rattle.clock_tables.proofs.Distinct.{Distinct, distinct_none, distinct-add, distinct-parents}
-use Rattle.stateless.specs.declared.Turn.{Turn}
-use Rattle.stateless.specs.Need.{Needs, with_flag, with_gate, settled, pre_turn, arrow_turn, call_turn, is_bare, needed, needed_all}
+use Rattle.stateless.specs.Need.{Turn, Needs, with_flag, with_gate, settled, pre_turn, arrow_turn, call_turn, is_bare, needed, needed_all}
 use Rattle.stateless.specs.Yield.{shape_after}
 use Rattle.stateless.specs.Whole.{no_needs, several_needs, flagged_needs, right_needs, old_needs}
 

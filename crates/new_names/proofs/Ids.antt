@@ -1,22 +1,22 @@
 -- The ids that a node declares, put one by one.
-use Rattle.definitions.specs.declared.Refusal.{Refusal}
-use Rattle.std.specs.Prelude.{Result, Ok, Err}
+use Rattle.std.specs.Prelude as code
+use Rattle.std.specs.Prelude.{None, Some}
+use Rattle.std.specs.Option.{IsSomeAnd}
 use Prim.Native.Nat.{ℕ, ◌+◌, ◌-◌, ◌≤◌, ◌<◌}
 use mathlib.Core.Path.{◌≡◌, refl, sym, ap, ◌∙◌, subst}
 use mathlib.Core.List.{List, [], ◌∷◌, ◌++◌, map, map-append, append_assoc, append-nil}
 use native.Mathlib.Omega.{arith}
-use lib.ListN.{length, get_or, take, set, length-append, length-map}
-use Rattle.definitions.specs.Bytes.{tokens}
+use lib.ListN.{length, take, set, length-append, length-map}
 use Rattle.definitions.specs.Tokens.{TagValue}
 use Rattle.definitions.specs.Tree.{Declared, Node}
 use Rattle.definitions.specs.Reading.{got, times}
-use Rattle.definitions.specs.Grammar.{name, count, declaration, declarations, node}
+use Rattle.definitions.specs.Grammar.{count, declaration, declarations, node}
 use Rattle.definitions.specs.Declock.{declared}
-use Rattle.grammar.specs.Outcome.{outcome}
-use Rattle.grammar.proofs.Laws.{tokens-length, times-length}
+use Rattle.grammar.proofs.Laws.{times-length}
 use Rattle.grammar.proofs.Parts.{counted-within}
-use Rattle.grammar.proofs.Longer.{name-grows}
-use Rattle.grammar.proofs.Got.{same, tagged-value, times-nil, times-cons, declaration-got, declarations-got, node-got}
+use Rattle.grammar.proofs.Got.{times-nil, times-cons, declarations-got, node-got}
+use Rattle.layout.specs.declared.DeclarationLayout.{DeclarationLayout}
+use Rattle.layout.specs.Laid.{LaidDeclaration}
 use Rattle.spelling.specs.Writing.{over_at}
 use Rattle.spelling.proofs.Writing.{over_nothing, over-set, over-then, over-take}
 use Rattle.new_names.specs.Names.{name_of}
@@ -46,50 +46,38 @@ module _ (M : ℕ) (ts : List TagValue) (out₀ out : List ℕ) (k i left place 
       let c = times-cons (declaration M) ts left place h.rest q (λ y. omega (arith, y)) h.items in
       omega (arith, h.reached, length-append h.so_far h.rest, ap length h.whole, ap length c.5)
 
-  pub putting-none : (r : Result ℕ Refusal) (x : _) → 0 < left → r ≡ outcome (declaration M ts place) → r ≡ Err x → ⊥
-  putting-none r x z e b =
+  pub putting-none : (o : code.Option DeclarationLayout) → 0 < left → ((d : Declared) (p : ℕ) → declaration M ts place ≡ got d p → IsSomeAnd o (LaidDeclaration M ts place d p)) → o ≡ None → ⊥
+  putting-none o z read b =
       let c = times-cons (declaration M) ts left place h.rest q (λ y. omega (arith, y)) h.items in
-      let f : Ok c.1 ≡ Err x = sym (e ∙ ap outcome c.3) ∙ b in
-      let y : ◌≡◌ {A = ℕ} 0 1 = cc in omega arith
+      subst (λ (y : code.Option DeclarationLayout). IsSomeAnd y (LaidDeclaration M ts place c.0 c.1)) b (read c.0 c.1 c.3)
 
--- the name of the declaration that stands there
-declared-name : (M : ℕ) (gs vs : List ℕ) → length vs ≡ length gs → (p : ℕ) (d : Declared) (q : ℕ) → declaration M (tokens gs vs) p ≡ got d q → get_or vs p 0 ≡ d.name
-unfolding name
-declared-name M gs vs same_length p d q g =
-    let k = declaration-got M (tokens gs vs) p d q g in
-    let w = name-grows M (tokens gs vs) p k.0 k.1 k.3 in
-    let b : p < length gs = omega (arith, w.0, w.1, tokens-length gs vs same_length) in
-    let v = tagged-value gs vs same_length p 4 M k.0 k.1 b k.3 in
-    sym v.0 ∙ sym (ap name_of k.5)
-
-putting-step : (M : ℕ) (gs vs : List ℕ) → length vs ≡ length gs → (out₀ out : List ℕ) (k i left place next : ℕ) (l : List Declared) (q : ℕ) (r : Result ℕ Refusal) (x : ℕ) → 0 < left
-    → x ≡ get_or vs place 0 → r ≡ outcome (declaration M (tokens gs vs) place) → r ≡ Ok next
-    → Putting M (tokens gs vs) out₀ out k i left place l q → Putting M (tokens gs vs) out₀ (set out i x) k (i + 1) (left - 1) next l q
-putting-step M gs vs same_length out₀ out k i left place next l q r x z j e b h =
-    let c = times-cons (declaration M) (tokens gs vs) left place h.rest q (λ y. omega (arith, y)) h.items in
-    let n : c.1 ≡ next = same _ c.0 c.1 r next c.3 e b in
-    let v : x ≡ c.0.name = j ∙ declared-name M gs vs same_length place c.0 c.1 c.3 in
+putting-step : (M : ℕ) (ts : List TagValue) (out₀ out : List ℕ) (k i left place : ℕ) (l : List Declared) (q : ℕ) (o : code.Option DeclarationLayout) (x : DeclarationLayout) → 0 < left
+    → ((d : Declared) (p : ℕ) → declaration M ts place ≡ got d p → IsSomeAnd o (LaidDeclaration M ts place d p)) → o ≡ Some x
+    → Putting M ts out₀ out k i left place l q → Putting M ts out₀ (set out i x.name) k (i + 1) (left - 1) x.end l q
+putting-step M ts out₀ out k i left place l q o x z read b h =
+    let c = times-cons (declaration M) ts left place h.rest q (λ y. omega (arith, y)) h.items in
+    let laid : LaidDeclaration M ts place c.0 c.1 x = subst (λ (y : code.Option DeclarationLayout). IsSomeAnd y (LaidDeclaration M ts place c.0 c.1)) b (read c.0 c.1 c.3) in
     let w : k + length (map name_of h.so_far) ≡ i = ap (λ (y : ℕ). k + y) (length-map h.so_far name_of) ∙ sym h.reached in
     record {
       so_far = h.so_far ++ (c.0 ∷ []);
       rest = c.2;
-      items = rw (sym n) c.4;
+      items = rw laid.ends c.4;
       whole = append_assoc h.so_far (c.0 ∷ []) c.2 ∙ (ap (λ (y : List Declared). h.so_far ++ y) (sym c.5) ∙ h.whole);
       reached = omega (arith, h.reached, length-append h.so_far (c.0 ∷ []));
       put =
-          sym (over-set i x out) ∙ (ap (λ (y : List ℕ). over_at i (x ∷ []) y) h.put
-          ∙ (ap (λ (y : ℕ). over_at y (x ∷ []) (over_at k (map name_of h.so_far) out₀)) (sym w)
-          ∙ (over-then k (map name_of h.so_far) (x ∷ []) out₀
-          ∙ ap (λ (y : List ℕ). over_at k y out₀) (ap (λ (y : ℕ). map name_of h.so_far ++ (y ∷ [])) v ∙ sym (map-append name_of h.so_far (c.0 ∷ []))))));
+          sym (over-set i x.name out) ∙ (ap (λ (y : List ℕ). over_at i (x.name ∷ []) y) h.put
+          ∙ (ap (λ (y : ℕ). over_at y (x.name ∷ []) (over_at k (map name_of h.so_far) out₀)) (sym w)
+          ∙ (over-then k (map name_of h.so_far) (x.name ∷ []) out₀
+          ∙ ap (λ (y : List ℕ). over_at k y out₀) (ap (λ (y : ℕ). map name_of h.so_far ++ (y ∷ [])) laid.named ∙ sym (map-append name_of h.so_far (c.0 ∷ []))))));
     }
 
 -- the same, where a loop counts how many are put
-pub putting-next : (M : ℕ) (gs vs : List ℕ) → length vs ≡ length gs → (out₀ out : List ℕ) (k i n j place next : ℕ) (l : List Declared) (q : ℕ) (r : Result ℕ Refusal) (x : ℕ) → j < n
-    → x ≡ get_or vs place 0 → r ≡ outcome (declaration M (tokens gs vs) place) → r ≡ Ok next
-    → Putting M (tokens gs vs) out₀ out k i (n - j) place l q → Putting M (tokens gs vs) out₀ (set out i x) k (i + 1) (n - (j + 1)) next l q
-putting-next M gs vs same_length out₀ out k i n j place next l q r x z e f g h =
+pub putting-next : (M : ℕ) (ts : List TagValue) (out₀ out : List ℕ) (k i n j place : ℕ) (l : List Declared) (q : ℕ) (o : code.Option DeclarationLayout) (x : DeclarationLayout) → j < n
+    → ((d : Declared) (p : ℕ) → declaration M ts place ≡ got d p → IsSomeAnd o (LaidDeclaration M ts place d p)) → o ≡ Some x
+    → Putting M ts out₀ out k i (n - j) place l q → Putting M ts out₀ (set out i x.name) k (i + 1) (n - (j + 1)) x.end l q
+putting-next M ts out₀ out k i n j place l q o x z read b h =
     let less : n - j - 1 ≡ n - (j + 1) = omega arith in
-    subst (λ (m : ℕ). Putting M (tokens gs vs) out₀ (set out i x) k (i + 1) m next l q) less (putting-step M gs vs same_length out₀ out k i (n - j) place next l q r x (omega arith) e f g h)
+    subst (λ (m : ℕ). Putting M ts out₀ (set out i x.name) k (i + 1) m x.end l q) less (putting-step M ts out₀ out k i (n - j) place l q o x (omega arith) read b h)
 
 -- the front of the table has the ids
 pub ids-front : (ids out : List ℕ) (n : ℕ) {after : List ℕ} → n ≡ length ids → n ≤ length out → after ≡ over_at 0 ids out → take n after ≡ ids

@@ -14,8 +14,7 @@ use Rattle.shapes.specs.Shape.{All, Shaped, Shapeds}
 use Rattle.shapes.proofs.Facts.{all_nil, all_cons, all_app}
 use Rattle.shapes.proofs.ClockNames.{NamedClock, NamedEquation}
 use Rattle.index.specs.Callees.{is_there}
-use Rattle.stateless.specs.declared.Turn.{Turn}
-use Rattle.stateless.specs.Need.{Needs, with_flag, with_gate, settled, pre_turn, arrow_turn, call_turn, is_bare, needed, needed_all}
+use Rattle.stateless.specs.Need.{Turn, Needs, with_flag, with_gate, settled, pre_turn, arrow_turn, call_turn, is_bare, needed, needed_all}
 use Rattle.stateless.specs.Yield.{shape_after}
 use Rattle.stateless.specs.Whole.{no_needs, several_needs, flagged_needs, right_needs, old_needs}
 

@@ -32,13 +32,12 @@ impl DeclaredIds {
             if MOST_DECLARED <= self.count {
                 return;
             }
-            let x = layout::value_at(source.values, place);
-            let Ok(next) = grammar::read_declaration(source, place) else {
+            let Some(declared) = layout::declaration_at(source, place) else {
                 return;
             };
-            self.ids[self.count] = x;
+            self.ids[self.count] = declared.name;
             self.count += 1;
-            place = next;
+            place = declared.end;
         }
     }
 

@@ -1,14 +1,15 @@
 // A node's new names: their numbers, in tables, and their ids among the output's names, which have them behind those before.
 #![tactic(auto)]
 
-ghost use Rattle.std.specs.Prelude.{◌≡◌, List, Ok, Err, map, ◌≤◌, ◌<◌, length, take, true, false, replicate};
+ghost use Rattle.std.specs.Prelude.{◌≡◌, List, Ok, Err, map, ◌≤◌, ◌<◌, length, take, min, true, false, replicate};
 ghost use Rattle.definitions.specs.Lists.{Letters};
 ghost use Rattle.definitions.specs.Tree.{Node};
-ghost use Rattle.definitions.specs.Declock.{declared};
+ghost use Rattle.definitions.specs.Declock.{ck, first, hold, declared};
 ghost use Rattle.definitions.specs.Output.{id_of, condact_id, letters_of, add_names};
 ghost use Rattle.spelling.specs.Writing.{over_at};
 ghost use Rattle.spelling.specs.Stems.{stem_of, new_letters};
 ghost use Rattle.spelling.specs.Places.{letters_in};
+ghost use Rattle.spelling.specs.Free.{new_numbers, taken_of};
 ghost use Rattle.spelling.specs.Table.{NamesHeld, names_of};
 ghost use Rattle.stateless.specs.Need.{Needs};
 ghost use Rattle.stateless.specs.Rewritten.{names_by};
@@ -22,7 +23,7 @@ use declared_ids::DeclaredIds;
 use definitions::MOST_NAMES;
 use grammar::Source;
 use layout::NodeLayout;
-use spelling::{NameTable, NewName, OutputNames, Spelling, StemName};
+use spelling::{NewName, OutputNames, Spelling, StemName};
 
 // ---- What a node needs, and the tables of its new names.
 
@@ -54,33 +55,34 @@ pub struct NodeNames {
     pub condact: bool,
 }
 
+// The ids of a node's new names: of its flags and first-tick flags by row, of its holds by number, and of `condact`.
+#[derive(Drop)]
+pub struct NewIds {
+    pub flags: [u32; MOST_NAMES],
+    pub firsts: [u32; MOST_NAMES],
+    pub holds: [u32; MOST_NAMES],
+    pub condact: u32,
+}
+
 // A node needs more names of a kind than an output has places for.
 #[derive(Clone, Copy)]
 pub struct TooMany;
-
-// The most names, as a word.
-const NAMES: u32 = MOST_NAMES as u32;
 
 // Are there more names of a kind than the output has places for?
 fn is_crowded(needs: &NodeNeeds<'_>) -> bool
     ensures { (result ≡ true → Many needs.now) × (result ≡ false → Few needs.now) }
 {
-    MOST_NAMES < needs.flags.count || MOST_NAMES < needs.firsts.count || NAMES < needs.holds
+    MOST_NAMES < needs.flags.count
+        || MOST_NAMES < needs.firsts.count
+        || MOST_NAMES < needs.holds as usize
 }
 
-// The numbers of the first new names of a stem, so many.
-fn number_stem(
-    spelling: Spelling<'_>,
-    own: &DeclaredIds,
-    stem: StemName,
-    count: usize,
-    out: &mut [u32; MOST_NAMES],
-)
-    requires { count ≤ 1024 }
-    ensures { (all : List Letters) (node : Node) → letters_in spelling.entry ≡ letters_of all → take own.now.count own.now.ids ≡ map name_of (declared node) → Numbered all node (stem_of stem) out.new count }
+// The numbers of the first new names of a stem, as many as there are places for.
+fn number_stem(spelling: Spelling<'_>, own: &DeclaredIds, stem: StemName, out: &mut [u32])
+    requires { length out.old ≤ 1024 }
+    ensures { (all : List Letters) (node : Node) → letters_in spelling.entry ≡ letters_of all → take own.now.count own.now.ids ≡ map name_of (declared node) → out.new ≡ new_numbers (taken_of all node) (stem_of stem) (length out.old) }
 {
-    let ids = &own.ids[..own.count];
-    spelling::fill_numbers(spelling, ids, stem, &mut out[..count]);
+    spelling::fill_numbers(spelling, &own.ids[..own.count], stem, out);
 }
 
 impl FlagNames {
@@ -109,7 +111,7 @@ impl FlagNames {
     {
         let n = clocks.count as u32;
         self.ordered = chain_order::sort_rows(spelling, clocks.words, &mut self.order, n);
-        number_stem(spelling, own, stem, clocks.count, &mut self.numbers);
+        number_stem(spelling, own, stem, &mut self.numbers[..clocks.count]);
     }
 
     // Those names added, in chain order.
@@ -124,12 +126,19 @@ impl FlagNames {
     }
 }
 
-// The first n names of a stem added.
-fn add_counted(table: &mut OutputNames, stem: StemName, numbers: &[u32], n: usize)
-    ensures { (all : List Letters) → NamesHeld table.old all → NamesHeld table.new (add_names all (counted_names (stem_of stem) numbers.now n)) }
+// So many of a table's numbers.
+fn first_of(numbers: &[u32; MOST_NAMES], n: usize) -> &[u32]
+    ensures value { result.now ≡ take n numbers.now }
+    ensures counted { length result.now ≡ min n 1024 }
 {
-    for j in 0..n {
-        let number = clock_tables::word_at(numbers, j);
+    &numbers[..n.min(MOST_NAMES)]
+}
+
+// The names of a stem with these numbers added.
+fn add_counted(table: &mut OutputNames, stem: StemName, numbers: &[u32])
+    ensures { (all : List Letters) → NamesHeld table.old all → NamesHeld table.new (add_names all (counted_names (stem_of stem) numbers.now (length numbers.now))) }
+{
+    for &number in numbers {
         table.add_new(NewName::Numbered(stem, number));
     }
 }
@@ -170,8 +179,7 @@ impl NodeNames {
             spelling,
             &own,
             StemName::Hold,
-            self.holds,
-            &mut self.hold_numbers,
+            &mut self.hold_numbers[..self.holds],
         );
         self.condact = needs.condact;
         Ok(())
@@ -183,9 +191,28 @@ impl NodeNames {
     {
         self.flags.add_to(StemName::Ck, table);
         self.firsts.add_to(StemName::First, table);
-        add_counted(table, StemName::Hold, &self.hold_numbers, self.holds);
+        let holds = first_of(&self.hold_numbers, self.holds);
+        add_counted(table, StemName::Hold, holds);
         if self.condact {
             table.add_new(NewName::Condact);
+        }
+    }
+
+    // Their ids among the names of a table.
+    pub fn ids(&self, needs: &NodeNeeds<'_>, table: &OutputNames) -> NewIds
+        ensures flags { result.flags ≡ over_at 0 (ids_of (names_of table.now) ck self.now.flags.numbers needs.now.flags.count) (replicate 1024 0) }
+        ensures firsts { result.firsts ≡ over_at 0 (ids_of (names_of table.now) first self.now.firsts.numbers needs.now.firsts.count) (replicate 1024 0) }
+        ensures holds { result.holds ≡ over_at 0 (ids_of (names_of table.now) hold self.now.hold_numbers self.now.holds) (replicate 1024 0) }
+        ensures condact { result.condact ≡ condact_id (names_of table.now) }
+    {
+        let flags = first_of(&self.flags.numbers, needs.flags.count);
+        let firsts = first_of(&self.firsts.numbers, needs.firsts.count);
+        let holds = first_of(&self.hold_numbers, self.holds);
+        NewIds {
+            flags: ids_of(table, StemName::Ck, flags),
+            firsts: ids_of(table, StemName::First, firsts),
+            holds: ids_of(table, StemName::Hold, holds),
+            condact: id_of(table, NewName::Condact),
         }
     }
 }
@@ -202,39 +229,20 @@ pub fn mark_full(table: &mut OutputNames)
 }
 
 // The id of a new name among the names of a table.
-fn id_of<const PLACES: usize, const LETTERS: usize>(
-    table: &NameTable<PLACES, LETTERS>,
-    name: NewName,
-) -> u32
-    requires { PLACES < 4294967296 }
+fn id_of(table: &OutputNames, name: NewName) -> u32
     ensures { result ≡ id_of (names_of table.now) (new_letters name) }
 {
     table.find_new(name) as u32
 }
 
-// The id of `condact` among the names of a table.
-pub fn condact_id<const PLACES: usize, const LETTERS: usize>(
-    table: &NameTable<PLACES, LETTERS>,
-) -> u32
-    requires { PLACES < 4294967296 }
-    ensures { result ≡ condact_id (names_of table.now) }
+// The ids of the names of a stem with these numbers, among the names of a table.
+fn ids_of(table: &OutputNames, stem: StemName, numbers: &[u32]) -> [u32; MOST_NAMES]
+    requires { length numbers.now ≤ 1024 }
+    ensures { result ≡ over_at 0 (ids_of (names_of table.now) (stem_of stem) numbers.now (length numbers.now)) (replicate 1024 0) }
 {
-    id_of(table, NewName::Condact)
-}
-
-// The ids of the first n names of a stem among the names of a table.
-pub fn fill_ids<const PLACES: usize, const LETTERS: usize>(
-    table: &NameTable<PLACES, LETTERS>,
-    stem: StemName,
-    numbers: &[u32],
-    n: usize,
-    out: &mut [u32],
-)
-    requires { PLACES < 4294967296 }
-    ensures { out.new ≡ over_at 0 (ids_of (names_of table.now) (stem_of stem) numbers.now n) out.old }
-{
-    for j in 0..n.min(out.len()) {
-        let number = clock_tables::word_at(numbers, j);
-        out[j] = id_of(table, NewName::Numbered(stem, number));
+    let mut ids = [0; MOST_NAMES];
+    for (j, &number) in numbers.iter().enumerate() {
+        ids[j] = id_of(table, NewName::Numbered(stem, number));
     }
+    ids
 }

@@ -157,14 +157,14 @@ module _ (A : Arrays) (condact : ℕ) (same : length A.values ≡ length A.tags)
           ap (λ (b : Bool). choose b none (flagged_fault T.types T.nodes T.node condact e.left (shape_after T.types T.nodes T.node condact c e.right))) i ∙ sym h
 
       -- it meets a fault
-      pub equation-met : (t : given.Fault) → o ≡ some (fault_of t) → WalksEquation A condact s s' p (Err t)
+      pub equation-met : (w : Result ℕ given.Fault) (t : given.Fault) → w ≡ Err t → o ≡ some (fault_of t) → WalksEquation A condact s s' p w
       unfolding right_fault
-      equation-met t h = record {
+      equation-met w t j h = rw j (record {
         walk = λ T end lay N c e q y K R S B.
             ended-then went (walked T c e q y K R S B)
             (λ P j. ended_some q (EquationNoted A T condact s s' y c e p q) (choose (is_base c) none (flagged_fault T.types T.nodes T.node condact e.left (shape_after T.types T.nodes T.node condact c e.right))) (fault_of t) t (fault-is T end lay N c e q K S ∙ h) refl)
             (λ P Q. Q);
-      }
+      })
 
       -- it meets none
       module _ (h : o ≡ none) (gated : Bool) (gates : (u : Shape) → v ≡ called_by u → gated ≡ gates_right condact l.count u) (s'' : Tables) (many : length s''.flags ≡ length s'.flags) (F : (y : Needs) → Begun s' y → Flagged s' s'' d l.count gated y p) where

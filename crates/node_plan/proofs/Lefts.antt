@@ -4,20 +4,24 @@ use mathlib.Core.Path.{◌≡◌, refl, sym, ◌∙◌, ap}
 use mathlib.Core.Bool.{Bool, true, false, true≢false}
 use mathlib.Core.List.{List, [], ◌∷◌}
 use mathlib.Core.Option.{Option, none, some}
-use Prim.Native.Nat.{ℕ, ◌-◌, ◌<◌}
+use Prim.Native.Nat.{ℕ, ◌+◌, ◌≤◌, ◌<◌}
 use native.Mathlib.Omega.{arith}
-use lib.ListN.{length, get_or}
+use lib.ListN.{length, get_or, drop, drop_of_length-le}
+use lib.Seq.{drop-cons}
+use native.Mathlib.Numerals.{add-one}
+use borrow.Author.Tests.{ne_eqb}
+use Rattle.std.specs.Prelude.{Result, Ok, Err}
+use Rattle.std.specs.Result.{IsErr, IsErrAnd}
+use Rattle.std.proofs.lemmas.Result.{err_from_is_err_and}
+use Rattle.typing.specs.After.{called_by}
 use Rattle.definitions.specs.Lists.{or_else}
 use Rattle.definitions.specs.Bytes.{tokens}
-use Rattle.definitions.specs.Tokens.{TagValue}
 use Rattle.definitions.specs.Tree.{Ty, TypeDef, Node}
-use Rattle.definitions.specs.Reading.{got, times}
-use Rattle.definitions.specs.Grammar.{ty, name}
+use Rattle.definitions.specs.Reading.{got}
+use Rattle.definitions.specs.Grammar.{ty}
 use Rattle.definitions.specs.Types.{default}
 use Rattle.definitions.specs.InferClocks.{Fault, undeclared, no_default}
-use Rattle.definitions.specs.Declock.{Shape, declared, last_type}
-use Rattle.grammar.proofs.Got.{times-nil}
-use Rattle.layout.specs.Spans.{past_in}
+use Rattle.definitions.specs.Declock.{Shape, bare, other, calls, declared, last_type}
 use Rattle.defaults.specs.Has.{is_some}
 use Rattle.typing.specs.declared.TypeFound.{TypeFound}
 use Rattle.typing.specs.Found.{IsFound, place_of}
@@ -27,11 +31,9 @@ use Rattle.findings.specs.declared.Fault as value
 use Rattle.std.specs.Option.{option_map}
 use Rattle.std.specs.declared.option.Option as code
 use Rattle.std.specs.declared.option.Option.TheVariants.{None, Some}
-use Rattle.findings.specs.Value.{fault_of}
 use Rattle.node_plan.specs.Noted.{told_of, Typed}
 use Rattle.plan.specs.Tables.{Arrays}
-use Rattle.planned.proofs.LeftDefaultsLaws.{first-name}
-use Rattle.stateless.specs.Faults.{unless, left_type_fault, left_fault, lefts_fault, flagged_fault}
+use Rattle.stateless.specs.Faults.{unless, left_type_fault, left_fault, lefts_fault, several_fault, flagged_fault}
 
 unless-none : {A : Type 0} (o : Option A) (f : Fault) (b : Bool) → b ≡ is_some o → b ≡ false → some f ≡ unless o f
 unless-none none f b i j = refl
@@ -40,6 +42,12 @@ unless-none (some a) f b i j = let z : ◌≡◌ {A = Bool} true false = sym i �
 unless-there : {A : Type 0} (o : Option A) (f : Fault) (b : Bool) → b ≡ is_some o → b ≡ true → none ≡ unless o f
 unless-there none f b i j = let z : ◌≡◌ {A = Bool} true false = sym j ∙ i in absurd (true≢false z)
 unless-there (some a) f b i j = refl
+
+none-called : {f : ℕ} → ◌≡◌ {A = code.Option ℕ} (Some f) None → ⊥
+none-called e = cc
+
+some-same : {f g : ℕ} → ◌≡◌ {A = code.Option ℕ} (Some f) (Some g) → f ≡ g
+some-same e = cc
 
 or-none : (o : Option Fault) → o ≡ or_else o none
 or-none none = refl
@@ -74,39 +82,19 @@ module _ (types : List TypeDef) (l : List Node) (node : Node) where
       unfolding left_fault
       left-lacks j = let a = found-default (last_type (declared node) x) refl found in unless-none (default types a.0) (no_default x) b a.2 j ∙ ap (left_type_fault types l node x) (sym a.1)
 
-  -- ---- several left names
-  lefts-first : (xs : List ℕ) (x : ℕ) (rest : List ℕ) → xs ≡ x ∷ rest → (f : value.Fault) → some (fault_of f) ≡ left_fault types l node x → some (fault_of f) ≡ lefts_fault types l node xs
+  -- ---- several left names, those before number i meeting nothing
+  module _ (xs : List ℕ) (i : ℕ) (b : i < length xs) where
+    pub lefts-stop : (f : Fault) → some f ≡ left_fault types l node (get_or xs i 0) → some f ≡ lefts_fault types l node (drop i xs)
+    unfolding lefts_fault
+    lefts-stop f h = rw (drop-cons xs i 0 b, sym h)
+
+    pub lefts-next : none ≡ left_fault types l node (get_or xs i 0) → lefts_fault types l node (drop i xs) ≡ lefts_fault types l node (drop (i + 1) xs)
+    unfolding lefts_fault
+    lefts-next h = rw (drop-cons xs i 0 b, sym h, add-one i)
+
+  pub lefts-end : (xs : List ℕ) (i : ℕ) → length xs ≤ i → none ≡ lefts_fault types l node (drop i xs)
   unfolding lefts_fault
-  lefts-first xs x rest w f h = rw (w, sym h)
-
-  lefts-others : (xs : List ℕ) (x : ℕ) (rest : List ℕ) → xs ≡ x ∷ rest → none ≡ left_fault types l node x → (m : Option Fault) → m ≡ lefts_fault types l node rest → m ≡ lefts_fault types l node xs
-  unfolding lefts_fault
-  lefts-others xs x rest w h m k = rw (w, sym h) k
-
-  -- what so many left names from p on meet
-  pub record Meeting (M : ℕ) (ts : List TagValue) (k p : ℕ) (r : code.Option value.Fault) : Type 0 where
-    pub all : (xs : List ℕ) (q : ℕ) → times k (name M) ts p ≡ got xs q → told_of r ≡ lefts_fault types l node xs
-
-  pub meeting-none : (M : ℕ) (ts : List TagValue) (k p : ℕ) → k ≡ 0 → Meeting M ts k p None
-  unfolding lefts_fault
-  meeting-none M ts k p z = record { all = λ xs q g. let n : xs ≡ [] = (times-nil (name M) ts k p xs q z g).0 in rw n }
-
-  module _ (M : ℕ) (gs vs : List ℕ) (same : length vs ≡ length gs) (k p : ℕ) (some_left : k ≡ 0 → ⊥) (x : ℕ) (v : x ≡ get_or vs p 0) (o : code.Option value.Fault) (one : x < M → told_of o ≡ left_fault types l node x) where
-    -- the first one's
-    pub meeting-first : (f : value.Fault) → o ≡ Some f → Meeting M (tokens gs vs) k p (Some f)
-    meeting-first f i = record {
-      all = λ xs q g.
-          let t = first-name M gs vs same k p xs q x (past_in (length gs) p) some_left v refl g in
-          lefts-first xs x t.rest t.all f (ap told_of (sym i) ∙ one t.below);
-    }
-
-    -- those of the others
-    pub meeting-more : o ≡ None → (next : ℕ) → next ≡ past_in (length gs) p → (n : ℕ) → n ≡ k - 1 → (m : code.Option value.Fault) → Meeting M (tokens gs vs) n next m → Meeting M (tokens gs vs) k p m
-    meeting-more i next e n c m d = record {
-      all = λ xs q g.
-          let t = first-name M gs vs same k p xs q x next some_left v e g in
-          lefts-others xs x t.rest t.all (ap told_of (sym i) ∙ one t.below) (told_of m) (d.all t.rest q (ap (λ (y : ℕ). times y (name M) (tokens gs vs) next) c ∙ t.stand));
-    }
+  lefts-end xs i h = rw (drop_of_length-le xs h)
 
   -- ---- under the flag of a clock
   module _ (condact : ℕ) (xs : List ℕ) (n : ℕ) (many : n ≡ length xs) (m : Option Fault) (h : m ≡ lefts_fault types l node xs) where
@@ -119,7 +107,27 @@ module _ (types : List TypeDef) (l : List Node) (node : Node) where
         go (x ∷ []) e k = k ∙ sym (or-none (left_fault types l node x))
         go (x ∷ y ∷ xs) e k = absurd (omega arith)
 
+    pub flagged-several : (n ≡ 1 → ⊥) → (u : Shape) (v : code.Option ℕ) → v ≡ called_by u → (f : ℕ) → v ≡ Some f → (f ≡ condact → ⊥) → m ≡ flagged_fault types l node condact xs u
+    flagged-several z u v c f i o = go xs z many h
+      where
+        called : (xs : List ℕ) → m ≡ lefts_fault types l node xs → m ≡ several_fault types l node condact xs u
+        called xs k = by u (sym i ∙ c)
+          where
+            by : (u : Shape) → Some f ≡ called_by u → m ≡ several_fault types l node condact xs u
+            by bare e = let y : ⊥ = none-called e in absurd y
+            by other e = let y : ⊥ = none-called e in absurd y
+            by (calls g) e = let j : f ≡ g = some-same e in rw (ne_eqb g condact (λ y. o (j ∙ y))) k
+
+        go : (xs : List ℕ) → (n ≡ 1 → ⊥) → n ≡ length xs → m ≡ lefts_fault types l node xs → m ≡ flagged_fault types l node condact xs u
+        go [] z e k = called [] k
+        go (x ∷ []) z e k = absurd (z e)
+        go (x ∷ y ∷ xs) z e k = called (x ∷ y ∷ xs) k
+
+-- what a `?` passes on
+pub fails : {A : Type 0} (r : Result A value.Fault) (t : value.Fault) → IsErr r × IsErrAnd r (λ y. y ≡ t) → r ≡ Err t
+fails r t e = let p = err_from_is_err_and r e.1 in p.1 ∙ ap Err p.2
+
 -- where there is a first: docs/PORT.md names this
-pub first-met : (a b : code.Option value.Fault) → (a ≡ None → ⊥) → told_of a ≡ or_else (told_of a) (told_of b)
-first-met None b h = absurd (h refl)
-first-met (Some f) b h = refl
+pub first-met : (a b : Result Unit value.Fault) → (a ≡ Ok tt → ⊥) → told_of a ≡ or_else (told_of a) (told_of b)
+first-met (Ok u) b h = absurd (h refl)
+first-met (Err f) b h = refl

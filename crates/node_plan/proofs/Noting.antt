@@ -1,11 +1,11 @@
 -- Equations one after another, and one by its right side and its flag.
 -- Assumes nothing.
 use mathlib.Core.Path.{◌≡◌, refl, sym, ◌∙◌, ap, subst}
-use mathlib.Core.Bool.{Bool, true, false}
+use mathlib.Core.Bool.{Bool, true, false, true≢false}
 use mathlib.Core.List.{List, [], ◌∷◌}
 use mathlib.Core.Option.{Option}
 use mathlib.Core.Logic.{◌⊎◌, inl, inr}
-use Prim.Native.Nat.{ℕ, suc, ◌+◌, ◌-◌, ◌*◌, ◌≤◌, ◌<◌}
+use Prim.Native.Nat.{ℕ, suc, ◌+◌, ◌-◌, ◌≤◌, ◌<◌}
 use native.Mathlib.Omega.{arith}
 use lib.Dec.{eqb}
 use lib.ListN.{length}
@@ -29,7 +29,8 @@ use Rattle.planned.specs.Held.{HeldFrom}
 use Rattle.findings.specs.declared.Found as value
 use Rattle.findings.specs.declared.Fault as given
 use Rattle.findings.specs.Value.{fault_of, node_fault_of}
-use Rattle.std.specs.Prelude.{Result, Ok, Err}
+use Rattle.std.specs.Prelude.{Result, Ok, Err, is_ok}
+use Rattle.std.specs.Result.{MatchResult}
 use Rattle.plan.specs.Tables.{Arrays, Tables, Begun}
 use Rattle.plan.specs.Planned.{Ahead, writer, Ended}
 use Rattle.plan.specs.Walks.{Setting, ground_of, Known, Roomy}
@@ -38,6 +39,15 @@ use Rattle.plan.proofs.Laws.{held-append}
 use Rattle.plan.proofs.Walk.{ok-same, ok-err, err-same, Sized, roomy_after}
 use Rattle.planned.specs.Planned.{EquationsPlanned}
 use Rattle.node_plan.specs.Equations.{EquationsNoted, EndedAll, WalksEquation, WalksEquations}
+
+-- ---- what is answered in the place of what was met
+pub ok-told : {A D : Type 0} (E : Type 0) (a : Result A D) (b : A) (Q : D → Type 0) → true ≡ is_ok a → MatchResult a (λ x. ◌≡◌ {A = Result A E} (Ok b) (Ok x)) Q → a ≡ Ok b
+ok-told E (Ok x) b Q v m = let y : b ≡ x = cc in ap Ok (sym y)
+ok-told E (Err d) b Q v m = absurd (true≢false v)
+
+pub err-told : {A D : Type 0} (a : Result A D) (P : A → Type 0) (Q : D → Type 0) → false ≡ is_ok a → MatchResult a P Q → (d : D) × (a ≡ Err d) × Q d
+err-told (Ok x) P Q v m = absurd (true≢false (sym v))
+err-told (Err d) P Q v m = (d, refl, m)
 
 -- ---- what an equation needs besides its right side
 flag-ahead : (b : Bool) (c : Clock) (z : Needs) → Ahead z (choose b (with_flag c z) (with_gate c z))
@@ -153,6 +163,9 @@ module _ (A : Arrays) (condact : ℕ) where
         go T end lay L [] q y m K R S B = absurd (omega arith)
         go T end lay L (e ∷ es) q y m K R S B = ends-stop T.types T.nodes T.node (old_fault T.types T.nodes T.node condact (suc i) es) t i b (E.walk T end lay L e.clock e.equation S.0 y K R S.1 B)
 
+    pub equations-met : (n i : ℕ) → 0 < n → (t : given.Fault) → r₀ ≡ Err t → (m : value.Found) → m ≡ record { fault = t; equation = i } → WalksEquations A condact s s' n p i (Err m)
+    equations-met n i z t b m e = rw e (equations-stop n i z t b)
+
     module _ (x : ℕ) (went : r₀ ≡ Ok x) (s'' : Tables) (r : Result ℕ value.Found) (L' : Sized s s') where
       equations-more : (n i : ℕ) → 0 < n → WalksEquations A condact s' s'' (n - 1) x (suc i) r → WalksEquations A condact s s'' n p i r
       unfolding EquationsSited old_fault old_needs old_yield EquationsPlanned
@@ -179,7 +192,7 @@ module _ (A : Arrays) (condact : ℕ) where
               (λ P Q. record {
                 begun = Q.begun;
                 kept = λ j h. Q.kept j (later p o q j (omega arith) h) ∙ P.kept j (sooner p o q j g h);
-                held = λ j h. Q.held j (later (2 * y.holds) (2 * w.holds) (2 * z.holds) j (omega arith) h) ∙ P.held j (sooner (2 * y.holds) (2 * w.holds) (2 * z.holds) j (omega arith) h);
+                held = λ j h. Q.held j (later y.holds w.holds z.holds j (omega arith) h) ∙ P.held j (sooner y.holds w.holds z.holds j (omega arith) h);
                 say = λ v k H I J W G plan'' agree.
                     let ids = ids_in v.flags v.firsts H I J k in (
                       o,

@@ -26,6 +26,7 @@ use Rattle.plan.specs.Tables.{Arrays, Tables, Begun}
 use Rattle.plan.specs.Walks.{Setting, Known}
 use Rattle.plan.proofs.Growth.{ahead-self}
 use Rattle.plan.proofs.Walk.{Sized}
+use Rattle.planned.specs.declared.HeldOperand.{HeldOperand}
 use Rattle.node_plan.specs.Equations.{EquationsNoted, EndedAll, WalksEquations}
 use Rattle.node_plan.specs.Outcomes.{PlansNode}
 
@@ -87,6 +88,6 @@ module _ (A : Arrays) (condact : ℕ) (s s' : Tables) (Z : Sized s s') (l : Node
         same a t z = cc
 
 -- the tables are those that are lent
-pub plans-lent : {M : ℕ} {gs vs plan flags firsts holds plan' flags' firsts' holds' typed : List ℕ} {types : List TypeDef} {nodes : List Node} {node : Node} {condact : ℕ} {cs : List Clocked} {p q : ℕ} {a : Result Counts Found} → PlansNode M gs vs plan flags firsts holds typed types nodes node condact cs p q a
+pub plans-lent : {M : ℕ} {gs vs plan flags firsts plan' flags' firsts' typed : List ℕ} {holds holds' : List HeldOperand} {types : List TypeDef} {nodes : List Node} {node : Node} {condact : ℕ} {cs : List Clocked} {p q : ℕ} {a : Result Counts Found} → PlansNode M gs vs plan flags firsts holds typed types nodes node condact cs p q a
     → plan' ≡ plan → flags' ≡ flags → firsts' ≡ firsts → holds' ≡ holds → PlansNode M gs vs plan' flags' firsts' holds' typed types nodes node condact cs p q a
 plans-lent P e f g h = rw (e, f, g, h) P

@@ -4,7 +4,7 @@ use mathlib.Core.Path.{◌≡◌, refl, sym, ◌∙◌, ap, subst}
 use mathlib.Core.Bool.{Bool}
 use mathlib.Core.List.{List, [], append-nil}
 use mathlib.Core.Logic.{◌⊎◌, inl, inr}
-use Prim.Native.Nat.{ℕ, zero, suc, ◌+◌, ◌*◌, ◌≤◌, ◌<◌}
+use Prim.Native.Nat.{ℕ, zero, suc, ◌+◌, ◌≤◌, ◌<◌}
 use native.Mathlib.Omega.{arith}
 use lib.ListN.{length, get_or}
 use borrow.Author.Tests.{lt-ltb}
@@ -26,6 +26,8 @@ use Rattle.stateless.specs.Whole.{right_needs}
 use Rattle.stateless.specs.Locals.{ids_in}
 use Rattle.skeleton.specs.Sites.{EquationSited}
 use Rattle.planned.specs.Writes.{Writes}
+use Rattle.planned.specs.declared.HeldOperand.{HeldOperand}
+use Rattle.planned.specs.Held.{hold_at}
 use Rattle.plan.specs.Planned.{Whole, Ahead, Agrees, writer, Planned, tree_codes, tree_holds}
 use Rattle.plan.specs.Tables.{Arrays, Tables, Begun}
 use Rattle.plan.specs.Closed.{Beside}
@@ -75,12 +77,12 @@ module _ (A : Arrays) (T : Setting) (condact : ℕ) (s s' s'' : Tables) (y : Nee
       record {
         begun = B;
         kept = other;
-        held = λ i u. ap (λ (l : List ℕ). get_or l i 0) h ∙ P.held i (same_row i n u);
+        held = λ i u. ap (λ (l : List HeldOperand). hold_at l i) h ∙ P.held i (same_row i n u);
         say = λ w x F f H W a plan''' agree.
             let ids = ids_in w.flags w.firsts F f H x in
             let t = P.says.say w x F f H W (ahead-trans z v w up a) plan''' (inside plan''' agree) 0 q [] Writes.done in
             record { stands = S.stands; framed = framed w x F f H W a plan''' (agree p (omega arith) o); written = subst (λ (l : List TagValue). Writes A.tags A.values (writer (ground_of A T) x F f H) plan''' (p + 1 + length e.left) 1 q l) (append-nil (tree_codes (ground_of A T) c y.holds e.right ids)) t };
-        hold = λ w x F f H W a plan''' holds''' agree same. P.says.hold w x F f H W (ahead-trans z v w up a) plan''' holds''' (inside plan''' agree) (λ i d t. same i d (omega arith) ∙ ap (λ (l : List ℕ). get_or l i 0) h);
+        hold = λ w x F f H W a plan''' holds''' agree same. P.says.hold w x F f H W (ahead-trans z v w up a) plan''' holds''' (inside plan''' agree) (λ i d t. same i d (omega arith) ∙ ap (λ (l : List HeldOperand). hold_at l i) h);
       }
     where
       inside : (plan''' : List ℕ) → Agrees s''.plan plan''' p q → Agrees s'.plan plan''' (p + 1 + length e.left) q
@@ -90,6 +92,6 @@ module _ (A : Arrays) (T : Setting) (condact : ℕ) (s s' s'' : Tables) (y : Nee
       other i (inl u) = beside i (λ z. omega arith) ∙ P.kept i (inl (omega arith))
       other i (inr u) = beside i (λ z. omega arith) ∙ P.kept i (inr u)
 
-      same_row : (i : ℕ) {a b m : ℕ} → a ≡ b → (i < m) ⊎ (2 * a ≤ i) → (i < m) ⊎ (2 * b ≤ i)
+      same_row : (i : ℕ) {a b m : ℕ} → a ≡ b → (i < m) ⊎ (a ≤ i) → (i < m) ⊎ (b ≤ i)
       same_row i j (inl u) = inl u
       same_row i j (inr u) = inr (omega arith)

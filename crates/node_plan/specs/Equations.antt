@@ -1,5 +1,5 @@
 -- A walk over equations, from one state of the tables to another.
-use Rattle.std.specs.Prelude.{ℕ, ◌*◌, ◌≡◌, List, length, Result, Ok, Err}
+use Rattle.std.specs.Prelude.{ℕ, ◌≡◌, List, length, Result, Ok, Err}
 use Rattle.std.proofs.Math.Option.{Option, none, some}
 use Rattle.definitions.specs.Bytes.{tokens}
 use Rattle.definitions.specs.Tree.{Equation}
@@ -18,7 +18,8 @@ use Rattle.stateless.specs.Locals.{ids_in}
 use Rattle.skeleton.specs.Sites.{EquationSited, EquationsSited}
 use Rattle.planned.specs.Held.{HeldFrom}
 use Rattle.plan.specs.Tables.{Arrays, Tables, Begun}
-use Rattle.plan.specs.Planned.{Whole, Ahead, Agrees, Kept, writer, Ended}
+use Rattle.planned.specs.declared.HeldOperand.{HeldOperand}
+use Rattle.plan.specs.Planned.{Whole, Ahead, Agrees, Kept, HoldsAgree, HoldsKept, writer, Ended}
 use Rattle.plan.specs.Walks.{Setting, ground_of, Known, Roomy}
 use Rattle.planned.specs.Planned.{EquationPlanned, EquationsPlanned}
 
@@ -27,22 +28,22 @@ module _ (A : Arrays) (T : Setting) (condact : ℕ) where
   pub record EquationNoted (s s' : Tables) (y : Needs) (c : Clock) (e : Equation) (p q : ℕ) : Type 0 where
     pub begun : Begun s' (right_needs T.types T.nodes T.node condact c e.left e.right y)
     pub kept : Kept s.plan s'.plan p q
-    pub held : Kept s.holds s'.holds (2 * y.holds) (2 * (right_needs T.types T.nodes T.node condact c e.left e.right y).holds)
+    pub held : HoldsKept s.holds s'.holds y.holds (right_needs T.types T.nodes T.node condact c e.left e.right y).holds
     pub say : (w : Needs) (x : ℕ) (flag_ids first_ids hold_ids : List ℕ) → Whole T.flag_room T.first_room T.hold_room w → Ahead (right_needs T.types T.nodes T.node condact c e.left e.right y) w → (plan'' : List ℕ) → Agrees s'.plan plan'' p q →
         EquationPlanned A.names A.tags A.values (writer (ground_of A T) x flag_ids first_ids hold_ids) plan'' condact (ids_in w.flags w.firsts flag_ids first_ids hold_ids x) y.holds c e p q
-    pub hold : (w : Needs) (x : ℕ) (flag_ids first_ids hold_ids : List ℕ) → Whole T.flag_room T.first_room T.hold_room w → Ahead (right_needs T.types T.nodes T.node condact c e.left e.right y) w → (plan'' holds'' : List ℕ) → Agrees s'.plan plan'' p q →
-        Agrees s'.holds holds'' (2 * y.holds) (2 * (right_needs T.types T.nodes T.node condact c e.left e.right y).holds) →
+    pub hold : (w : Needs) (x : ℕ) (flag_ids first_ids hold_ids : List ℕ) → Whole T.flag_room T.first_room T.hold_room w → Ahead (right_needs T.types T.nodes T.node condact c e.left e.right y) w → (plan'' : List ℕ) (holds'' : List HeldOperand) → Agrees s'.plan plan'' p q →
+        HoldsAgree s'.holds holds'' y.holds (right_needs T.types T.nodes T.node condact c e.left e.right y).holds →
         HeldFrom A.names A.tags A.values (writer (ground_of A T) x flag_ids first_ids hold_ids) plan'' holds'' y.holds (right_yield T.types T.nodes T.node (ids_in w.flags w.firsts flag_ids first_ids hold_ids x) c e.left y.holds e.right).holds
 
   -- the equations from p up to q
   pub record EquationsNoted (s s' : Tables) (y : Needs) (cs : List Clocked) (p q : ℕ) : Type 0 where
     pub begun : Begun s' (old_needs T.types T.nodes T.node condact cs y)
     pub kept : Kept s.plan s'.plan p q
-    pub held : Kept s.holds s'.holds (2 * y.holds) (2 * (old_needs T.types T.nodes T.node condact cs y).holds)
+    pub held : HoldsKept s.holds s'.holds y.holds (old_needs T.types T.nodes T.node condact cs y).holds
     pub say : (w : Needs) (x : ℕ) (flag_ids first_ids hold_ids : List ℕ) → Whole T.flag_room T.first_room T.hold_room w → Ahead (old_needs T.types T.nodes T.node condact cs y) w → (plan'' : List ℕ) → Agrees s'.plan plan'' p q →
         EquationsPlanned A.names A.tags A.values (writer (ground_of A T) x flag_ids first_ids hold_ids) plan'' condact (ids_in w.flags w.firsts flag_ids first_ids hold_ids x) y.holds cs p q
-    pub hold : (w : Needs) (x : ℕ) (flag_ids first_ids hold_ids : List ℕ) → Whole T.flag_room T.first_room T.hold_room w → Ahead (old_needs T.types T.nodes T.node condact cs y) w → (plan'' holds'' : List ℕ) → Agrees s'.plan plan'' p q →
-        Agrees s'.holds holds'' (2 * y.holds) (2 * (old_needs T.types T.nodes T.node condact cs y).holds) →
+    pub hold : (w : Needs) (x : ℕ) (flag_ids first_ids hold_ids : List ℕ) → Whole T.flag_room T.first_room T.hold_room w → Ahead (old_needs T.types T.nodes T.node condact cs y) w → (plan'' : List ℕ) (holds'' : List HeldOperand) → Agrees s'.plan plan'' p q →
+        HoldsAgree s'.holds holds'' y.holds (old_needs T.types T.nodes T.node condact cs y).holds →
         HeldFrom A.names A.tags A.values (writer (ground_of A T) x flag_ids first_ids hold_ids) plan'' holds'' y.holds (old_yield T.types T.nodes T.node (ids_in w.flags w.firsts flag_ids first_ids hold_ids x) y.holds cs).holds
 
 -- by the first fault: there is none, and the answer is the end; or the answer is the fault with its equation

@@ -1,5 +1,5 @@
 -- What an equation under the flag of its clock meets and needs.
-use Rattle.std.specs.Prelude.{ℕ, suc, ◌*◌, ◌≤◌, ◌<◌, ◌≡◌, Bool, true, false, List, eqb, length, get_or}
+use Rattle.std.specs.Prelude.{ℕ, suc, ◌*◌, ◌≤◌, ◌<◌, ◌≡◌, Bool, true, false, List, eqb, length, get_or, Result, Ok, Err}
 use Rattle.std.proofs.Math.Option.{Option, none, some}
 use Rattle.definitions.specs.Lists.{choose}
 use Rattle.definitions.specs.Bytes.{tokens}
@@ -8,8 +8,6 @@ use Rattle.definitions.specs.Clock.{Clock}
 use Rattle.definitions.specs.InferClocks.{Fault}
 use Rattle.findings.specs.declared.Fault as value
 use Rattle.findings.specs.Value.{fault_of}
-use Rattle.std.specs.declared.option.Option as code
-use Rattle.std.specs.declared.option.Option.TheVariants.{None, Some}
 use Rattle.definitions.specs.Declock.{Shape, bare, other, calls, clock_place, add_with_parents, declared}
 use Rattle.layout.specs.Table.{Table}
 use Rattle.layout.specs.declared.NodeLayout.{NodeLayout}
@@ -21,9 +19,9 @@ use Rattle.plan.specs.Tables.{Arrays, Tables, Begun}
 use Rattle.plan.specs.Closed.{Beside}
 
 -- the fault that is met
-abbrev pub told_of : code.Option value.Fault → Option Fault
-told_of None = none
-told_of (Some f) = some (fault_of f)
+abbrev pub told_of : Result Unit value.Fault → Option Fault
+told_of (Ok u) = none
+told_of (Err f) = some (fault_of f)
 
 -- a call is gated, but "a call by then named `condact` stays as it is"
 abbrev pub gates_call : ℕ → Shape → Bool

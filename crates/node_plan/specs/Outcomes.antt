@@ -22,6 +22,7 @@ use Rattle.stateless.specs.Yield.{old_yield}
 use Rattle.stateless.specs.Faults.{old_fault}
 use Rattle.stateless.specs.Whole.{no_needs, old_needs}
 use Rattle.stateless.specs.Locals.{ids_in}
+use Rattle.planned.specs.declared.HeldOperand.{HeldOperand}
 use Rattle.planned.specs.Held.{HeldFrom}
 use Rattle.plan.specs.Planned.{Whole}
 use Rattle.planned.specs.Planned.{EquationsPlanned}
@@ -42,7 +43,7 @@ met_by (Ok s) = none
 met_by (Err f) = some (node_fault_of f)
 
 -- M is the number of names; the node stands among these types and nodes, and its equations, with these clocks, from p up to q
-module _ (M : ℕ) (gs vs plan flags firsts holds typed : List ℕ) (types : List TypeDef) (nodes : List Node) (node : Node) (condact : ℕ) (cs : List Clocked) (p q : ℕ) where
+module _ (M : ℕ) (gs vs plan flags firsts : List ℕ) (holds : List HeldOperand) (typed : List ℕ) (types : List TypeDef) (nodes : List Node) (node : Node) (condact : ℕ) (cs : List Clocked) (p q : ℕ) where
   -- what the node needs
   abbrev pub needs_of : Needs
   needs_of = old_needs types nodes node condact cs no_needs

@@ -2,11 +2,11 @@
 // token: 0, or the row of its flag and one more.
 #![tactic(auto)]
 
-ghost use Rattle.std.specs.Prelude.{◌≡◌, List, ℕ, ◌≤◌, ◌<◌, length, Ok};
+ghost use Rattle.std.specs.Prelude.{◌≡◌, List, ℕ, suc, ◌≤◌, ◌<◌, eqb, length, Ok};
+ghost use Rattle.definitions.specs.Lists.{choose};
 ghost use Rattle.grammar.specs.Read.{tokens_of};
 ghost use Rattle.definitions.specs.Tree.{TypeDef, Node};
 ghost use Rattle.definitions.specs.InferClocks.{Clocked};
-ghost use Rattle.definitions.specs.Reading.{got, times};
 ghost use Rattle.definitions.specs.Grammar.{name};
 ghost use Rattle.clock_tables.specs.Value.{value_of};
 ghost use Rattle.layout.specs.Spans.{Spans};
@@ -19,69 +19,70 @@ ghost use Rattle.node_plan.specs.Noted.{told_of, gates_right, Typed, Flagged};
 ghost use Rattle.node_plan.specs.Equations.{WalksEquation, WalksEquations};
 ghost use Rattle.node_plan.specs.Outcomes.{NodeSited, PlansNode};
 
-use clock_tables::{Clock, ClockTable, put_word};
+use clock_tables::{Clock, ClockTable, put_word, word_past};
 use findings::{Fault, Found};
 use index::Index;
 use layout::{NodeLayout, PartsTable, Span};
 use plan::{HoldTable, Notes, Planning};
+use planned::HeldOperand;
 use stateless::Counts;
 
 // What the default of a left name meets.
-fn left_fault(planning: &Planning<'_>, x: u32) -> Option<Fault>
+fn left_fault(planning: &Planning<'_>, x: u32) -> Result<(), Fault>
     ensures { (tys : List TypeDef) (l : List Node) (node : Node) → Typed (arrays_of planning.now) tys node → x < planning.now.index.now.source.names → told_of result ≡ left_fault tys l node x }
 {
     let index = planning.index;
     let Some(at) = typing::last_type(planning.types, x) else {
-        return Some(Fault::Undeclared(x));
+        return Err(Fault::Undeclared(x));
     };
-    if defaults::type_has_default(&index.source, &index.types, &index.has, at) {
-        return None;
+    if !defaults::type_has_default(&index.type_table(), &index.has, at) {
+        return Err(Fault::NoDefault(x));
     }
-    Some(Fault::NoDefault(x))
+    Ok(())
 }
 
-// What the defaults of so many left names meet.
-fn lefts_fault(planning: &Planning<'_>, count: u32, at: usize) -> Option<Fault>
-    ensures { (xs : List ℕ) (q : ℕ) (tys : List TypeDef) (l : List Node) (node : Node) → times count (name planning.now.index.now.source.names) (tokens_of planning.now.index.now.source) at ≡ got xs q → Typed (arrays_of planning.now) tys node → told_of result ≡ lefts_fault tys l node xs }
+// What the defaults of left names meet.
+fn lefts_fault(planning: &Planning<'_>, left: Span) -> Result<(), Fault>
+    ensures { (xs : List ℕ) (tys : List TypeDef) (l : List Node) (node : Node) → Spans (name planning.now.index.now.source.names) (tokens_of planning.now.index.now.source) xs left → Typed (arrays_of planning.now) tys node → told_of result ≡ lefts_fault tys l node xs }
 {
-    let source = &planning.index.source;
-    let mut place = at;
-    for _ in 0..count {
-        let x = layout::value_at(source.values, place);
-        if let Some(fault) = left_fault(planning, x) {
-            return Some(fault);
-        }
-        place = layout::behind(source.tags, place);
+    let names = layout::names_in(&planning.index.source, left);
+    for &x in names {
+        left_fault(planning, x)?;
     }
-    None
+    Ok(())
 }
 
 // What an equation meets under the flag of its clock, by its left names and what its right side calls after rewriting.
-fn flagged_fault(planning: &Planning<'_>, left: Span, called: Option<u32>) -> Option<Fault>
+fn flagged_fault(planning: &Planning<'_>, left: Span, called: Option<u32>) -> Result<(), Fault>
     ensures { (xs : List ℕ) (u : Shape) (tys : List TypeDef) (l : List Node) (node : Node) → called ≡ called_by u → Spans (name planning.now.index.now.source.names) (tokens_of planning.now.index.now.source) xs left → Typed (arrays_of planning.now) tys node → told_of result ≡ flagged_fault tys l node planning.now.index.now.condact xs u }
 {
-    let all = lefts_fault(planning, left.count, left.at);
-    if left.count == 1 {
-        return all;
+    if left.count != 1 {
+        let Some(f) = called else {
+            return Err(Fault::NotSingleCall);
+        };
+        if f == planning.index.condact {
+            return Ok(());
+        }
     }
-    let Some(f) = called else {
-        return Some(Fault::NotSingleCall);
-    };
-    if f == planning.index.condact {
-        None
-    } else {
-        all
-    }
+    lefts_fault(planning, left)
 }
 
 // Is a right side that calls this, with so many left names, gated: is it a call that is not of `condact`?
 fn gates_right(called: Option<u32>, condact: u32, left: u32) -> bool
     ensures { (u : Shape) → called ≡ called_by u → result ≡ gates_right condact left u }
 {
-    let Some(f) = called else {
-        return false;
-    };
-    left != 1 && f != condact
+    called.is_some_and(|f| left != 1 && f != condact)
+}
+
+// An equation's own word, by the row of its clock's flag: 0 where neither a gate nor a choice stands around its right side.
+fn flag_word(row: usize, left: u32, gated: bool) -> u32
+    ensures { row < 4294967295 → result ≡ choose gated (suc row) (choose (eqb left 1) (suc row) 0) }
+{
+    if gated || left == 1 {
+        word_past(row)
+    } else {
+        0
+    }
 }
 
 // The flag of an equation's clock, and its own word: it has so many left names, and is gated or not.
@@ -89,18 +90,9 @@ fn flag_equation(notes: &mut Notes<'_, '_>, c: Clock, left: u32, gated: bool, at
     ensures still_lent { StillLent notes.old notes.new }
     ensures flagged { (y : Needs) → Begun (tables_of notes.old) y → Flagged (tables_of notes.old) (tables_of notes.new) (value_of c) left gated y at }
 {
-    let row = plan::add_flag(notes.flags, c);
-    let word = clock_tables::word_past(row);
-    if gated {
-        notes.condact = true;
-        put_word(notes.plan, at, word);
-        return;
-    }
-    if left == 1 {
-        put_word(notes.plan, at, word);
-        return;
-    }
-    put_word(notes.plan, at, 0);
+    let row = notes.flags.add_with_parents(c);
+    notes.condact |= gated;
+    put_word(notes.plan, at, flag_word(row, left, gated));
 }
 
 // The equation that stands there: where it ends, or the fault that is met.
@@ -117,14 +109,10 @@ fn equation(planning: &Planning<'_>, notes: &mut Notes<'_, '_>, at: usize) -> Re
     }
     let c = clock_tables::get(planning.sites, at);
     let called = typing::called_after(index, c, left.end);
-    match flagged_fault(planning, left, called) {
-        Some(fault) => Err(fault),
-        None => {
-            let gated = gates_right(called, index.condact, left.count);
-            flag_equation(notes, c, left.count, gated, at);
-            Ok(end)
-        }
-    }
+    flagged_fault(planning, left, called)?;
+    let gated = gates_right(called, index.condact, left.count);
+    flag_equation(notes, c, left.count, gated, at);
+    Ok(end)
 }
 
 // The equations that stand there: where they end, or the first fault that is met.
@@ -134,16 +122,14 @@ fn equations(planning: &Planning<'_>, notes: &mut Notes<'_, '_>, span: Span) -> 
 {
     let mut place = span.at;
     for i in 0..span.count {
-        match equation(planning, notes, place) {
-            Ok(next) => place = next,
-            Err(fault) => return Err(Found { fault, equation: i }),
-        }
+        place = equation(planning, notes, place).map_err(|fault| Found { fault, equation: i })?;
     }
     Ok(place)
 }
 
 // A node with this layout whose sites have their clocks: the types of its names, and the plan of its equations; how much is needed, or the
 // first fault that is met.
+// Stays (no plainer): the tables singly, since they are taken apart here at once, into `Planning`, `Notes` and the tables it lends.
 pub fn plan_laid<'a>(
     index: &Index<'_>,
     parts: &PartsTable,
@@ -152,7 +138,7 @@ pub fn plan_laid<'a>(
     plan: &mut [u32],
     flags: &'a mut [u32],
     firsts: &'a mut [u32],
-    holds: &'a mut [u32],
+    holds: &'a mut [HeldOperand],
     l: NodeLayout,
 ) -> Result<Counts, Found>
     ensures types_len_unchanged { length types.new ≡ length types.old }
@@ -177,10 +163,7 @@ pub fn plan_laid<'a>(
         words: firsts,
         count: 0,
     };
-    let mut held = HoldTable {
-        words: holds,
-        count: 0,
-    };
+    let mut held = HoldTable { holds, count: 0 };
     let mut notes = Notes {
         plan,
         flags: &mut flagged,

@@ -36,7 +36,9 @@ behind_type p (rejected r) = plain_at p 0
 module _ (M : ℕ) (ts : List TagValue) where
   -- behind a count of start values
   abbrev pub iterated : ℕ → Got ℕ → Operands
-  iterated p (got k q) = choose (eqb k 0) (behind_count Gap.Nothing q (counted 3 0 most_counted ts q)) (behind_start q (counted 3 0 most_counted ts (skipped q (tree M ts q))))
+  iterated p (got k q) = choose (eqb k 0)
+      (behind_count Gap.Nothing q (counted 3 0 most_counted ts q))
+      (behind_start q (counted 3 0 most_counted ts (skipped q (tree M ts q))))
   iterated p (rejected r) = plain_at p 0
 
   -- the operands that follow a first token of this shape

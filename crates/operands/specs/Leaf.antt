@@ -4,7 +4,8 @@ use Rattle.definitions.specs.Lists.{choose}
 use Rattle.operands.specs.declared.Leaf.{Leaf}
 use Rattle.layout.specs.Spans.{past_in}
 
--- by the tag and the value at p, of so many places: "50 bool(0/1), 51 int(low), 52 float(low), 53 char(0 to 255), 54 var(id)"; "51 and 52 are followed by high"
+-- by the tag and the value at p, of so many places: "50 bool(0/1), 51 int(low), 52 float(low), 53 char(0 to 255), 54 var(id)";
+-- "51 and 52 are followed by high"
 abbrev pub leaf_at : ℕ → ℕ → ℕ → ℕ → Option Leaf
 leaf_at most tag v p =
     choose (eqb tag 54) (Some (Leaf.Name v (p + 1))) (

@@ -16,13 +16,15 @@ use Rattle.operands.specs.Spread.{tree, spread}
 module _ (M : ℕ) (ts : List TagValue) where
   -- the operands that follow the first token t, from p on
   pub record OperandsLaid (t : ExprToken) (p : ℕ) (o : Operands) : Type 0 where
-    pub operands : (e : Expr) (q : ℕ) → form M t (tree M) ts p ≡ got e q → spread M o.gap o.count (tree M) ts o.first ≡ got (operands_of e) q
+    pub operands : (e : Expr) (q : ℕ) → form M t (tree M) ts p ≡ got e q →
+        spread M o.gap o.count (tree M) ts o.first ≡ got (operands_of e) q
     pub past : (e : Expr) (q : ℕ) → form M t (tree M) ts p ≡ got e q → p ≤ o.first
 
   -- the expression at p: what it does, and its operands
   pub record Viewed (p : ℕ) (v : View) : Type 0 where
     pub role : (e : Expr) (q : ℕ) → tree M ts p ≡ got e q → v.role ≡ role_of_expr e
-    pub operands : (e : Expr) (q : ℕ) → tree M ts p ≡ got e q → spread M v.operands.gap v.operands.count (tree M) ts v.operands.first ≡ got (operands_of e) q
+    pub operands : (e : Expr) (q : ℕ) → tree M ts p ≡ got e q →
+        spread M v.operands.gap v.operands.count (tree M) ts v.operands.first ≡ got (operands_of e) q
     pub past : (e : Expr) (q : ℕ) → tree M ts p ≡ got e q → p < v.operands.first
     pub within : (e : Expr) (q : ℕ) → tree M ts p ≡ got e q → (v.operands.first ≤ q) × (q ≤ length ts)
     -- past the end nothing is viewed

@@ -15,7 +15,7 @@ ghost use Rattle.operands.specs.Laid.{plain_at, behind_count, behind_start, oper
 ghost use Rattle.operands.specs.Viewed.{OperandsLaid, Viewed, Stepped};
 
 use definitions::{ARRAY_LEVELS, Condition, ExprToken, MOST_ITEMS, Test};
-use grammar::{Shape, Source};
+use grammar::{Shape, Source, tags};
 
 // What an expression does.
 #[derive(Clone, Copy)]
@@ -156,7 +156,7 @@ fn plain(first: usize, count: u32) -> Operands
 fn behind_count(source: &Source<'_>, gap: Gap, at: usize) -> Operands
     ensures { result ≡ behind_count gap at (counted 3 0 64 (tokens_of source.now) at) }
 {
-    match grammar::read_count(source, 3, 0, MOST_ITEMS, at) {
+    match grammar::read_count(source, tags::COUNT, 0, MOST_ITEMS, at) {
         Ok((n, first)) => Operands {
             first,
             count: n,
@@ -171,7 +171,7 @@ fn behind_start(source: &Source<'_>, at: usize) -> Operands
     ensures { (e : Expr) (q : ℕ) → tree source.now.names (tokens_of source.now) at ≡ got e q → result ≡ behind_start at (counted 3 0 64 (tokens_of source.now) q) }
 {
     let end = layout::expr_end(source, at);
-    match grammar::read_count(source, 3, 0, MOST_ITEMS, end) {
+    match grammar::read_count(source, tags::COUNT, 0, MOST_ITEMS, end) {
         Ok((n, _)) => Operands {
             first: at,
             count: n + 1,
@@ -186,7 +186,7 @@ fn behind_start(source: &Source<'_>, at: usize) -> Operands
 fn iterated(source: &Source<'_>, at: usize) -> Operands
     ensures { (es : Exprs) (q : ℕ) → following source.now.names Shape.Iteration (tree source.now.names) (tokens_of source.now) at ≡ got es q → result ≡ operands_at source.now.names (tokens_of source.now) Shape.Iteration at }
 {
-    match grammar::read_count(source, 3, 0, 1, at) {
+    match grammar::read_count(source, tags::COUNT, 0, 1, at) {
         Ok((n, first)) => if n == 0 {
             behind_count(source, Gap::Nothing, first)
         } else {
@@ -249,7 +249,7 @@ pub fn view_at(source: &Source<'_>, at: usize) -> View
 }
 
 // The leaf that stands there, if one does, by its first token.
-// Stays (speed): numbers of tags; by whole tokens merges of two sites, in equations in reverse order, take 5 instructions in 100 more.
+// Stays (speed): by tags; by whole tokens merges of two sites, in equations in reverse order, take 5 instructions in 100 more.
 pub fn leaf_at(source: &Source<'_>, at: usize) -> Option<Leaf>
     ensures { result ≡ leaf_at (length source.now.tags.now) (get_or source.now.tags.now at 0) (get_or source.now.values.now at 0) at }
 {
@@ -257,9 +257,9 @@ pub fn leaf_at(source: &Source<'_>, at: usize) -> Option<Leaf>
         return None;
     }
     match source.tags[at] {
-        54 => Some(Leaf::Name(source.values[at], at + 1)),
-        50 | 53 => Some(Leaf::Constant(at + 1)),
-        51 | 52 => Some(Leaf::Constant(layout::behind(source.tags, at + 1))),
+        tags::VAR => Some(Leaf::Name(source.values[at], at + 1)),
+        tags::BOOL | tags::CHAR => Some(Leaf::Constant(at + 1)),
+        tags::INT | tags::FLOAT => Some(Leaf::Constant(layout::behind(source.tags, at + 1))),
         _ => None,
     }
 }

@@ -10,6 +10,7 @@ use lib.ListN.{length, get_or, take, drop, drop_of_length-le, length-drop}
 use lib.Seq.{drop-cons, drop-drop}
 use lib.Dec.{eqb}
 use borrow.Author.Tests.{le-ltb, lt-ltb, eqb-true, eqb-false}
+use Rattle.std.proofs.Math.Bool.{and-false, and-true}
 use Rattle.std.specs.List.{list_all}
 use Rattle.std.specs.Str.{bytes_eq}
 use Rattle.definitions.specs.Lists.{all, any, sum, same_letters}
@@ -17,14 +18,6 @@ use Rattle.definitions.specs.Bytes.{is_letter, is_digit, well_formed, bad_name, 
 use Rattle.parts.specs.Places.{start, name_at, before}
 
 -- ---- tests
-and-false : (x : Bool) → (x && false) ≡ false
-and-false true = refl
-and-false false = refl
-
-and-true : (x : Bool) → (x && true) ≡ x
-and-true true = refl
-and-true false = refl
-
 or-true : (x y : Bool) → y ≡ true → (x || y) ≡ true
 or-true true y e = refl
 or-true false y e = e

@@ -6,6 +6,7 @@ use native.Mathlib.Numerals.{add-one}
 use native.Mathlib.Omega.{arith}
 use lib.ListN.{length, get_or, take, drop, set}
 use lib.Seq.{sets, sets-eq, length-sets, drop-drop, take-suc, take_all, length-take-le}
+use Rattle.std.proofs.lemmas.List.{map-append}
 use borrow.Rule.Slice.PartMut.{put_mid}
 use Rattle.definitions.specs.Lists.{join, over}
 use Rattle.definitions.specs.Output.{word_bytes}
@@ -42,10 +43,6 @@ part-put o l p v w at k e n h f g =
     bytes-put l v w at k (omega arith) f g ∙ rw e (sets-two o p v 0 at (omega arith))
 
 -- ---- words
-map-append : {A B : Type 0} (f : A → B) (a b : List A) → map f (a ++ b) ≡ map f a ++ map f b
-map-append f [] b = refl
-map-append f (x ∷ a) b = ap (λ r. f x ∷ r) (map-append f a b)
-
 join-append : (a b : List (List ℕ)) → join (a ++ b) ≡ join a ++ join b
 join-append [] b = refl
 join-append (x ∷ a) b = ap (λ (r : List ℕ). x ++ r) (join-append a b) ∙ sym (append_assoc x (join a) (join b))

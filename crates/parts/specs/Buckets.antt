@@ -35,5 +35,6 @@ no_entry = record { start = 0; previous = None }
 pub record Filled (lens letters : List ℕ) (entries : List Entry) (lasts : List (Option ℕ)) (i : ℕ) : Type 0 where
   pub all-entries : length entries ≡ 1024
   pub all-lasts : length lasts ≡ 1024
-  pub entered : (j : ℕ) → j < i → get_or entries j no_entry ≡ record { start = start lens j; previous = last_in (bucket_at lens letters) (bucket_at lens letters j) j }
+  pub entered : (j : ℕ) → j < i →
+      get_or entries j no_entry ≡ record { start = start lens j; previous = last_in (bucket_at lens letters) (bucket_at lens letters j) j }
   pub headed : (b : ℕ) → b < 1024 → get_or lasts b None ≡ last_in (bucket_at lens letters) b i

@@ -122,7 +122,7 @@ pub fn read_parts(
     let sizes = check_parts(sheet)?;
     let n = sizes.tokens;
     let at = 12 + sizes.names + sizes.letters;
-    tags[..n].copy_from_slice(&sheet[at..at + n]);
+    copy_items(&mut tags[..n], &sheet[at..at + n]);
     read_words(&sheet[at + n..], &mut values[..n]);
     Ok(sizes)
 }
@@ -172,9 +172,9 @@ pub fn write(
     Ok(needed)
 }
 
-// As many bytes as there is room for, each in its place.
+// As many items as there is room for, each in its place.
 // Stays (C interface): `copy_from_slice` of two parameters calls memmove, and the library calls nothing but memcpy and memset.
-pub fn copy_bytes(to: &mut [u8], from: &[u8])
+pub fn copy_items<T: Copy>(to: &mut [T], from: &[T])
     requires { length from.now ≡ length to.old }
     ensures { to.new ≡ from.now }
 {
@@ -192,6 +192,6 @@ pub fn write_bytes(bytes: &[u8], out: &mut [u8]) -> Result<usize, Refusal>
     if out.len() < n {
         return Err(Refusal::Lent(n));
     }
-    copy_bytes(&mut out[..n], bytes);
+    copy_items(&mut out[..n], bytes);
     Ok(n)
 }

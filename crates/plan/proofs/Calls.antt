@@ -8,7 +8,8 @@ use Prim.Native.Nat.{ℕ}
 use lib.ListN.{set}
 use Rattle.definitions.specs.Tokens.{TagValue}
 use Rattle.definitions.specs.Tree.{Declared, TypeDef, Node}
-use Rattle.definitions.specs.Reading.{got, times}
+use Rattle.layout.specs.declared.Span.{Span}
+use Rattle.layout.specs.Spans.{Spans}
 use Rattle.definitions.specs.Grammar.{declaration}
 use Rattle.definitions.specs.Clock.{Clock, is_base}
 use Rattle.definitions.specs.Declock.{operator_outputs}
@@ -26,15 +27,15 @@ use Rattle.plan.specs.Closed.{lack_fault, Gated}
 use Rattle.plan.proofs.Closing.{call-plain, call-function, call-gated, call-lacks}
 
 -- an operator's outputs, or none
-none_from : (M : ℕ) (ts : List TagValue) (o : Option (List Declared)) (u : code.Option (ℕ × ℕ)) → OutputsStand M ts o u → u ≡ None → o ≡ none
+none_from : (M : ℕ) (ts : List TagValue) (o : Option (List Declared)) (u : code.Option Span) → OutputsStand M ts o u → u ≡ None → o ≡ none
 unfolding OutputsStand
 none_from M ts none u h i = refl
 none_from M ts (some ds) u h i = let z : ⊥ = rw i at h in absurd z
 
-some-from : (M : ℕ) (ts : List TagValue) (o : Option (List Declared)) (u : code.Option (ℕ × ℕ)) → OutputsStand M ts o u → (p k : ℕ) → u ≡ Some (p, k) → (ds : List Declared) × (q : ℕ) × (o ≡ some ds) × (times k (declaration M) ts p ≡ got ds q)
+some-from : (M : ℕ) (ts : List TagValue) (o : Option (List Declared)) (u : code.Option Span) → OutputsStand M ts o u → (a : Span) → u ≡ Some a → (ds : List Declared) × (o ≡ some ds) × Spans (declaration M) ts ds a
 unfolding OutputsStand
-some-from M ts none u h p k i = let z : ⊥ = rw i at h in absurd z
-some-from M ts (some ds) u h p k i = let a : (q : ℕ) × (times k (declaration M) ts p ≡ got ds q) = rw i at h in (ds, a.0, refl, a.1)
+some-from M ts none u h a i = let z : ⊥ = rw i at h in absurd z
+some-from M ts (some ds) u h a i = (ds, refl, rw i at h)
 
 module _ (types : List TypeDef) (l : List Node) (node : Node) (s : Tables) (p : ℕ) (c : Clock) (end f : ℕ) where
   pub close-plain : (plan' : List ℕ) → plan' ≡ set s.plan p 0 → is_base c ≡ true → (y : Needs) → Begun s y → Ended end (Ok end) (Gated s (record s { plan = plan' }) c (is_there (operator_outputs l f)) y p) (gate_fault types l node f (gate_of types l node c f))
@@ -42,23 +43,23 @@ module _ (types : List TypeDef) (l : List Node) (node : Node) (s : Tables) (p : 
 
   -- g is the value that the code reads
   module _ (g : ℕ) (v : g ≡ f) where
-    pub close-function : (plan' : List ℕ) → plan' ≡ set s.plan p 0 → is_base c ≡ false → (M : ℕ) (ts : List TagValue) (u : code.Option (ℕ × ℕ)) → OutputsStand M ts (operator_outputs l g) u → u ≡ None → (y : Needs) → Begun s y →
+    pub close-function : (plan' : List ℕ) → plan' ≡ set s.plan p 0 → is_base c ≡ false → (M : ℕ) (ts : List TagValue) (u : code.Option Span) → OutputsStand M ts (operator_outputs l g) u → u ≡ None → (y : Needs) → Begun s y →
         Ended end (Ok end) (Gated s (record s { plan = plan' }) c (is_there (operator_outputs l f)) y p) (gate_fault types l node f (gate_of types l node c f))
     close-function plan' e k M ts u h i y B =
         subst (λ (z : ℕ). Ended end (Ok end) (Gated s (record s { plan = plan' }) c (is_there (operator_outputs l z)) y p) (gate_fault types l node z (gate_of types l node c z))) v (call-function types l node s p g c end plan' e k (none_from M ts (operator_outputs l g) u h i) y B)
 
-    module _ (b : is_base c ≡ false) (M : ℕ) (ts : List TagValue) (u : code.Option (ℕ × ℕ)) (h : OutputsStand M ts (operator_outputs l g) u) (a k : ℕ) (i : u ≡ Some (a, k)) (m : code.Option ℕ)
-        (o : (ds : List Declared) (q : ℕ) → times k (declaration M) ts a ≡ got ds q → lack_fault g m ≡ outputs_fault types l node g ds) where
+    module _ (b : is_base c ≡ false) (M : ℕ) (ts : List TagValue) (u : code.Option Span) (h : OutputsStand M ts (operator_outputs l g) u) (a : Span) (i : u ≡ Some a) (m : code.Option ℕ)
+        (o : (ds : List Declared) → Spans (declaration M) ts ds a → lack_fault g m ≡ outputs_fault types l node g ds) where
       pub close-gated : (s' : Tables) → m ≡ None → (y : Needs) → Gated s s' c true y p → Ended end (Ok end) (Gated s s' c (is_there (operator_outputs l f)) y p) (gate_fault types l node f (gate_of types l node c f))
       close-gated s' j y D =
-          let r = some-from M ts (operator_outputs l g) u h a k i in
+          let r = some-from M ts (operator_outputs l g) u h a i in
           subst (λ (z : ℕ). Ended end (Ok end) (Gated s s' c (is_there (operator_outputs l z)) y p) (gate_fault types l node z (gate_of types l node c z))) v
-          (call-gated types l node s p g c end s' b r.0 r.2 (sym (o r.0 r.1 r.3) ∙ ap (lack_fault g) j) y D)
+          (call-gated types l node s p g c end s' b r.0 r.1 (sym (o r.0 r.2) ∙ ap (lack_fault g) j) y D)
 
 -- an output lacks a default
-pub close-lacks : (types : List TypeDef) (l : List Node) (node : Node) (c : Clock) (end f g : ℕ) → g ≡ f → is_base c ≡ false → (M : ℕ) (ts : List TagValue) (u : code.Option (ℕ × ℕ)) → OutputsStand M ts (operator_outputs l g) u → (a k : ℕ) → u ≡ Some (a, k) → (m : code.Option ℕ) →
-    ((ds : List Declared) (q : ℕ) → times k (declaration M) ts a ≡ got ds q → lack_fault g m ≡ outputs_fault types l node g ds) → (x : ℕ) → m ≡ Some x → (P : Type 0) → Ended end (Err (value.Fault.NoOutputDefault x g)) P (gate_fault types l node f (gate_of types l node c f))
-close-lacks types l node c end f g v b M ts u h a k i m o x j P =
-    let r = some-from M ts (operator_outputs l g) u h a k i in
+pub close-lacks : (types : List TypeDef) (l : List Node) (node : Node) (c : Clock) (end f g : ℕ) → g ≡ f → is_base c ≡ false → (M : ℕ) (ts : List TagValue) (u : code.Option Span) → OutputsStand M ts (operator_outputs l g) u → (a : Span) → u ≡ Some a → (m : code.Option ℕ) →
+    ((ds : List Declared) → Spans (declaration M) ts ds a → lack_fault g m ≡ outputs_fault types l node g ds) → (x : ℕ) → m ≡ Some x → (P : Type 0) → Ended end (Err (value.Fault.NoOutputDefault x g)) P (gate_fault types l node f (gate_of types l node c f))
+close-lacks types l node c end f g v b M ts u h a i m o x j P =
+    let r = some-from M ts (operator_outputs l g) u h a i in
     subst (λ (z : ℕ). Ended end (Err (value.Fault.NoOutputDefault x g)) P (gate_fault types l node z (gate_of types l node c z))) v
-    (call-lacks types l node g c end x b r.0 r.2 (sym (o r.0 r.1 r.3) ∙ ap (lack_fault g) j) P)
+    (call-lacks types l node g c end x b r.0 r.1 (sym (o r.0 r.2) ∙ ap (lack_fault g) j) P)

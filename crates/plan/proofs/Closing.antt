@@ -7,7 +7,7 @@ use mathlib.Core.Logic.{◌⊎◌, inl, inr}
 use mathlib.Core.Option.{Option, none, some}
 use Prim.Native.Nat.{ℕ, suc, ◌+◌, ◌*◌, ◌≤◌, ◌<◌}
 use native.Mathlib.Omega.{arith}
-use lib.ListN.{length, get_or, set, length-set}
+use lib.ListN.{length, get_or, set}
 use lib.Seq.{get_or-set_same, get_or-set_other}
 use Rattle.definitions.specs.Lists.{choose, place_by}
 use Rattle.definitions.specs.Tree.{Ty, Declared, TypeDef, Node}
@@ -19,12 +19,13 @@ use Rattle.std.specs.Prelude.{Ok, Err}
 use Rattle.definitions.specs.Declock.{clock_place, add, add_with_parents, operator_outputs}
 use Rattle.clock_tables.specs.Rows.{RowsHold}
 use Rattle.index.specs.Callees.{is_there}
-use Rattle.stateless.specs.declared.Turn.{Turn}
-use Rattle.stateless.specs.Need.{Needs, pre_turn, settled}
+use Rattle.stateless.specs.Need.{Turn, Needs, pre_turn, settled}
 use Rattle.stateless.specs.Yield.{gate_of}
 use Rattle.stateless.specs.Faults.{pre_fault, outputs_fault, gate_fault}
 use Rattle.plan.specs.Tables.{Tables, Begun}
-use Rattle.plan.specs.Planned.{Kept, Ended}
+use Rattle.planned.specs.declared.HeldOperand.{HeldOperand}
+use Rattle.planned.specs.Held.{hold_at}
+use Rattle.plan.specs.Planned.{HoldsKept, Ended}
 use Rattle.plan.specs.Closed.{Beside, Followed, Gated, Preceded}
 
 place-least : (p : Clock → Bool) (l : List Clock) → place_by p l ≤ length l
@@ -77,10 +78,6 @@ module _ (rows : List ℕ) (n i w : ℕ) (d : Clock) (finds : (cs : List Clock) 
   pub row-least : (cs : List Clock) → RowsHold rows n cs → 17 * length cs ≤ length rows → i ≤ length cs
   row-least cs h f = omega (arith, row-found cs h f, place-least (same_clock d) cs)
 
--- the same of a list of these rows
-pub listed : (rows rows' : List ℕ) (n n' i : ℕ) (d : Clock) → rows' ≡ rows → n' ≡ n → ((cs : List Clock) → 17 * n' ≤ length rows' → RowsHold rows' n' cs → i ≡ clock_place d cs) → (cs : List Clock) → 17 * n ≤ length rows → RowsHold rows n cs → i ≡ clock_place d cs
-listed rows rows' n n' i d a b f = subst (λ (m : ℕ). (cs : List Clock) → 17 * m ≤ length rows → RowsHold rows m cs → i ≡ clock_place d cs) b (subst (λ (l : List ℕ). (cs : List Clock) → 17 * n' ≤ length l → RowsHold l n' cs → i ≡ clock_place d cs) a f)
-
 -- ---- a `->` on a clock
 pub follow-clock : (s : Tables) (plan' flags' firsts' : List ℕ) (p w n m i : ℕ) → plan' ≡ set s.plan p w → (i < 4294967295 → w ≡ suc i) → (d c : Clock) → d ≡ c → is_base c ≡ false →
     ((cs : List Clock) → RowsHold s.flags s.counts.flags cs → RowsHold flags' n (add_with_parents d cs)) → ((cs : List Clock) → RowsHold s.firsts s.counts.firsts cs → RowsHold firsts' m (add d cs)) →
@@ -121,25 +118,18 @@ gate-clock s plan' flags' p w n i e word d c j b A finds y B = subst (λ (x : Cl
 -- ---- a `pre` that is held
 module _ (s : Tables) (flags' : List ℕ) (p n : ℕ) (d : Clock) (A : (cs : List Clock) → RowsHold s.flags s.counts.flags cs → RowsHold flags' n (add_with_parents d cs)) (y : Needs) (B : Begun s y) where
   -- its place and its row
-  module _ (i : ℕ) (finds : (cs : List Clock) → 17 * n ≤ length flags' → RowsHold flags' n cs → i ≡ clock_place d cs) (plan' holds' : List ℕ) (j k₁ a b w : ℕ) (c : j ≡ s.counts.holds) (more : k₁ ≡ j + 1) (o : j < 4294967295) (e : plan' ≡ set s.plan p w) (word : w ≡ suc j)
-      (f : holds' ≡ set (set s.holds (2 * j) a) (2 * j + 1) b) (place : p < 4294967295 → a ≡ suc p) (row : i < 4294967296 → b ≡ i) where
+  module _ (i : ℕ) (finds : (cs : List Clock) → 17 * n ≤ length flags' → RowsHold flags' n cs → i ≡ clock_place d cs) (plan' : List ℕ) (holds' : List HeldOperand) (j k₁ w : ℕ) (one : HeldOperand) (c : j ≡ s.counts.holds) (more : k₁ ≡ j + 1) (o : j < 4294967295) (e : plan' ≡ set s.plan p w) (word : w ≡ suc j)
+      (f : holds' ≡ set s.holds j one) (stored : one ≡ record { at = p + 1; row = i }) where
     s' : Tables
     s' = record { plan = plan'; flags = flags'; firsts = s.firsts; holds = holds'; counts = record { flags = n; firsts = s.counts.firsts; holds = k₁; condact = s.counts.condact } }
 
     alike : j ≡ y.holds
     alike = let h = B.held in omega arith
 
-    stored : 2 * j + 2 ≤ length s.holds → (get_or holds' (2 * j) 0 ≡ a) × (get_or holds' (2 * j + 1) 0 ≡ b)
-    stored h =
-        (ap (λ (l : List ℕ). get_or l (2 * j) 0) f ∙ (get_or-set_other (set s.holds (2 * j) a) (2 * j + 1) (2 * j) b 0 (λ z. omega arith) ∙ get_or-set_same s.holds (2 * j) a 0 (omega arith)), ap (λ (l : List ℕ). get_or l (2 * j + 1) 0) f ∙ get_or-set_same (set s.holds (2 * j) a) (2 * j + 1) b 0 long)
+    apart : HoldsKept s.holds holds' y.holds (y.holds + 1)
+    apart k m = ap (λ (l : List HeldOperand). hold_at l k) f ∙ get_or-set_other s.holds j k one _ (λ z. out k m (omega (arith, alike)) (omega (arith, alike)))
       where
-        long : 2 * j + 1 < length (set s.holds (2 * j) a)
-        long = subst (λ (z : ℕ). 2 * j + 1 < z) (sym (length-set s.holds (2 * j) a)) (omega arith)
-
-    apart : Kept s.holds holds' (2 * y.holds) (2 * (y.holds + 1))
-    apart k h = ap (λ (l : List ℕ). get_or l k 0) f ∙ (get_or-set_other (set s.holds (2 * j) a) (2 * j + 1) k b 0 (λ z. out k h (omega (arith, alike)) (omega (arith, alike))) ∙ get_or-set_other s.holds (2 * j) k a 0 (λ z. out k h (omega (arith, alike)) (omega (arith, alike))))
-      where
-        out : (k : ℕ) → (k < 2 * y.holds) ⊎ (2 * (y.holds + 1) ≤ k) → 2 * y.holds ≤ k → k < 2 * (y.holds + 1) → ⊥
+        out : (k : ℕ) → (k < y.holds) ⊎ (y.holds + 1 ≤ k) → y.holds ≤ k → k < y.holds + 1 → ⊥
         out k (inl u) m v = omega arith
         out k (inr u) m v = omega arith
 
@@ -152,9 +142,9 @@ module _ (s : Tables) (flags' : List ℕ) (p n : ℕ) (d : Clock) (A : (cs : Lis
         let found = row-found flags' n i w d finds (add_with_parents d y.flags) D.flagged in
         let least = row-least flags' n i w d finds (add_with_parents d y.flags) D.flagged in
         let told : p < length s.plan → y.holds < 4294967295 → get_or plan' p 0 ≡ suc y.holds = λ u v. there s.plan plan' p w e u ∙ (word ∙ ap suc m) in
-        let rows : p < 4294967295 → 2 * y.holds + 2 ≤ length s.holds → 17 * length (add_with_parents d y.flags) ≤ length flags' → length (add_with_parents d y.flags) < 4294967295 → (get_or holds' (2 * y.holds) 0 ≡ p + 1) × (get_or holds' (2 * y.holds + 1) 0 ≡ clock_place d (add_with_parents d y.flags)) =
-        λ u v x z. let r = stored (omega arith) in (ap (λ (l : ℕ). get_or holds' (2 * l) 0) (sym m) ∙ (r.0 ∙ (place u ∙ omega arith)), ap (λ (l : ℕ). get_or holds' (2 * l + 1) 0) (sym m) ∙ (r.1 ∙ (row (omega (arith, least x)) ∙ found x))) in
-        record { begun = rw k D; beside = beside s.plan plan' p w e; kept = rw k apart; word = rw k told; row = λ z v u l g x r. rows u g x r }
+        let rows : y.holds < length s.holds → 17 * length (add_with_parents d y.flags) ≤ length flags' → hold_at holds' y.holds ≡ record { at = p + 1; row = clock_place d (add_with_parents d y.flags) } =
+        λ v x. ap (hold_at holds') (sym m) ∙ (ap (λ (l : List HeldOperand). hold_at l j) f ∙ (get_or-set_same s.holds j one _ (omega arith) ∙ (stored ∙ ap {B = HeldOperand} (λ r. record { at = p + 1; row = r }) (found x)))) in
+        record { begun = rw k D; beside = beside s.plan plan' p w e; kept = rw k apart; word = rw k told; row = λ z v l g x. rows g x }
 
     pub hold-next : (x : Clock) → d ≡ x → is_base x ≡ false → Preceded s (record { plan = plan'; flags = flags'; firsts = s.firsts; holds = holds'; counts = record { flags = n; firsts = s.counts.firsts; holds = k₁; condact = s.counts.condact } }) x false y p
     unfolding s'

@@ -11,8 +11,7 @@ use Rattle.definitions.specs.Tree.{Ty, TypeDef, Expr, Exprs, Node}
 use Rattle.definitions.specs.Clock.{Clock, base, ◌↓◌, parent, is_on, is_not, is_base, same_clock}
 use Rattle.definitions.specs.Declock.{Hold, add, add_with_parents, operator_outputs, declared, operand_type}
 use Rattle.index.specs.Callees.{is_there}
-use Rattle.stateless.specs.declared.Turn.{Turn}
-use Rattle.stateless.specs.Need.{Needs, is_bare, pre_turn, arrow_turn, call_turn, settled, needed, needed_all}
+use Rattle.stateless.specs.Need.{Turn, Needs, is_bare, pre_turn, arrow_turn, call_turn, settled, needed, needed_all}
 use Rattle.stateless.specs.Yield.{Ids, Yield, type_or, pre_yield, yield, yields}
 use Rattle.stateless.proofs.Growth.{keeps-add, keeps-parents}
 use Rattle.plan.specs.Planned.{Ahead}

@@ -20,8 +20,7 @@ use Rattle.definitions.specs.Output.{expr_tokens, operand_tokens}
 use Rattle.layout.specs.Owed.{follows, Owed}
 use Rattle.operands.specs.Spread.{tree}
 use Rattle.index.specs.Callees.{is_there}
-use Rattle.stateless.specs.declared.Turn.{Turn}
-use Rattle.stateless.specs.Need.{Needs, pre_turn, arrow_turn, call_turn, settled}
+use Rattle.stateless.specs.Need.{Turn, Needs, pre_turn, arrow_turn, call_turn, settled}
 use Rattle.stateless.specs.Yield.{Ids, output_trees, gate_of}
 use Rattle.stateless.specs.Faults.{outputs_fault, gate_fault}
 use Rattle.stateless.specs.Locals.{ids_in}
@@ -29,8 +28,9 @@ use Rattle.stateless.proofs.Growth.{has-add, has-parents}
 use Rattle.skeleton.specs.Lies.{code_at, parts_at}
 use Rattle.planned.specs.declared.Plan.{Plan}
 use Rattle.planned.specs.Writes.{Writer, plan_of, named, gate_codes, default_codes, Writes}
-use Rattle.planned.specs.Held.{HeldAt, HeldFrom}
-use Rattle.plan.specs.Planned.{Whole, Ahead, Agrees, Kept, Ground, writer, Says}
+use Rattle.planned.specs.declared.HeldOperand.{HeldOperand}
+use Rattle.planned.specs.Held.{hold_at, HeldAt, HeldFrom}
+use Rattle.plan.specs.Planned.{Whole, Ahead, Agrees, Kept, HoldsAgree, HoldsKept, Ground, writer, Says}
 use Rattle.plan.specs.Closed.{arrow_word, pre_word, call_word, Beside}
 use Rattle.plan.proofs.Growth.{ahead-trans, ahead-settled, arrow-holds, call-holds}
 
@@ -82,7 +82,7 @@ abbrev pub pre_holds : Clock → Bool → Hold → List Hold → List Hold
 pre_holds c bare h hs = choose (is_base c) hs (choose bare hs (hs ++ (h ∷ [])))
 
 -- ---- holds one after another
-module _ (M : ℕ) (gs vs : List ℕ) (W : Writer) (plan holds : List ℕ) where
+module _ (M : ℕ) (gs vs : List ℕ) (W : Writer) (plan : List ℕ) (holds : List HeldOperand) where
   pub held-append : (hs ks : List Hold) (j m : ℕ) → j + length hs ≡ m → HeldFrom M gs vs W plan holds j hs → HeldFrom M gs vs W plan holds m ks → HeldFrom M gs vs W plan holds j (hs ++ ks)
   unfolding HeldFrom
   held-append [] ks j m i a b = subst (λ (n : ℕ). HeldFrom M gs vs W plan holds n ks) (omega arith) b
@@ -100,12 +100,12 @@ module _ (G : Ground) where
   retold {W} {plan} {p} {k} {q} {l} {m} e h = subst (λ (n : List TagValue). Writes G.tags G.values W plan p k q n) e h
 
   -- nothing
-  pub says_none : (plan holds : List ℕ) (y : Needs) (p j : ℕ) → Says G plan holds y p 0 p (λ ids. []) j (λ ids. [])
+  pub says_none : (plan : List ℕ) (holds : List HeldOperand) (y : Needs) (p j : ℕ) → Says G plan holds y p 0 p (λ ids. []) j (λ ids. [])
   unfolding HeldFrom
   says_none plan holds y p j = record { say = λ w x F f H W A plan' agree k s m h. change (omega arith) h; hold = λ w x F f H W A plan' holds' agree kept. tt }
 
   -- the same tokens and holds
-  pub says-as : (plan holds : List ℕ) (y : Needs) (p n q : ℕ) (t u : Ids → List TagValue) (j : ℕ) (hs ks : Ids → List Hold) → ((ids : Ids) → t ids ≡ u ids) → ((ids : Ids) → hs ids ≡ ks ids) → Says G plan holds y p n q t j hs → Says G plan holds y p n q u j ks
+  pub says-as : (plan : List ℕ) (holds : List HeldOperand) (y : Needs) (p n q : ℕ) (t u : Ids → List TagValue) (j : ℕ) (hs ks : Ids → List Hold) → ((ids : Ids) → t ids ≡ u ids) → ((ids : Ids) → hs ids ≡ ks ids) → Says G plan holds y p n q t j hs → Says G plan holds y p n q u j ks
   says-as plan holds y p n q t u j hs ks e i S =
       record {
         say = λ w x F f H W A plan' agree k s m h. retold (ap (λ (l : List TagValue). l ++ m) (e (ids_in w.flags w.firsts F f H x))) (S.say w x F f H W A plan' agree k s m h);
@@ -113,8 +113,8 @@ module _ (G : Ground) where
       }
 
   -- some parts, then others
-  pub says_then : (plan plan' holds holds' : List ℕ) (y z : Needs) (p a r b q : ℕ) (t u : Ids → List TagValue) (j : ℕ) (hs ks : Ids → List Hold) → ((ids : Ids) → j + length (hs ids) ≡ y.holds) → Says G plan holds y p a r t j hs → Says G plan' holds' z r b q u y.holds ks →
-      Kept plan plan' r q → Kept holds holds' (2 * y.holds) (2 * z.holds) → Ahead y z → p ≤ r → r ≤ q → Says G plan' holds' z p (a + b) q (λ ids. t ids ++ u ids) j (λ ids. hs ids ++ ks ids)
+  pub says_then : (plan plan' : List ℕ) (holds holds' : List HeldOperand) (y z : Needs) (p a r b q : ℕ) (t u : Ids → List TagValue) (j : ℕ) (hs ks : Ids → List Hold) → ((ids : Ids) → j + length (hs ids) ≡ y.holds) → Says G plan holds y p a r t j hs → Says G plan' holds' z r b q u y.holds ks →
+      Kept plan plan' r q → HoldsKept holds holds' y.holds z.holds → Ahead y z → p ≤ r → r ≤ q → Says G plan' holds' z p (a + b) q (λ ids. t ids ++ u ids) j (λ ids. hs ids ++ ks ids)
   says_then plan plan' holds holds' y z p a r b q t u j hs ks count S T kept kept_h A i o = record {
     say = λ w x F f H W B plan'' agree k s m h.
         let ids = ids_in w.flags w.firsts F f H x in
@@ -131,7 +131,7 @@ module _ (G : Ground) where
   }
 
   -- a token that stays before its parts and others
-  pub says-stay : (plan holds : List ℕ) (y : Needs) (p n q : ℕ) (t : Ids → List TagValue) (j : ℕ) (hs : Ids → List Hold) → p < length G.tags → Stays (get_or G.tags p 0) → Says G plan holds y (p + 1) (n + parts_at G.tags G.values p) q t j hs → Says G plan holds y p (suc n) q (λ ids. code_at G.tags G.values p ∷ t ids) j hs
+  pub says-stay : (plan : List ℕ) (holds : List HeldOperand) (y : Needs) (p n q : ℕ) (t : Ids → List TagValue) (j : ℕ) (hs : Ids → List Hold) → p < length G.tags → Stays (get_or G.tags p 0) → Says G plan holds y (p + 1) (n + parts_at G.tags G.values p) q t j hs → Says G plan holds y p (suc n) q (λ ids. code_at G.tags G.values p ∷ t ids) j hs
   unfolding Stays
   says-stay plan holds y p n q t j hs b stays S = record {
     say = λ w x F f H W A plan' agree k s m h. change (omega arith) (Writes.stay {k = n + k} b (stays F f H _ _) (change (omega arith) (S.say w x F f H W A plan' (λ i u v. agree i (omega arith) v) k s m h)));
@@ -139,7 +139,7 @@ module _ (G : Ground) where
   }
 
   -- a when, and a merge
-  pub says-drop : (plan holds : List ℕ) (y : Needs) (p q : ℕ) (t : Ids → List TagValue) (j : ℕ) (hs : Ids → List Hold) → p < length G.tags → 67 ≤ get_or G.tags p 0 → get_or G.tags p 0 < 69 → Says G plan holds y (p + 1) 1 q t j hs → Says G plan holds y p 1 q t j hs
+  pub says-drop : (plan : List ℕ) (holds : List HeldOperand) (y : Needs) (p q : ℕ) (t : Ids → List TagValue) (j : ℕ) (hs : Ids → List Hold) → p < length G.tags → 67 ≤ get_or G.tags p 0 → get_or G.tags p 0 < 69 → Says G plan holds y (p + 1) 1 q t j hs → Says G plan holds y p 1 q t j hs
   unfolding plan_of
   says-drop plan holds y p q t j hs b lo hi S = record {
     say = λ w x F f H W A plan' agree k s m h. change (omega arith) (Writes.drop {k = k} b (drops F f H (get_or G.tags p 0) (get_or G.values p 0) (get_or plan' p 0) lo hi) (change (omega arith) (S.say w x F f H W A plan' (λ i u v. agree i (omega arith) v) k s m h)));
@@ -154,7 +154,7 @@ module _ (G : Ground) where
           go (suc zero) e = let i : t ≡ 68 = omega arith in rw i
           go (suc (suc d)) e = absurd (omega arith)
 
-  pub says-join : (plan holds : List ℕ) (y : Needs) (p q x : ℕ) (t : Ids → List TagValue) (j : ℕ) (hs : Ids → List Hold) → p < length G.tags → get_or G.tags p 0 ≡ 69 → get_or G.values p 0 ≡ x → Says G plan holds y (p + 1) 2 q t j hs → Says G plan holds y p 1 q (λ ids. named 57 x (t ids)) j hs
+  pub says-join : (plan : List ℕ) (holds : List HeldOperand) (y : Needs) (p q x : ℕ) (t : Ids → List TagValue) (j : ℕ) (hs : Ids → List Hold) → p < length G.tags → get_or G.tags p 0 ≡ 69 → get_or G.values p 0 ≡ x → Says G plan holds y (p + 1) 2 q t j hs → Says G plan holds y p 1 q (λ ids. named 57 x (t ids)) j hs
   unfolding plan_of
   says-join plan holds y p q x t j hs b i o S = record {
     say = λ w z F f H W A plan' agree k s m h. change (omega arith) (Writes.choice {k = k} b (joins F f H (get_or G.tags p 0) (get_or G.values p 0) (get_or plan' p 0) i o) (change (omega arith) (S.say w z F f H W A plan' (λ i u v. agree i (omega arith) v) k s m h)));
@@ -235,7 +235,7 @@ module _ (G : Ground) where
     inside : (plan'' : List ℕ) → Agrees plan' plan'' p q → Agrees plan plan'' (p + 1) q
     inside plan'' agree i f g = agree i (omega arith) g ∙ beside i (λ z. omega arith)
 
-    pub says-follow : (holds : List ℕ) → code_at G.tags G.values p ≡ tag_value 59 0 → (17 * length (settled (arrow_turn c) c y).firsts ≤ G.first_room → length (settled (arrow_turn c) c y).firsts < 4294967295 → get_or plan' p 0 ≡ arrow_word c (settled (arrow_turn c) c y).firsts) →
+    pub says-follow : (holds : List HeldOperand) → code_at G.tags G.values p ≡ tag_value 59 0 → (17 * length (settled (arrow_turn c) c y).firsts ≤ G.first_room → length (settled (arrow_turn c) c y).firsts < 4294967295 → get_or plan' p 0 ≡ arrow_word c (settled (arrow_turn c) c y).firsts) →
         Says G plan holds y (p + 1) 2 q t j hs → Says G plan' holds (settled (arrow_turn c) c y) p 1 q (λ ids. arrow_codes c ids (t ids)) j hs
     says-follow holds i word S = record {
       say = λ w x F f H W A plan'' agree k s m h.
@@ -269,7 +269,7 @@ module _ (G : Ground) where
     gate-outputs W f true o i z os e = let n : ◌≡◌ {A = Bool} false true = ap is_there e in absurd (false≢true n)
     gate-outputs W f false o i z os e = (i ∙ e, sym (ap (gate_fault W.types W.nodes W.node f) e) ∙ z)
 
-    pub says-call : (holds : List ℕ) (f : ℕ) → code_at G.tags G.values p ≡ tag_value 60 f → gate_fault G.types G.nodes G.node f (gate_of G.types G.nodes G.node c f) ≡ none →
+    pub says-call : (holds : List HeldOperand) (f : ℕ) → code_at G.tags G.values p ≡ tag_value 60 f → gate_fault G.types G.nodes G.node f (gate_of G.types G.nodes G.node c f) ≡ none →
         (17 * length (settled (call_turn c (is_there (operator_outputs G.nodes f))) c y).flags ≤ G.flag_room → length (settled (call_turn c (is_there (operator_outputs G.nodes f))) c y).flags < 4294967295 → get_or plan' p 0 ≡ call_word c (is_there (operator_outputs G.nodes f)) (settled (call_turn c (is_there (operator_outputs G.nodes f))) c y).flags) →
         Says G plan holds y (p + 1) 1 q t j hs → Says G plan' holds (settled (call_turn c (is_there (operator_outputs G.nodes f))) c y) p 1 q (λ ids. call_codes (defaults_in G) (gate_of G.types G.nodes G.node c f) c f ids (t ids)) j hs
     says-call holds f i z word S =
@@ -294,7 +294,7 @@ module _ (G : Ground) where
         }
 
   -- a `pre`, whose hold is the last
-  module _ (plan plan' holds holds' : List ℕ) (y : Needs) (c : Clock) (bare : Bool) (p q : ℕ) (a : Expr) (type : Ty) (value : Ids → Expr) (j : ℕ) (hs : Ids → List Hold) (b : p < length G.tags) (o : p < q) (beside : Beside plan plan' p) where
+  module _ (plan plan' : List ℕ) (holds holds' : List HeldOperand) (y : Needs) (c : Clock) (bare : Bool) (p q : ℕ) (a : Expr) (type : Ty) (value : Ids → Expr) (j : ℕ) (hs : Ids → List Hold) (b : p < length G.tags) (o : p < q) (beside : Beside plan plan' p) where
     -- the hold that it makes
     abbrev pub hold_of : Ids → Hold
     hold_of ids = record { type = type; right = if_of (Expr.var (ids.flag c)) (value ids) (Expr.pre (Expr.var (ids.hold y.holds))) }
@@ -303,10 +303,9 @@ module _ (G : Ground) where
     within-pre plan'' agree i f g = agree i (omega arith) g ∙ beside i (λ z. omega arith)
 
     module _ (count : (ids : Ids) → j + length (hs ids) ≡ y.holds) (S : Says G plan holds y (p + 1) 1 q (λ ids. map code_of (expr_tokens (value ids))) j hs) (stands : tree G.names (tokens G.tags G.values) (p + 1) ≡ got a q)
-        (typed : is_base c ≡ false → bare ≡ false → operand_type (declared G.node) a ≡ some type) (kept : Kept holds holds' (2 * y.holds) (2 * (settled (pre_turn c bare) c y).holds))
-        (row : is_base c ≡ false → bare ≡ false → y.holds < 4294967295 → 2 * y.holds + 2 ≤ G.hold_room → 17 * length (add_with_parents c y.flags) ≤ G.flag_room → length (add_with_parents c y.flags) < 4294967295 →
-        (get_or holds' (2 * y.holds) 0 ≡ p + 1) × (get_or holds' (2 * y.holds + 1) 0 ≡ clock_place c (add_with_parents c y.flags))) where
-      held-last : is_base c ≡ false → bare ≡ false → (w : Needs) (x : ℕ) (F f H : List ℕ) → Whole G.flag_room G.first_room G.hold_room w → Ahead (settled Turn.Hold c y) w → (plan'' holds'' : List ℕ) → Agrees plan plan'' (p + 1) q → Agrees holds' holds'' (2 * j) (2 * (settled Turn.Hold c y).holds) →
+        (typed : is_base c ≡ false → bare ≡ false → operand_type (declared G.node) a ≡ some type) (kept : HoldsKept holds holds' y.holds (settled (pre_turn c bare) c y).holds)
+        (row : is_base c ≡ false → bare ≡ false → y.holds < 4294967295 → y.holds < G.hold_room → 17 * length (add_with_parents c y.flags) ≤ G.flag_room → hold_at holds' y.holds ≡ record { at = p + 1; row = clock_place c (add_with_parents c y.flags) }) where
+      held-last : is_base c ≡ false → bare ≡ false → (w : Needs) (x : ℕ) (F f H : List ℕ) → Whole G.flag_room G.first_room G.hold_room w → Ahead (settled Turn.Hold c y) w → (plan'' : List ℕ) (holds'' : List HeldOperand) → Agrees plan plan'' (p + 1) q → HoldsAgree holds' holds'' j (settled Turn.Hold c y).holds →
           HeldAt G.names G.tags G.values (writer G x F f H) plan'' holds'' y.holds (hold_of (ids_in w.flags w.firsts F f H x))
       held-last e v w x F f H W A plan'' holds'' agree same =
           let ids = ids_in w.flags w.firsts F f H x in
@@ -317,9 +316,9 @@ module _ (G : Ground) where
           let u = W.holds-fit in
           let z = W.flags-fit in
           let d = W.few-flags in
-          let r = row e v (omega arith) (omega arith) (omega arith) (omega arith) in
-          let place : get_or holds'' (2 * y.holds) 0 ≡ p + 1 = same (2 * y.holds) (omega arith) (omega arith) ∙ r.0 in
-          let flag : get_or holds'' (2 * y.holds + 1) 0 ≡ clock_place c w.flags = same (2 * y.holds + 1) (omega arith) (omega arith) ∙ (r.1 ∙ held-there c y w A e) in
+          let r = same y.holds (omega arith) (omega arith) ∙ row e v (omega arith) (omega arith) (omega arith) in
+          let place : (hold_at holds'' y.holds).at ≡ p + 1 = ap (λ (h : HeldOperand). h.at) r in
+          let flag : (hold_at holds'' y.holds).row ≡ clock_place c w.flags = ap (λ (h : HeldOperand). h.row) r ∙ held-there c y w A e in
           let alone = S.say w x F f H W (ahead-trans y (settled Turn.Hold c y) w (ahead-settled Turn.Hold c y) A) plan'' agree 0 q [] Writes.done in
           let written : Writes G.tags G.values (writer G x F f H) plan'' (p + 1) 1 q (map code_of (expr_tokens (value ids))) = retold (append-nil (map code_of (expr_tokens (value ids)))) (change (omega arith) alone) in
           record {
@@ -349,8 +348,8 @@ module _ (G : Ground) where
             all_held w x F f H W plan'' holds'' (within-pre plan'' agree) front (is_base c) bare refl refl A same;
       }
         where
-          all_held : (w : Needs) (x : ℕ) (F f H : List ℕ) → Whole G.flag_room G.first_room G.hold_room w → (plan'' holds'' : List ℕ) → Agrees plan plan'' (p + 1) q → HeldFrom G.names G.tags G.values (writer G x F f H) plan'' holds'' j (hs (ids_in w.flags w.firsts F f H x)) →
-              (u v : Bool) → is_base c ≡ u → bare ≡ v → Ahead (settled (choose u Turn.Keep (choose v Turn.Keep Turn.Hold)) c y) w → Agrees holds' holds'' (2 * j) (2 * (settled (choose u Turn.Keep (choose v Turn.Keep Turn.Hold)) c y).holds) →
+          all_held : (w : Needs) (x : ℕ) (F f H : List ℕ) → Whole G.flag_room G.first_room G.hold_room w → (plan'' : List ℕ) (holds'' : List HeldOperand) → Agrees plan plan'' (p + 1) q → HeldFrom G.names G.tags G.values (writer G x F f H) plan'' holds'' j (hs (ids_in w.flags w.firsts F f H x)) →
+              (u v : Bool) → is_base c ≡ u → bare ≡ v → Ahead (settled (choose u Turn.Keep (choose v Turn.Keep Turn.Hold)) c y) w → HoldsAgree holds' holds'' j (settled (choose u Turn.Keep (choose v Turn.Keep Turn.Hold)) c y).holds →
               HeldFrom G.names G.tags G.values (writer G x F f H) plan'' holds'' j (choose u (hs (ids_in w.flags w.firsts F f H x)) (choose v (hs (ids_in w.flags w.firsts F f H x)) (hs (ids_in w.flags w.firsts F f H x) ++ (hold_of (ids_in w.flags w.firsts F f H x) ∷ []))))
           all_held w x F f H W plan'' holds'' agree front true v e g A same = front
           all_held w x F f H W plan'' holds'' agree front false true e g A same = front

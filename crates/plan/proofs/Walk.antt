@@ -28,13 +28,12 @@ use Rattle.operands.specs.Spread.{tree}
 use Rattle.index.specs.Callees.{NodesStand, is_there}
 use Rattle.defaults.specs.Has.{DefaultsKnown}
 use Rattle.typing.specs.Found.{Declares}
-use Rattle.stateless.specs.declared.Turn.{Turn}
-use Rattle.stateless.specs.Need.{Needs, is_bare, pre_turn, arrow_turn, call_turn, settled, needed, needed_all}
+use Rattle.stateless.specs.Need.{Turn, Needs, is_bare, pre_turn, arrow_turn, call_turn, settled, needed, needed_all}
 use Rattle.stateless.specs.Yield.{Ids, Yield, type_or, gate_of, output_trees, pre_yield, call_tree, yield, yields}
 use Rattle.stateless.specs.Faults.{pre_fault, gate_fault, fault_in, fault_among}
 use Rattle.skeleton.specs.Around.{around}
 use Rattle.skeleton.specs.Lies.{Frame, weave, code_at, Computes, Framed, Lies, LiesAt}
-use Rattle.skeleton.proofs.Codes.{codes-append}
+use Rattle.std.proofs.lemmas.List.{map-append}
 use Rattle.skeleton.proofs.Laws.{lies-owed, lies-none, sign-first, expr-first, seen_at, bare-is, previous-in, follow-in, calls-in, sample_in, join-in, plain_in}
 use Rattle.planned.specs.Writes.{named, gate_codes}
 use Rattle.findings.specs.declared.Fault as value
@@ -43,7 +42,9 @@ use Rattle.std.specs.Result.{IsErr, IsErrAnd}
 use Rattle.std.proofs.lemmas.Result.{err_from_is_err_and}
 use Rattle.plan.specs.declared.Notes.{Notes}
 use Rattle.plan.specs.Tables.{Arrays, Tables, tables_of, StillLent, Begun}
-use Rattle.plan.specs.Planned.{Ahead, Kept, Ground, Says, Planned, Ended, tree_codes, tree_holds, both_codes, both_holds, frame_codes, frame_holds}
+use Rattle.planned.specs.declared.HeldOperand.{HeldOperand}
+use Rattle.planned.specs.Held.{hold_at}
+use Rattle.plan.specs.Planned.{Ahead, HoldsKept, Ground, Says, Planned, Ended, tree_codes, tree_holds, both_codes, both_holds, frame_codes, frame_holds}
 use Rattle.plan.specs.Closed.{Beside, Followed, Gated, Preceded}
 use Rattle.plan.specs.Walks.{Setting, ground_of, Known, Roomy, Site, Leaves, Walks, WalksBoth, WalksAll}
 use Rattle.plan.proofs.Growth.{ahead-needed, ahead-all, ahead-settled, arrow-holds, call-holds, yield-holds, yield-count}
@@ -96,7 +97,7 @@ module _ (G : Ground) where
       let n : length os + 2 ≡ suc (suc (length (operand_tokens (output_trees G.types G.nodes G.node os)))) = omega (arith, outputs-many os) in
       ap (λ (k : ℕ). gate_codes ids.condact k (ids.flag c) ((tag_value 60 f ∷ l) ++ map code_of ds)) n ∙
       (ap (λ (k : List TagValue). gate_codes ids.condact (suc (suc (length (operand_tokens (output_trees G.types G.nodes G.node os))))) (ids.flag c) (k ++ map code_of ds)) i ∙
-      ap (gate_codes ids.condact (suc (suc (length (operand_tokens (output_trees G.types G.nodes G.node os))))) (ids.flag c)) (sym (codes-append (expr_tokens (Expr.call f es)) ds)))
+      ap (gate_codes ids.condact (suc (suc (length (operand_tokens (output_trees G.types G.nodes G.node os))))) (ids.flag c)) (sym (map-append code_of (expr_tokens (Expr.call f es)) ds)))
 
   call-codes : (f : ℕ) (us : Exprs) (p : ℕ) (ds : Frame) → code_at G.tags G.values p ≡ tag_value 60 f → Framed G.tags G.values (Expr.call f us) us p ds → (c : Clock) (n : ℕ) (ids : Ids) →
       call_codes (defaults_in G) (gate_of G.types G.nodes G.node c f) c f ids (frame_codes G c n us ds ids) ≡ tree_codes G c n (Expr.call f us) ids
@@ -117,13 +118,13 @@ module _ (G : Ground) where
   join-codes c x a b n ids =
       let u = expr_tokens (yield G.types G.nodes G.node ids (c ↓ is_on x) n a).value in
       let v = expr_tokens (yield G.types G.nodes G.node ids (c ↓ is_not x) (yield G.types G.nodes G.node ids (c ↓ is_on x) n a).after b).value in
-      ap (named 57 x) (sym (codes-append u (v ++ []) ∙ ap (λ (z : List Token). map code_of u ++ map code_of z) (append-nil v)))
+      ap (named 57 x) (sym (map-append code_of u (v ++ []) ∙ ap (λ (z : List Token). map code_of u ++ map code_of z) (append-nil v)))
 
   -- a `->`
   arrow-law : (c : Clock) (ids : Ids) (k : Bool) (a b : Expr) → choose k (tag_value 59 0 ∷ (map code_of (expr_tokens a) ++ map code_of (expr_tokens b))) (named 57 (ids.first c) (map code_of (expr_tokens a) ++ map code_of (expr_tokens b))) ≡ map code_of (expr_tokens (choose k (Expr.arrow a b) (if_of (Expr.var (ids.first c)) a b)))
   unfolding expr_tokens code_of
-  arrow-law c ids true a b = ap {B = List TagValue} (λ z. tag_value 59 0 ∷ z) (sym (codes-append (expr_tokens a) (expr_tokens b)))
-  arrow-law c ids false a b = ap (named 57 (ids.first c)) (sym (codes-append (expr_tokens a) (expr_tokens b ++ []) ∙ ap (λ (z : List Token). map code_of (expr_tokens a) ++ map code_of z) (append-nil (expr_tokens b))))
+  arrow-law c ids true a b = ap {B = List TagValue} (λ z. tag_value 59 0 ∷ z) (sym (map-append code_of (expr_tokens a) (expr_tokens b)))
+  arrow-law c ids false a b = ap (named 57 (ids.first c)) (sym (map-append code_of (expr_tokens a) (expr_tokens b ++ []) ∙ ap (λ (z : List Token). map code_of (expr_tokens a) ++ map code_of z) (append-nil (expr_tokens b))))
 
   arrow-codes : (c : Clock) (a b : Expr) (n : ℕ) (ids : Ids) → arrow_codes c ids (both_codes G c c n a b ids) ≡ tree_codes G c n (Expr.arrow a b) ids
   unfolding yield
@@ -168,7 +169,7 @@ module _ (G : Ground) where
       record {
         begun = Q.begun;
         kept = λ n h. Q.kept n (later p r q n i h) ∙ P.kept n (sooner p r q n o h);
-        held = λ n h. Q.held n (later (2 * j) (2 * y.holds) (2 * z.holds) n (omega arith) h) ∙ P.held n (sooner (2 * j) (2 * y.holds) (2 * z.holds) n (omega arith) h);
+        held = λ n h. Q.held n (later j y.holds z.holds n f h) ∙ P.held n (sooner j y.holds z.holds n g h);
         says = says_then G s'.plan s''.plan s'.holds s''.holds y z p a r b q t u j hs ks count P.says Q.says Q.kept Q.held A i o;
       }
     where
@@ -187,14 +188,14 @@ module _ (G : Ground) where
 
   -- a token whose own word is written behind its parts'
   closed : (s s' s'' : Tables) (y z : Needs) (p n q : ℕ) (t u : Ids → List TagValue) (j : ℕ) (hs ks : Ids → List Hold) → p < q → j ≤ y.holds → y.holds ≤ z.holds → Planned G s s' y (p + 1) n q t j hs →
-      Beside s'.plan s''.plan p → Kept s'.holds s''.holds (2 * y.holds) (2 * z.holds) → Begun s'' z → Says G s''.plan s''.holds z p 1 q u j ks → Planned G s s'' z p 1 q u j ks
+      Beside s'.plan s''.plan p → HoldsKept s'.holds s''.holds y.holds z.holds → Begun s'' z → Says G s''.plan s''.holds z p 1 q u j ks → Planned G s s'' z p 1 q u j ks
   closed s s' s'' y z p n q t u j hs ks o f g P beside kept B S = record { begun = B; kept = other; held = row; says = S }
     where
       other : (i : ℕ) → (i < p) ⊎ (q ≤ i) → get_or s''.plan i 0 ≡ get_or s.plan i 0
       other i (inl h) = beside i (λ e. omega arith) ∙ P.kept i (inl (omega arith))
       other i (inr h) = beside i (λ e. omega arith) ∙ P.kept i (inr h)
 
-      row : (i : ℕ) → (i < 2 * j) ⊎ (2 * z.holds ≤ i) → get_or s''.holds i 0 ≡ get_or s.holds i 0
+      row : (i : ℕ) → (i < j) ⊎ (z.holds ≤ i) → hold_at s''.holds i ≡ hold_at s.holds i
       row i (inl h) = kept i (inl (omega arith)) ∙ P.held i (inl h)
       row i (inr h) = kept i (inr h) ∙ P.held i (inr (omega arith))
 
@@ -382,8 +383,8 @@ module _ (A : Arrays) where
             rw o.3 (ended-on went (λ P.
             let D : Followed s' s'' c z p = subst (λ (w : Clock). Followed s' s'' w z p) on (F z P.begun) in
             retold G s s'' (settled (arrow_turn c) c z) (settled (arrow_turn c) c z) p 1 q _ _ y.holds _ _ refl (arrow-codes G c a b y.holds) (λ ids. refl)
-            (closed G s s' s'' z (settled (arrow_turn c) c z) p 2 q _ _ y.holds _ _ u (omega arith) (omega arith) P D.beside (λ j w. ap (λ (l : List ℕ). get_or l j 0) D.held) D.begun
-            (subst (λ (l : List ℕ). Says G s''.plan l (settled (arrow_turn c) c z) p 1 q (λ ids. arrow_codes c ids (both_codes G c c y.holds a b ids)) y.holds (both_holds G c c y.holds a b)) (sym D.held)
+            (closed G s s' s'' z (settled (arrow_turn c) c z) p 2 q _ _ y.holds _ _ u (omega arith) (omega arith) P D.beside (λ j w. ap (λ (l : List HeldOperand). hold_at l j) D.held) D.begun
+            (subst (λ (l : List HeldOperand). Says G s''.plan l (settled (arrow_turn c) c z) p 1 q (λ ids. arrow_codes c ids (both_codes G c c y.holds a b ids)) y.holds (both_holds G c c y.holds a b)) (sym D.held)
             (says-follow G s'.plan s''.plan z c p q (both_codes G c c y.holds a b) y.holds (both_holds G c c y.holds a b) there u D.beside s'.holds o.4 (λ j w. D.word (omega arith) (omega (arith, room.firsts)) w) P.says)))) W);
       }
 
@@ -424,8 +425,8 @@ module _ (A : Arrays) where
             let D = Q.1 in
             let w = settled (call_turn c (is_there out)) c z in
             retold G s s'' w w p 1 q _ _ y.holds _ _ refl (call-codes G f us p ds o.4 (subst (λ (w : Expr). Framed A.tags A.values w us p ds) o.3 o.5) c y.holds) (λ ids. refl)
-            (closed G s s' s'' z w p 1 q _ _ y.holds _ _ u k (omega arith) P D.beside (λ i a. ap (λ (l : List ℕ). get_or l i 0) D.held) D.begun
-            (subst (λ (l : List ℕ). Says G s''.plan l w p 1 q (λ ids. call_codes (defaults_in G) (gate_of T.types T.nodes T.node c f) c f ids (frame_codes G c y.holds us ds ids)) y.holds (frame_holds G c y.holds us)) (sym D.held)
+            (closed G s s' s'' z w p 1 q _ _ y.holds _ _ u k (omega arith) P D.beside (λ i a. ap (λ (l : List HeldOperand). hold_at l i) D.held) D.begun
+            (subst (λ (l : List HeldOperand). Says G s''.plan l w p 1 q (λ ids. call_codes (defaults_in G) (gate_of T.types T.nodes T.node c f) c f ids (frame_codes G c y.holds us ds ids)) y.holds (frame_holds G c y.holds us)) (sym D.held)
             (says-call G s'.plan s''.plan z c p q (frame_codes G c y.holds us ds) y.holds (frame_holds G c y.holds us) there u D.beside s'.holds f o.4 Q.0 (λ a b. D.word (omega arith) (omega (arith, room.flags)) b) P.says)))));
       }
         where
@@ -473,7 +474,7 @@ module _ (A : Arrays) where
             retold G s s'' w w p 1 q _ _ y.holds _ _ refl (pre-codes G c a y) (pre_held G c a y)
             (closed G s s' s'' z w p 1 q _ _ y.holds _ _ u k n P D.beside D.kept D.begun
             (says-previous G s'.plan s''.plan s'.holds s''.holds z c bare p q a type value y.holds (tree_holds G c y.holds a) there u D.beside (counted T a c y) P.says inner.1.stands (typed-when c bare (operand_type (declared T.node) a) Q.0) D.kept
-            (λ b f h l m i. D.row b f (omega arith) h (omega (arith, near.holds)) (omega (arith, room.flags)) i) o.2 (lies-owed o.3) (λ h. D.word (omega arith) h)))));
+            (λ b f h l m. D.row b f h (omega (arith, near.holds)) (omega (arith, room.flags))) o.2 (lies-owed o.3) (λ h. D.word (omega arith) h)))));
       }
         where
           with_none : (o : Option Fault) → {q : ℕ} {r : Result ℕ value.Fault} {P : Type 0} → Ended q r P o → Ended q r ((o ≡ none) × P) o

@@ -21,7 +21,8 @@ use Rattle.stateless.specs.Need.{Needs, is_bare, pre_turn, arrow_turn, call_turn
 use Rattle.std.specs.declared.option.Option as code
 use Rattle.std.specs.declared.option.Option.TheVariants.{None, Some}
 use Rattle.plan.specs.Tables.{Arrays, Tables, Begun}
-use Rattle.plan.specs.Planned.{Kept, Ended}
+use Rattle.planned.specs.Held.{hold_at}
+use Rattle.plan.specs.Planned.{HoldsKept, Ended}
 
 -- the words: of a `->`, of a `pre` before which there are n holds, of a call of an operator or of anything else
 abbrev pub arrow_word : Clock → List Clock → ℕ
@@ -60,10 +61,9 @@ pub record Gated (s s' : Tables) (c : Clock) (operator : Bool) (y : Needs) (p : 
 pub record Preceded (s s' : Tables) (c : Clock) (bare : Bool) (y : Needs) (p : ℕ) : Type 0 where
   pub begun : Begun s' (settled (pre_turn c bare) c y)
   pub beside : Beside s.plan s'.plan p
-  pub kept : Kept s.holds s'.holds (2 * y.holds) (2 * (settled (pre_turn c bare) c y).holds)
+  pub kept : HoldsKept s.holds s'.holds y.holds (settled (pre_turn c bare) c y).holds
   pub word : p < length s.plan → y.holds < 4294967295 → get_or s'.plan p 0 ≡ pre_word c bare y.holds
-  pub row : is_base c ≡ false → bare ≡ false → p < 4294967295 → y.holds < 4294967295 → 2 * y.holds + 2 ≤ length s.holds → 17 * length (add_with_parents c y.flags) ≤ length s'.flags → length (add_with_parents c y.flags) < 4294967295 →
-      (get_or s'.holds (2 * y.holds) 0 ≡ p + 1) × (get_or s'.holds (2 * y.holds + 1) 0 ≡ clock_place c (add_with_parents c y.flags))
+  pub row : is_base c ≡ false → bare ≡ false → y.holds < 4294967295 → y.holds < length s.holds → 17 * length (add_with_parents c y.flags) ≤ length s'.flags → hold_at s'.holds y.holds ≡ record { at = p + 1; row = clock_place c (add_with_parents c y.flags) }
 
 -- closing a call at p whose arguments end there; r is the answer
 pub record ClosesCall (A : Arrays) (s s' : Tables) (end p : ℕ) (r : Result ℕ value.Fault) : Type 0 where

@@ -1,4 +1,5 @@
--- A plan by place that is right: what it says is what rewriting yields, whatever else is needed in the end and whatever ids the new names get.
+-- A plan by place that is right: what it says is what rewriting yields, whatever else is needed in the end and whatever ids the new names
+-- get.
 use Rattle.std.specs.Prelude.{ℕ, ◌+◌, ◌*◌, ◌≤◌, ◌<◌, ◌≡◌, true, List, ◌++◌, map, ◌⊎◌, length, get_or, Result, Ok, Err}
 use Rattle.std.proofs.Math.Option.{Option, none, some}
 use Rattle.definitions.specs.Lists.{any}
@@ -15,14 +16,15 @@ use Rattle.stateless.specs.Yield.{Ids, yield, yields}
 use Rattle.stateless.specs.Locals.{ids_in}
 use Rattle.skeleton.specs.Lies.{Frame, weave}
 use Rattle.planned.specs.Writes.{Writer, Writes}
-use Rattle.planned.specs.Held.{HeldFrom}
+use Rattle.planned.specs.declared.HeldOperand.{HeldOperand}
+use Rattle.planned.specs.Held.{hold_at, HeldFrom}
 use Rattle.plan.specs.Tables.{Tables, Begun}
 
 -- what is needed in the end: no more rows than there is room for, and no more than words can number
 pub record Whole (flag_room first_room hold_room : ℕ) (w : Needs) : Type 0 where
   pub flags-fit : 17 * length w.flags ≤ flag_room
   pub firsts-fit : 17 * length w.firsts ≤ first_room
-  pub holds-fit : 2 * w.holds ≤ hold_room
+  pub holds-fit : w.holds ≤ hold_room
   pub few-flags : length w.flags < 4294967295
   pub few-firsts : length w.firsts < 4294967295
   pub few-holds : w.holds < 4294967295
@@ -44,7 +46,15 @@ Agrees t t' p q = (i : ℕ) → p ≤ i → i < q → get_or t' i 0 ≡ get_or t
 abbrev pub Kept : List ℕ → List ℕ → ℕ → ℕ → Type 0
 Kept t t' p q = (i : ℕ) → (i < p) ⊎ (q ≤ i) → get_or t' i 0 ≡ get_or t i 0
 
--- what a sheet and its arrays are: the number of names, tags and values, types, nodes, the node that is planned; how much room its tables have
+-- two tables of holds, likewise
+abbrev pub HoldsAgree : List HeldOperand → List HeldOperand → ℕ → ℕ → Type 0
+HoldsAgree t t' p q = (i : ℕ) → p ≤ i → i < q → hold_at t' i ≡ hold_at t i
+
+abbrev pub HoldsKept : List HeldOperand → List HeldOperand → ℕ → ℕ → Type 0
+HoldsKept t t' p q = (i : ℕ) → (i < p) ⊎ (q ≤ i) → hold_at t' i ≡ hold_at t i
+
+-- what a sheet and its arrays are: the number of names, tags and values, types, nodes, the node that is planned; how much room its tables
+-- have
 pub record Ground : Type 0 where
   pub names : ℕ
   pub tags : List ℕ
@@ -63,18 +73,18 @@ writer G condact flag_ids first_ids hold_ids =
 
 -- n parts from p up to q are planned, y being needed then: every plan with these words writes them as t says, before whatever follows; and
 -- the holds hs that they make, numbered from j on, are written as every plan and table of holds with these words say
-pub record Says (G : Ground) (plan holds : List ℕ) (y : Needs) (p n q : ℕ) (t : Ids → List TagValue) (j : ℕ) (hs : Ids → List Hold) : Type 0 where
+pub record Says (G : Ground) (plan : List ℕ) (holds : List HeldOperand) (y : Needs) (p n q : ℕ) (t : Ids → List TagValue) (j : ℕ) (hs : Ids → List Hold) : Type 0 where
   pub say : (w : Needs) (condact : ℕ) (flag_ids first_ids hold_ids : List ℕ) → Whole G.flag_room G.first_room G.hold_room w → Ahead y w → (plan' : List ℕ) → Agrees plan plan' p q →
       (k s : ℕ) (m : List TagValue) → Writes G.tags G.values (writer G condact flag_ids first_ids hold_ids) plan' q k s m →
       Writes G.tags G.values (writer G condact flag_ids first_ids hold_ids) plan' p (n + k) s (t (ids_in w.flags w.firsts flag_ids first_ids hold_ids condact) ++ m)
-  pub hold : (w : Needs) (condact : ℕ) (flag_ids first_ids hold_ids : List ℕ) → Whole G.flag_room G.first_room G.hold_room w → Ahead y w → (plan' holds' : List ℕ) → Agrees plan plan' p q → Agrees holds holds' (2 * j) (2 * y.holds) →
+  pub hold : (w : Needs) (condact : ℕ) (flag_ids first_ids hold_ids : List ℕ) → Whole G.flag_room G.first_room G.hold_room w → Ahead y w → (plan' : List ℕ) (holds' : List HeldOperand) → Agrees plan plan' p q → HoldsAgree holds holds' j y.holds →
       HeldFrom G.names G.tags G.values (writer G condact flag_ids first_ids hold_ids) plan' holds' j (hs (ids_in w.flags w.firsts flag_ids first_ids hold_ids condact))
 
 -- what a walk over n parts from p up to q leaves where no fault is met: y is needed then, j holds were there before
 pub record Planned (G : Ground) (s s' : Tables) (y : Needs) (p n q : ℕ) (t : Ids → List TagValue) (j : ℕ) (hs : Ids → List Hold) : Type 0 where
   pub begun : Begun s' y
   pub kept : Kept s.plan s'.plan p q
-  pub held : Kept s.holds s'.holds (2 * j) (2 * y.holds)
+  pub held : HoldsKept s.holds s'.holds j y.holds
   pub says : Says G s'.plan s'.holds y p n q t j hs
 
 -- by the first fault that is met: there is none, and the answer is the end; or the answer is the fault

@@ -2,6 +2,7 @@
 use Rattle.std.specs.Prelude.{ℕ, ◌≡◌, List, Bool, length}
 use Rattle.stateless.specs.declared.Counts.{Counts}
 use Rattle.stateless.specs.Need.{Needs, Counted}
+use Rattle.planned.specs.declared.HeldOperand.{HeldOperand}
 use Rattle.plan.specs.declared.Planning.{Planning}
 use Rattle.plan.specs.declared.Notes.{Notes}
 
@@ -24,7 +25,7 @@ pub record Tables : Type 0 where
   pub plan : List ℕ
   pub flags : List ℕ
   pub firsts : List ℕ
-  pub holds : List ℕ
+  pub holds : List HeldOperand
   pub counts : Counts
 
 -- in the code
@@ -49,7 +50,7 @@ tables_of n =
       plan = n.plan.now;
       flags = n.flags.now.words.now;
       firsts = n.firsts.now.words.now;
-      holds = n.holds.now.words.now;
+      holds = n.holds.now.holds.now;
       counts = record { flags = n.flags.now.count; firsts = n.firsts.now.count; holds = n.holds.now.count; condact = n.condact };
     }
 
@@ -61,11 +62,11 @@ pub record StillLent (n n' : Notes) : Type 0 where
   pub same_holds : n'.holds.ghost_name ≡ n.holds.ghost_name
   pub flags : n'.flags.now.words.ghost_name ≡ n.flags.now.words.ghost_name
   pub firsts : n'.firsts.now.words.ghost_name ≡ n.firsts.now.words.ghost_name
-  pub holds : n'.holds.now.words.ghost_name ≡ n.holds.now.words.ghost_name
+  pub holds : n'.holds.now.holds.ghost_name ≡ n.holds.now.holds.ghost_name
   pub plan-long : length n'.plan.now ≡ length n.plan.now
   pub flags-long : length n'.flags.now.words.now ≡ length n.flags.now.words.now
   pub firsts-long : length n'.firsts.now.words.now ≡ length n.firsts.now.words.now
-  pub holds-long : length n'.holds.now.words.now ≡ length n.holds.now.words.now
+  pub holds-long : length n'.holds.now.holds.now ≡ length n.holds.now.holds.now
 
 -- y is needed so far
 abbrev pub Begun : Tables → Needs → Type 0

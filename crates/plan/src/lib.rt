@@ -5,7 +5,7 @@
 ghost use Rattle.std.specs.Prelude.{◌≡◌, List, true, false, ℕ, suc, ◌+◌, ◌*◌, ◌^◌, ◌≤◌, ◌<◌, eqb, length, get_or, set};
 ghost use Rattle.grammar.specs.Read.{tokens_of};
 ghost use Rattle.definitions.specs.Tree.{Declared, TypeDef, Expr, Node};
-ghost use Rattle.definitions.specs.Reading.{got, times};
+ghost use Rattle.definitions.specs.Reading.{got};
 ghost use Rattle.definitions.specs.Grammar.{declaration};
 ghost use Rattle.definitions.specs.Clock as clocks;
 ghost use Rattle.definitions.specs.Clock.{is_base};
@@ -14,6 +14,7 @@ ghost use Rattle.clock_tables.specs.Value.{value_of};
 ghost use Rattle.clock_tables.specs.Flat.{clock_in};
 ghost use Rattle.clock_tables.specs.Rows.{RowsHold};
 ghost use Rattle.clock_tables.specs.Grown.{Grown};
+ghost use Rattle.layout.specs.Spans.{Spans};
 ghost use Rattle.layout.specs.Table.{Table};
 ghost use Rattle.operands.specs.Spread.{tree};
 ghost use Rattle.index.specs.Callees.{NodesStand, is_there};
@@ -27,11 +28,12 @@ ghost use Rattle.plan.specs.Planned.{Ended};
 ghost use Rattle.plan.specs.Closed.{lack_fault, Followed, Gated, Preceded, ClosesCall, ClosesPrevious};
 ghost use Rattle.plan.specs.Walks.{Walks, WalksBoth, WalksAll};
 
-use clock_tables::{Clock, ClockTable, WORDS, put_word, word_past};
+use clock_tables::{ClockTable, WORDS, put_word, word_past};
 use findings::Fault;
-use grammar::Source;
+use grammar::{Source, tags};
 use index::Index;
-use layout::PartsTable;
+use layout::{PartsTable, Span};
+use planned::HeldOperand;
 
 // What planning a node reads: the sheet's index, the table of parts, the clock of each `pre`, `->` and call in the row of its token, and
 // the types of the node's names.
@@ -43,25 +45,26 @@ pub struct Planning<'a> {
     pub types: &'a [u32],
 }
 
-// Holds by number, two words each: where its operand stands, and the row of its flag.
+// Holds by number.
 #[derive(Drop)]
 pub struct HoldTable<'a> {
-    pub words: &'a mut [u32],
+    pub holds: &'a mut [HeldOperand],
     pub count: u32,
 }
 
 impl HoldTable<'_> {
-    // A hold behind the others, in two words, as far as there is room.
-    fn push(&mut self, place: u32, row: u32)
+    // A hold behind the others, as far as there is room.
+    fn push(&mut self, held: HeldOperand)
         requires { self.old.count < 4294967295 }
-        ensures same_reference { self.new.words.ghost_name ≡ self.old.words.ghost_name }
-        ensures words_len_unchanged { length self.new.words.now ≡ length self.old.words.now }
-        ensures words_after { self.new.words.now ≡ set (set self.old.words.now (2 * self.old.count) place) (2 * self.old.count + 1) row }
+        ensures same_reference { self.new.holds.ghost_name ≡ self.old.holds.ghost_name }
+        ensures holds_len_unchanged { length self.new.holds.now ≡ length self.old.holds.now }
+        ensures holds_after { self.new.holds.now ≡ set self.old.holds.now self.old.count held }
         ensures counted { self.new.count ≡ self.old.count + 1 }
     {
-        let first = 2 * (self.count as usize);
-        put_word(self.words, first, place);
-        put_word(self.words, first + 1, row);
+        let j = self.count as usize;
+        if j < self.holds.len() {
+            self.holds[j] = held;
+        }
         self.count += 1;
     }
 }
@@ -77,22 +80,6 @@ pub struct Notes<'a, 'b> {
     pub condact: bool,
 }
 
-// A row as a word.
-fn row_word(i: usize) -> u32
-    ensures { i < 4294967296 → result ≡ i }
-{
-    u32::try_from(i).unwrap_or(0)
-}
-
-// A clock added to those with a flag, its parents before it: its row.
-pub fn add_flag(table: &mut ClockTable<'_>, c: Clock) -> usize
-    ensures grown { Grown (add_with_parents (value_of c)) table.old table.new }
-    ensures row { (cs : List clocks.Clock) → 17 * table.new.count ≤ length table.new.words.now → RowsHold table.new.words.now table.new.count cs → result ≡ clock_place (value_of c) cs }
-{
-    table.add_with_parents(c);
-    table.list().find(c)
-}
-
 // Is the clock of this row base?
 pub fn on_base(sites: &[u32], at: usize) -> bool
     ensures { result ≡ is_base (clock_in sites.now (17 * at)) }
@@ -101,10 +88,11 @@ pub fn on_base(sites: &[u32], at: usize) -> bool
 }
 
 // Is the token there a name?
+// Stays (speed): looks at the tag, here and below; by whole tokens 32 counters take 6 instructions in 100 more.
 fn is_name(source: &Source<'_>, at: usize) -> bool
     ensures { at < length source.now.tags.now → result ≡ eqb (get_or source.now.tags.now at 0) 54 }
 {
-    at < source.tags.len() && source.tags[at] == 54
+    at < source.tags.len() && source.tags[at] == tags::VAR
 }
 
 // Does the expression that stands there have a type?
@@ -114,21 +102,18 @@ fn is_typed(source: &Source<'_>, types: &[u32], at: usize) -> bool
     typing::type_of(source, types, at).is_some()
 }
 
-// The first of so many outputs that lacks a default.
-fn output_lack(index: &Index<'_>, count: u32, at: usize) -> Option<u32>
-    ensures { (ds : List Declared) (q : ℕ) (f : ℕ) (types : List TypeDef) (l : List Node) (node : Node) → times count (declaration index.now.source.names) (tokens_of index.now.source) at ≡ got ds q → Table index.now.source.names (tokens_of index.now.source) index.now.types.at index.now.types.count types → DefaultsKnown types index.now.types.count index.now.types.count index.now.has → lack_fault f result ≡ outputs_fault types l node f ds }
+// The first of these outputs that lacks a default.
+fn output_lack(index: &Index<'_>, outputs: Span) -> Option<u32>
+    ensures { (ds : List Declared) (f : ℕ) (types : List TypeDef) (l : List Node) (node : Node) → Spans (declaration index.now.source.names) (tokens_of index.now.source) ds outputs → Table index.now.source.names (tokens_of index.now.source) index.now.types.at index.now.types.count types → DefaultsKnown types index.now.types.count index.now.types.count index.now.has → lack_fault f result ≡ outputs_fault types l node f ds }
 {
-    let source = &index.source;
-    let mut place = at;
-    for _ in 0..count {
-        let Ok(next) = grammar::read_declaration(source, place) else {
-            return None;
-        };
-        let first = layout::behind(source.tags, place);
-        if !defaults::type_has_default(source, &index.types, &index.has, first) {
-            return Some(layout::value_at(source.values, place));
+    let table = index.type_table();
+    let mut place = outputs.at;
+    for _ in 0..outputs.count {
+        let declared = layout::declaration_at(&index.source, place)?;
+        if !defaults::type_has_default(&table, &index.has, declared.type_at) {
+            return Some(declared.name);
         }
-        place = next;
+        place = declared.end;
     }
     None
 }
@@ -143,9 +128,8 @@ fn close_follow(sites: &[u32], notes: &mut Notes<'_, '_>, at: usize)
         return;
     }
     let c = clock_tables::get(sites, at);
-    add_flag(notes.flags, c);
-    notes.firsts.add(c);
-    let row = notes.firsts.list().find(c);
+    notes.flags.add_with_parents(c);
+    let row = notes.firsts.add(c);
     put_word(notes.plan, at, word_past(row));
 }
 
@@ -156,7 +140,7 @@ fn gate(sites: &[u32], notes: &mut Notes<'_, '_>, at: usize)
 {
     let c = clock_tables::get(sites, at);
     notes.condact = true;
-    let gated = add_flag(notes.flags, c);
+    let gated = notes.flags.add_with_parents(c);
     put_word(notes.plan, at, word_past(gated));
 }
 
@@ -176,11 +160,11 @@ fn close_call(
     }
     let index = planning.index;
     let node = layout::value_at(index.source.values, at);
-    let Some((first, count)) = index.operator_of(node) else {
+    let Some(outputs) = index.operator_of(node) else {
         put_word(notes.plan, at, 0);
         return Ok(end);
     };
-    match output_lack(index, count, first) {
+    match output_lack(index, outputs) {
         Some(output) => Err(Fault::NoOutputDefault { output, node }),
         None => {
             gate(planning.sites, notes, at);
@@ -191,16 +175,17 @@ fn close_call(
 
 // A `pre` on a clock that is held.
 fn hold(sites: &[u32], notes: &mut Notes<'_, '_>, at: usize)
+    requires { at + 1 < 2 ^ 64 }
     ensures still_lent { StillLent notes.old notes.new }
     ensures preceded { (y : Needs) → is_base (clock_in sites.now (17 * at)) ≡ false → Begun (tables_of notes.old) y → Preceded (tables_of notes.old) (tables_of notes.new) (clock_in sites.now (17 * at)) false y at }
 {
     let c = clock_tables::get(sites, at);
-    let row = add_flag(notes.flags, c);
+    let row = notes.flags.add_with_parents(c);
     let j = notes.holds.count;
     if 4294967295 <= j {
         return;
     }
-    notes.holds.push(word_past(at), row_word(row));
+    notes.holds.push(HeldOperand { at: at + 1, row });
     put_word(notes.plan, at, j + 1);
 }
 
@@ -238,24 +223,24 @@ pub fn expr(planning: &Planning<'_>, notes: &mut Notes<'_, '_>, at: usize) -> Re
         return Ok(at);
     }
     let tag = source.tags[at];
-    if tag == 67 || tag == 68 {
+    if tag == tags::WHEN || tag == tags::WHEN_NOT {
         return expr(planning, notes, at + 1);
     }
     match tag {
-        58 => {
+        tags::PRE => {
             let end = expr(planning, notes, at + 1)?;
             close_previous(planning, notes, end, at)
         }
-        59 => {
+        tags::ARROW => {
             let end = both(planning, notes, at + 1)?;
             close_follow(planning.sites, notes, at);
             Ok(end)
         }
-        60 => {
+        tags::CALL => {
             let end = exprs(planning, notes, 1, at + 1)?;
             close_call(planning, notes, end, at)
         }
-        69 => both(planning, notes, at + 1),
+        tags::MERGE => both(planning, notes, at + 1),
         _ => {
             let value = layout::value_at(source.values, at);
             let many = planning.parts.follow(tag, value);
@@ -297,7 +282,7 @@ fn exprs(
             return Ok(from);
         }
         let tag = source.tags[from];
-        if tag < 50 {
+        if tag < tags::BOOL {
             let more = planning.parts.follow(tag, source.values[from]);
             left = left - 1 + (more as usize);
             from += 1;

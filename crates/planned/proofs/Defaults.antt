@@ -13,18 +13,19 @@ use Rattle.definitions.specs.Tokens.{TagValue}
 use Rattle.definitions.specs.Bytes.{tokens}
 use Rattle.definitions.specs.Tree.{Ty, Declared, TypeDef, Expr, Node}
 use Rattle.definitions.specs.Reading.{got, times}
-use Rattle.definitions.specs.declared.Refusal.{Refusal}
 use Rattle.definitions.specs.Grammar.{declaration, ty}
 use Rattle.definitions.specs.Types.{default}
 use Rattle.definitions.specs.Declock.{is_operator_kind, operator_outputs}
 use Rattle.definitions.specs.InferClocks.{Fault, no_output_default}
 use Rattle.definitions.specs.Output.{expr_tokens, operand_tokens}
-use Rattle.std.specs.Prelude.{Result, Ok, Err}
 use Rattle.std.specs.declared.option.Option as code
 use Rattle.std.specs.declared.option.Option.TheVariants.{None, Some}
-use Rattle.grammar.specs.Outcome.{outcome}
-use Rattle.layout.specs.Spans.{past_in}
-use Rattle.layout.proofs.TypedefsLaws.{declared-read, declared-not-refused}
+use Rattle.std.specs.Option.{IsSomeAnd}
+use Rattle.layout.specs.declared.Span.{Span}
+use Rattle.layout.specs.declared.DeclarationLayout.{DeclarationLayout}
+use Rattle.layout.specs.Spans.{Spans}
+use Rattle.layout.specs.Laid.{LaidDeclaration}
+use Rattle.layout.proofs.TypedefsLaws.{declared-there, declared-first}
 use Rattle.planned.specs.Opening.{Behind}
 use Rattle.grammar.proofs.Laws.{times-length}
 use Rattle.grammar.proofs.Got.{times-nil, declarations-got, node-got}
@@ -64,26 +65,27 @@ module _ (types : List TypeDef) (nodes : List Node) (node : Node) (M : ℕ) (ts 
   defaulting-none k p o z = record { all = λ f ds q g h. no-defaults types nodes node f M ts k p ds q o z g }
 
   -- where there are such outputs, and where there are none
-  pub defaulted : (at k : ℕ) (u : code.Option (ℕ × ℕ)) → u ≡ Some (at, k) → (o o₁ : Output) → Defaulting k at o o₁ → (f : ℕ) (ds : List Declared) → Behind M ts u ds → outputs_fault types nodes node f ds ≡ none → o₁ ≡ emits o (join (operand_tokens (output_trees types nodes node ds)))
+  pub defaulted : (s : Span) (u : code.Option Span) → u ≡ Some s → (o o₁ : Output) → Defaulting s.count s.at o o₁ → (f : ℕ) (ds : List Declared) → Behind M ts u ds → outputs_fault types nodes node f ds ≡ none → o₁ ≡ emits o (join (operand_tokens (output_trees types nodes node ds)))
   unfolding Behind
-  defaulted at k u i o o₁ x f ds d h = let g : (q : ℕ) × (times k (declaration M) ts at ≡ got ds q) = rw i at d in x.all f ds g.0 g.1 h
+  defaulted s u i o o₁ x f ds d h = let g : Spans (declaration M) ts ds s = rw i at d in x.all f ds s.end g.items h
 
-  pub none-behind : (u : code.Option (ℕ × ℕ)) → u ≡ None → (o : Output) (ds : List Declared) → Behind M ts u ds → o ≡ emits o (join (operand_tokens (output_trees types nodes node ds)))
+  pub none-behind : (u : code.Option Span) → u ≡ None → (o : Output) (ds : List Declared) → Behind M ts u ds → o ≡ emits o (join (operand_tokens (output_trees types nodes node ds)))
   unfolding Behind output_trees operand_tokens
   none-behind u i o ds d = let g : ds ≡ [] = rw i at d in rw g (sym (emits_none o))
 
-module _ (types : List TypeDef) (nodes : List Node) (node : Node) (M : ℕ) (gs vs : List ℕ) (same : length vs ≡ length gs) (k p : ℕ) (o : Output) (some_left : k ≡ 0 → ⊥) (r : Result ℕ Refusal) (i : r ≡ outcome (declaration M (tokens gs vs) p)) where
-  pub defaulting-refused : (e : Refusal) → r ≡ Err e → (o₁ : Output) → Defaulting types nodes node M (tokens gs vs) k p o o₁
-  defaulting-refused e j o₁ = record { all = λ f ds q g h. absurd (declared-not-refused M gs vs same k p ds q some_left g r i e j) }
+module _ (types : List TypeDef) (nodes : List Node) (node : Node) (M : ℕ) (ts : List TagValue) (k p : ℕ) (o : Output) (some_left : k ≡ 0 → ⊥) (r : code.Option DeclarationLayout)
+    (read : (d : Declared) (q : ℕ) → declaration M ts p ≡ got d q → IsSomeAnd r (LaidDeclaration M ts p d q)) where
+  pub defaulting-refused : r ≡ None → (o₁ : Output) → Defaulting types nodes node M ts k p o o₁
+  defaulting-refused j o₁ = record { all = λ f ds q g h. absurd (declared-there M ts k p ds q some_left g (λ d s i. let z : ⊥ = rw j at read d s i in z)) }
 
-  pub defaulting-step : (next : ℕ) → r ≡ Ok next → (first : ℕ) → first ≡ past_in (length gs) p → (o₁ o₂ : Output) → ((t : Ty) (q : ℕ) (e : Expr) → ty M 8 (tokens gs vs) first ≡ got t q → default types t ≡ some e → o₁ ≡ emits o (expr_tokens e)) → (n : ℕ) → n ≡ k - 1 →
-      Defaulting types nodes node M (tokens gs vs) n next o₁ o₂ → Defaulting types nodes node M (tokens gs vs) k p o o₂
-  defaulting-step next b first j o₁ o₂ put n c x = record {
+  pub defaulting-step : (l : DeclarationLayout) → r ≡ Some l → (o₁ o₂ : Output) → ((t : Ty) (q : ℕ) (e : Expr) → ty M 8 ts l.type_at ≡ got t q → default types t ≡ some e → o₁ ≡ emits o (expr_tokens e)) → (n : ℕ) → n ≡ k - 1 →
+      Defaulting types nodes node M ts n l.end o₁ o₂ → Defaulting types nodes node M ts k p o o₂
+  defaulting-step l b o₁ o₂ put n c x = record {
     all = λ f ds q g h.
-        let u = declared-read M gs vs same k p ds q some_left g r i next b first j in
+        let u = declared-first M ts k p ds q some_left g l (λ d s i. rw b at read d s i) in
         let d = u.0 in
         let a = first-default types nodes node f ds _ d.rest d.whole h in
-        more-defaults types nodes node f ds _ d.rest a.0.0 o o₁ o₂ d.whole a.0.1 (put d.type d.next a.0.0 d.typed a.0.1) (x.all f d.rest q (ap (λ (y : ℕ). times y (declaration M) (tokens gs vs) next) c ∙ u.1) a.1);
+        more-defaults types nodes node f ds _ d.rest a.0.0 o o₁ o₂ d.whole a.0.1 (put d.type d.next a.0.0 d.typed a.0.1) (x.all f d.rest q (ap (λ (y : ℕ). times y (declaration M) ts l.end) c ∙ u.1) a.1);
   }
 
 -- the outputs of an operator are few

@@ -27,7 +27,7 @@ use Rattle.stateless.specs.Faults.{right_fault}
 use Rattle.emit.specs.declared.output.Output.{Output}
 use Rattle.emit.specs.Out.{emits}
 use Rattle.emit.proofs.Laws.{emits-codes}
-use Rattle.planned.specs.declared.Written.{Written}
+use Rattle.planned.specs.declared.WriteInput.{WriteInput}
 use Rattle.planned.specs.Writes.{Writer}
 use Rattle.planned.specs.Opening.{two_more, WritesIn, WriterStands, WrittenAs}
 use Rattle.planned.specs.declared.Frame.{Frame}
@@ -57,7 +57,7 @@ parts_at M gs vs same p e q left g l =
     record { names = subst (λ (y : List ℕ). Spans (name M) (tokens gs vs) y left) f s.0; right = omega (arith, s.1, v.2, n.1, m, h); few = omega (arith, c.1, m, h) }
 
 -- ---- an equation
-module _ (w : Written) (W : Writer) (ids : Ids) (n p : ℕ) (c : Clock) (e : Equation) (q : ℕ) (same : ids.condact ≡ W.condact) (free : right_fault W.types W.nodes W.node W.condact c e.left e.right ≡ none)
+module _ (w : WriteInput) (W : Writer) (ids : Ids) (n p : ℕ) (c : Clock) (e : Equation) (q : ℕ) (same : ids.condact ≡ W.condact) (free : right_fault W.types W.nodes W.node W.condact c e.left e.right ≡ none)
     (h : EquationPlanned w.index.now.source.names w.index.now.source.tags.now w.index.now.source.values.now W w.plan.now W.condact ids n c e p q) where
   abbrev inner : List Token
   inner = expr_tokens (yield W.types W.nodes W.node ids c n e.right).value

@@ -15,8 +15,7 @@ use Rattle.definitions.specs.Clock.{Clock, is_base, parent}
 use Rattle.definitions.specs.InferClocks.{Fault}
 use Rattle.definitions.specs.Declock.{Shape, bare, other, calls, shape_of, declared, operand_type, if_of}
 use Rattle.definitions.specs.Output.{expr_tokens, operand_tokens, form_tokens}
-use Rattle.stateless.specs.declared.Turn.{Turn}
-use Rattle.stateless.specs.Need.{is_bare, pre_turn}
+use Rattle.stateless.specs.Need.{Turn, is_bare, pre_turn}
 use Rattle.stateless.specs.Yield.{Ids, Yield, type_or, left_tree, left_trees, gate_of, shape_after, pre_yield, arrow_tree, call_tree, yield, yields, several_tree, flagged_tree, right_yield}
 use Rattle.stateless.specs.Faults.{fault_in, left_fault, lefts_fault, several_fault, flagged_fault, right_fault}
 use Rattle.planned.specs.declared.Frame.{Frame}

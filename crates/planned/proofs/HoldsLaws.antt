@@ -5,7 +5,7 @@ use Rattle.std.specs.Prelude.{Result, Ok}
 use mathlib.Core.Path.{◌≡◌, refl, sym, ◌∙◌, ap, subst}
 use mathlib.Core.List.{List, [], ◌∷◌, ◌++◌, map}
 use mathlib.Core.Option.{Option, some}
-use Prim.Native.Nat.{ℕ, suc, ◌+◌, ◌*◌, ◌≤◌, ◌<◌}
+use Prim.Native.Nat.{ℕ, suc, ◌+◌, ◌≤◌, ◌<◌}
 use native.Mathlib.Omega.{arith}
 use native.Mathlib.Numerals.{add-one}
 use lib.ListN.{length, get_or}
@@ -33,10 +33,11 @@ use Rattle.emit.specs.declared.output.Output.{Output}
 use Rattle.emit.specs.Out.{emits}
 use Rattle.emit.proofs.Laws.{emits-append, emits_none, emits-codes}
 use Rattle.emit.proofs.NodePartsLaws.{after}
-use Rattle.planned.specs.declared.Written.{Written}
+use Rattle.planned.specs.declared.HeldOperand.{HeldOperand}
+use Rattle.planned.specs.declared.WriteInput.{WriteInput}
 use Rattle.planned.specs.Writes.{Writer}
 use Rattle.planned.specs.Opening.{WritesIn, WriterStands, WrittenAs}
-use Rattle.planned.specs.Held.{HeldAt, HeldFrom}
+use Rattle.planned.specs.Held.{hold_at, HeldAt, HeldFrom}
 use Rattle.stateless.specs.Yield.{Ids}
 use Rattle.planned.specs.Shown.{hold_tokens, hold_declarations, hold_equations}
 
@@ -87,9 +88,6 @@ declaration-written x a o o₁ o₂ e f = after o o₁ o₂ (Token.Name x ∷ []
 pub found_as : (M : ℕ) (ts : List TagValue) (o : Option Ty) (a : Ty) (f : code.Option TypeFound) → o ≡ some a → IsFound M ts o f → IsFound M ts (some a) f
 found_as M ts o a f h g = rw h at g
 
-word_of : (holds : List ℕ) (j at : ℕ) → at ≡ get_or holds (2 * j + 0) 0 → at ≡ get_or holds (2 * j) 0
-word_of holds j at e = e ∙ ap (λ (i : ℕ). get_or holds i 0) (omega arith)
-
 same_word : (a b : List ℕ) (i j : ℕ) → a ≡ b → i ≡ j → get_or b i 0 ≡ get_or a j 0
 same_word a b i j e f = rw (e, f)
 
@@ -103,32 +101,32 @@ same-equation : (x y z flag f : ℕ) (r right : Expr) → x ≡ y → x ≡ z �
 same-equation x y z flag f r right i j k e = rw (e, sym i, sym j, sym k)
 
 -- ---- one hold
-module _ (M : ℕ) (gs vs : List ℕ) (W : Writer) (plan holds : List ℕ) where
+module _ (M : ℕ) (gs vs : List ℕ) (W : Writer) (plan : List ℕ) (holds : List HeldOperand) where
   -- its declaration, by the type of its operand
-  pub declared-hold : (types : List ℕ) (j x at : ℕ) (h : Hold) (o o₁ : Output) → HeldAt M gs vs W plan holds j h → Declares M (tokens gs vs) types (declared W.node) → at ≡ get_or holds (2 * j + 0) 0 →
+  pub declared-hold : (types : List ℕ) (j x at : ℕ) (h : Hold) (o o₁ : Output) → HeldAt M gs vs W plan holds j h → Declares M (tokens gs vs) types (declared W.node) → at ≡ (hold_at holds j).at →
       ((e : Expr) (q : ℕ) (ds : List Declared) (a : Ty) → tree M (tokens gs vs) at ≡ got e q → Declares M (tokens gs vs) types ds → operand_type ds e ≡ some a → o₁ ≡ emits o (declared_tokens (record { name = x; type = a }))) →
       (id : ℕ) → id ≡ x → o₁ ≡ emits o (declared_tokens (record { name = id; type = h.type }))
   declared-hold types j x at h o o₁ s d i f id e =
-      f s.operand s.end (declared W.node) h.type (ap (λ (p : ℕ). tree M (tokens gs vs) p) (word_of holds j at i) ∙ s.stands) d s.typed ∙ rw e
+      f s.operand s.end (declared W.node) h.type (ap (λ (p : ℕ). tree M (tokens gs vs) p) i ∙ s.stands) d s.typed ∙ rw e
 
 -- its equation, by its operand and its flag
-module _ (w : Written) (W : Writer) where
-  abbrev holds : List ℕ
+module _ (w : WriteInput) (W : Writer) where
+  abbrev holds : List HeldOperand
   holds = w.holds.now
 
   pub equated-hold : (j x row flag at : ℕ) (h : Hold) (o o₁ o₂ o₃ : Output) (end : ℕ) → WriterStands w W → HeldAt w.index.now.source.names w.index.now.source.tags.now w.index.now.source.values.now W w.plan.now holds j h →
-      x ≡ get_or w.hold_ids.now j 0 → row ≡ get_or holds (2 * j + 1) 0 → flag ≡ get_or w.flag_ids.now row 0 → at ≡ get_or holds (2 * j + 0) 0 →
+      x ≡ get_or w.hold_ids.now j 0 → row ≡ (hold_at holds j).row → flag ≡ get_or w.flag_ids.now row 0 → at ≡ (hold_at holds j).at →
       o₁ ≡ emits o (hold_tokens x flag) → WrittenAs w W at 1 o₁ o₂ end → o₃ ≡ emits o₂ (Token.Expression ExprToken.Pre ∷ Token.Expression (ExprToken.Var x) ∷ []) →
       o₃ ≡ emits o (equation_tokens (record { left = get_or w.hold_ids.now j 0 ∷ []; right = h.right }))
   equated-hold j x row flag at h o o₁ o₂ o₃ end g s i l m n a b c =
-      let v = subst (λ (p : ℕ). WritesIn w W p 1 s.end (map code_of (expr_tokens s.rewritten))) (sym (word_of holds j at n)) s.written in
+      let v = subst (λ (p : ℕ). WritesIn w W p 1 s.end (map code_of (expr_tokens s.rewritten))) (sym n) s.written in
       let d = (b.same s.end (map code_of (expr_tokens s.rewritten)) v).0 ∙ emits-codes o₁ (map code_of (expr_tokens s.rewritten)) (expr_tokens s.rewritten) refl in
       after o o₂ o₃ (hold_tokens x flag ++ expr_tokens s.rewritten) (Token.Expression ExprToken.Pre ∷ Token.Expression (ExprToken.Var x) ∷ []) (after o o₁ o₂ (hold_tokens x flag) (expr_tokens s.rewritten) a d) c
       ∙ ap (emits o) (equation-is x flag s.rewritten
-      ∙ same-equation x (get_or w.hold_ids.now j 0) (get_or W.hold_ids j 0) flag (get_or W.flag_ids (get_or holds (2 * j + 1) 0) 0) s.rewritten h.right i (i ∙ same_word W.hold_ids w.hold_ids.now j j g.holds refl) (m ∙ same_word W.flag_ids w.flag_ids.now row (get_or holds (2 * j + 1) 0) g.flags l) s.right)
+      ∙ same-equation x (get_or w.hold_ids.now j 0) (get_or W.hold_ids j 0) flag (get_or W.flag_ids (hold_at holds j).row 0) s.rewritten h.right i (i ∙ same_word W.hold_ids w.hold_ids.now j j g.holds refl) (m ∙ same_word W.flag_ids w.flag_ids.now row (hold_at holds j).row g.flags l) s.right)
 
 -- ---- holds one after another
-module _ (M : ℕ) (gs vs : List ℕ) (W : Writer) (plan holds : List ℕ) (told : ℕ → List Hold → List Token) where
+module _ (M : ℕ) (gs vs : List ℕ) (W : Writer) (plan : List ℕ) (holds : List HeldOperand) (told : ℕ → List Hold → List Token) where
   -- the holds from number j on are left
   pub record Left (whole o : Output) (count j : ℕ) : Type 0 where
     pub rest : List Hold
@@ -164,7 +162,7 @@ module _ (M : ℕ) (gs vs : List ℕ) (W : Writer) (plan holds : List ℕ) (told
           subst (λ (i : ℕ). Left whole o₁ count i) (sym (add-one j)) n
 
 -- one more declaration, one more equation
-module _ (M : ℕ) (gs vs : List ℕ) (W : Writer) (plan holds : List ℕ) (ids : Ids) where
+module _ (M : ℕ) (gs vs : List ℕ) (W : Writer) (plan : List ℕ) (holds : List HeldOperand) (ids : Ids) where
   pub declarations-none : (whole o : Output) (count j : ℕ) → count ≤ j → Left M gs vs W plan holds (hold_declarations ids) whole o count j → o ≡ whole
   declarations-none = left-none M gs vs W plan holds (hold_declarations ids) (λ j. refl)
 

@@ -1,15 +1,15 @@
 -- The default of a left name that meets no fault, and left names as they stand.
 -- Assumes nothing.
-use Prim.Native.Nat.{ℕ, ◌+◌, ◌-◌, ◌<◌}
+use Prim.Native.Nat.{ℕ, zero, suc, ◌+◌, ◌-◌, ◌≤◌, ◌<◌}
 use mathlib.Core.Path.{◌≡◌, refl, sym, ◌∙◌, ap, subst}
 use mathlib.Core.List.{List, [], ◌∷◌, ◌++◌}
 use mathlib.Core.Option.{Option, none, some}
 use native.Mathlib.Omega.{arith}
-use borrow.Author.Tests.{lt-ltb}
-use lib.ListN.{length, get_or}
+use native.Mathlib.Numerals.{add-one}
+use lib.ListN.{length, get_or, drop, drop_of_length-le}
+use lib.Seq.{drop-cons}
 use Rattle.definitions.specs.declared.Token.{Token}
 use Rattle.definitions.specs.Lists.{join, or_else}
-use Rattle.definitions.specs.Tokens.{TagValue}
 use Rattle.definitions.specs.Bytes.{tokens}
 use Rattle.definitions.specs.Tree.{Ty, TypeDef, Expr, Node}
 use Rattle.definitions.specs.Reading.{got, times}
@@ -21,7 +21,9 @@ use Rattle.definitions.specs.Output.{expr_tokens, operand_tokens, name_tokens}
 use Rattle.grammar.proofs.Laws.{tokens-length}
 use Rattle.grammar.proofs.Longer.{name-grows}
 use Rattle.grammar.proofs.Got.{times-nil, times-cons, tagged-value}
-use Rattle.layout.specs.Spans.{past_in}
+use Rattle.layout.specs.Table.{Table}
+use Rattle.cycles.specs.declared.TypeTable.{TypeTable}
+use Rattle.index.specs.declared.Index.{Index}
 use Rattle.typing.specs.declared.TypeFound.{TypeFound}
 use Rattle.std.specs.declared.option.Option as code
 use Rattle.std.specs.declared.option.Option.TheVariants.{None, Some}
@@ -29,7 +31,7 @@ use Rattle.std.specs.Option.{option_map}
 use Rattle.grammar.specs.Read.{tokens_of}
 use Rattle.typing.specs.Found.{IsFound, place_of}
 use Rattle.typing.proofs.Laws.{placed}
-use Rattle.planned.specs.declared.Written.{Written}
+use Rattle.planned.specs.declared.WriteInput.{WriteInput}
 use Rattle.planned.specs.Grounds.{TypesKnown}
 use Rattle.emit.specs.declared.output.Output.{Output}
 use Rattle.emit.specs.Out.{emits}
@@ -38,33 +40,29 @@ use Rattle.stateless.specs.Yield.{expr_or, default_or, left_tree, left_trees}
 use Rattle.stateless.specs.Faults.{unless, left_type_fault, left_fault, lefts_fault}
 use Rattle.typing.proofs.Typed.{declared-at}
 
--- ---- left names as they stand
--- the first of k names stands as a value, and the others from the next place on
-pub record FirstName (M : ℕ) (ts : List TagValue) (k q : ℕ) (xs : List ℕ) (x next : ℕ) : Type 0 where
-  pub rest : List ℕ
-  pub all : xs ≡ x ∷ rest
-  pub below : x < M
-  pub stand : times (k - 1) (name M) ts next ≡ got rest q
-
-module _ (M : ℕ) (gs vs : List ℕ) (same : length vs ≡ length gs) (k p : ℕ) (xs : List ℕ) (q : ℕ) where
-  pub first-name : (x next : ℕ) → (k ≡ 0 → ⊥) → x ≡ get_or vs p 0 → next ≡ past_in (length gs) p → times k (name M) (tokens gs vs) p ≡ got xs q → FirstName M (tokens gs vs) k q xs x next
+-- ---- names that stand are below M
+module _ (M : ℕ) (gs vs : List ℕ) (same : length vs ≡ length gs) where
+  name-below : (p x q : ℕ) → name M (tokens gs vs) p ≡ got x q → x < M
   unfolding name
-  first-name x next z i j g =
-      let t = times-cons (name M) (tokens gs vs) k p xs q z g in
-      let w = name-grows M (tokens gs vs) p t.0 t.1 t.3 in
+  name-below p x q g =
+      let w = name-grows M (tokens gs vs) p x q g in
       let b : p < length gs = omega (arith, w.0, w.1, tokens-length gs vs same) in
-      let v = tagged-value gs vs same p 4 M t.0 t.1 b t.3 in
-      let n : past_in (length gs) p ≡ p + 1 = rw (lt-ltb p (length gs) b) in
-      let s : t.1 ≡ next = v.3 ∙ (sym n ∙ sym j) in
-      record {
-        rest = t.2;
-        all = t.5 ∙ ap (λ (y : ℕ). y ∷ t.2) (v.0 ∙ sym i);
-        below = omega (arith, v.0, v.2, i);
-        stand = ap (λ (y : ℕ). times (k - 1) (name M) (tokens gs vs) y) (sym s) ∙ t.4;
-      }
+      let v = tagged-value gs vs same p 4 M x q b g in
+      omega (arith, v.0, v.2)
 
-  pub no_name : k ≡ 0 → times k (name M) (tokens gs vs) p ≡ got xs q → xs ≡ []
-  no_name z g = (times-nil (name M) (tokens gs vs) k p xs q z g).0
+  pub names-below : (k p : ℕ) (xs : List ℕ) (q : ℕ) → times k (name M) (tokens gs vs) p ≡ got xs q → (i : ℕ) → i < length xs → get_or xs i 0 < M
+  names-below zero p xs q g i h = let n : xs ≡ [] = (times-nil (name M) (tokens gs vs) zero p xs q refl g).0 in absurd (omega (arith, ap length n))
+  names-below (suc k) p xs q g zero h = let t = times-cons (name M) (tokens gs vs) (suc k) p xs q (λ z. omega arith) g in rw t.5 (name-below p t.0 t.1 t.3)
+  names-below (suc k) p xs q g (suc i) h =
+      let t = times-cons (name M) (tokens gs vs) (suc k) p xs q (λ z. omega arith) g in
+      let n : suc k - 1 ≡ k = omega arith in
+      rw t.5 (names-below k t.1 t.2 q (rw n at t.4) i (omega (arith, ap length t.5)))
+
+-- ---- a type's default by the table that the index lends
+pub lent-default : (t : TypeTable) (d : Index) → (t.source ≡ d.source) × (t.places.now ≡ d.types) → (at : ℕ) (o o₁ : Output) →
+    ((types : List TypeDef) (a : Ty) (q : ℕ) (e : Expr) → Table t.source.names (tokens_of t.source) t.places.now.at t.places.now.count types → ty t.source.names 8 (tokens_of t.source) at ≡ got a q → default types a ≡ some e → o₁ ≡ emits o (expr_tokens e)) →
+    (types : List TypeDef) (a : Ty) (q : ℕ) (e : Expr) → Table d.source.names (tokens_of d.source) d.types.at d.types.count types → ty d.source.names 8 (tokens_of d.source) at ≡ got a q → default types a ≡ some e → o₁ ≡ emits o (expr_tokens e)
+lent-default t d e at o o₁ f = rw (e.0, e.1) at f
 
 -- ---- the default of a left name
 module _ (types : List TypeDef) (nodes : List Node) (node : Node) where
@@ -83,7 +81,7 @@ module _ (types : List TypeDef) (nodes : List Node) (node : Node) where
       go (some t) k = let a = has t (default types t) k in (t, a.0, refl, a.1, a.2)
 
   -- by where its type was found
-  module _ (w : Written) (k : TypesKnown w types node) (x : ℕ) (b : x < w.index.now.source.names) (free : left_fault types nodes node x ≡ none) (r : code.Option ℕ) (i : r ≡ place_of (get_or w.types.now x 0)) where
+  module _ (w : WriteInput) (k : TypesKnown w types node) (x : ℕ) (b : x < w.index.now.source.names) (free : left_fault types nodes node x ≡ none) (r : code.Option ℕ) (i : r ≡ place_of (get_or w.types.now x 0)) where
     found : IsFound w.index.now.source.names (tokens_of w.index.now.source) (last_type (declared node) x) (option_map TypeFound.At r)
     found = placed _ _ (last_type (declared node) x) r _ i (k.declares.each x b)
 
@@ -116,31 +114,29 @@ module _ (types : List TypeDef) (nodes : List Node) (node : Node) where
   unfolding left_trees operand_tokens
   no-left-tokens = refl
 
--- so many names are left from p on, of which P is known and F says what is written; the others are written
-pub record NamesLeft (M : ℕ) (ts : List TagValue) (F : List ℕ → List Token) (P : List ℕ → Type 0) (q : ℕ) (whole o : Output) (p left : ℕ) : Type 0 where
-  pub rest : List ℕ
-  pub stand : times left (name M) ts p ≡ got rest q
-  pub known : P rest
-  pub same : whole ≡ emits o (F rest)
+-- of the names xs those from number i on are left, of which P is known and F says what is written; the others are written
+pub record NamesLeft (F : List ℕ → List Token) (P : List ℕ → Type 0) (xs : List ℕ) (whole o : Output) (i : ℕ) : Type 0 where
+  pub known : P (drop i xs)
+  pub same : whole ≡ emits o (F (drop i xs))
 
-module _ (M : ℕ) (gs vs : List ℕ) (same : length vs ≡ length gs) (F : List ℕ → List Token) (P : List ℕ → Type 0) (q : ℕ) (whole o : Output) (p : ℕ) where
-  pub names-left-none : (left : ℕ) → left ≡ 0 → F [] ≡ [] → NamesLeft M (tokens gs vs) F P q whole o p left → o ≡ whole
-  names-left-none left z e d = let n : d.rest ≡ [] = no_name M gs vs same left p d.rest q z d.stand in sym (d.same ∙ (ap (λ (y : List ℕ). emits o (F y)) n ∙ (ap (emits o) e ∙ emits_none o)))
+module _ (F : List ℕ → List Token) (P : List ℕ → Type 0) (xs : List ℕ) (whole o : Output) (i : ℕ) (d : NamesLeft F P xs whole o i) where
+  pub names-left-none : length xs ≤ i → F [] ≡ [] → o ≡ whole
+  names-left-none h e = sym (d.same ∙ (ap (λ (y : List ℕ). emits o (F y)) (drop_of_length-le xs h) ∙ (ap (emits o) e ∙ emits_none o)))
 
-  pub names-left-rest : (k i : ℕ) → i < k → NamesLeft M (tokens gs vs) F P q whole o p (k - i) → (T : ℕ → List Token) → ((x : ℕ) (rest : List ℕ) → F (x ∷ rest) ≡ T x ++ F rest) → (x next : ℕ) → x ≡ get_or vs p 0 → next ≡ past_in (length gs) p →
-      (o₁ : Output) → ((rest : List ℕ) → x < M → P (x ∷ rest) → (o₁ ≡ emits o (T x)) × P rest) → NamesLeft M (tokens gs vs) F P q whole o₁ next (k - (i + 1))
-  names-left-rest k i z d T cut x next a b o₁ one =
-      let n = first-name M gs vs same (k - i) p d.rest q x next (λ e. omega arith) a b d.stand in
-      let w = one n.rest n.below (subst P n.all d.known) in
-      let c : k - (i + 1) ≡ (k - i) - 1 = omega arith in
+  pub names-left-rest : i < length xs → (T : ℕ → List Token) → ((x : ℕ) (rest : List ℕ) → F (x ∷ rest) ≡ T x ++ F rest) → (o₁ : Output) →
+      (P (get_or xs i 0 ∷ drop (suc i) xs) → (o₁ ≡ emits o (T (get_or xs i 0))) × P (drop (suc i) xs)) → NamesLeft F P xs whole o₁ (i + 1)
+  names-left-rest h T cut o₁ one =
+      let x = get_or xs i 0 in
+      let n = drop-cons xs i 0 h in
+      let w = one (subst P n d.known) in
+      let r : NamesLeft F P xs whole o₁ (suc i) =
       record {
-        rest = n.rest;
-        stand = ap (λ (y : ℕ). times y (name M) (tokens gs vs) next) c ∙ n.stand;
         known = w.1;
-        same = d.same ∙ (ap (λ (y : List ℕ). emits o (F y)) n.all ∙ (ap (emits o) (cut x n.rest) ∙ sym (ap (λ (y : Output). emits y (F n.rest)) w.0 ∙ emits-append o (T x) (F n.rest))));
-      }
+        same = d.same ∙ (ap (λ (y : List ℕ). emits o (F y)) n ∙ (ap (emits o) (cut x (drop (suc i) xs)) ∙ sym (ap (λ (y : Output). emits y (F (drop (suc i) xs))) w.0 ∙ emits-append o (T x) (F (drop (suc i) xs)))));
+      } in
+      subst (λ (j : ℕ). NamesLeft F P xs whole o₁ j) (sym (add-one i)) r
 
 -- names behind their count
-pub wrote-left : (k : ℕ) (xs : List ℕ) (o o₁ o₂ : Output) → k ≡ length xs → o₁ ≡ emits o (Token.Count k ∷ []) → o₂ ≡ emits o₁ (name_tokens xs) → o₂ ≡ emits o (Token.Count (length xs) ∷ name_tokens xs)
-wrote-left k xs o o₁ o₂ i one others =
-    others ∙ (ap (λ (y : Output). emits y (name_tokens xs)) one ∙ (emits-append o (Token.Count k ∷ []) (name_tokens xs) ∙ rw i))
+pub wrote-left : (k : ℕ) (xs ys : List ℕ) (o o₁ o₂ : Output) → ys ≡ xs → k ≡ length xs → o₁ ≡ emits o (Token.Count k ∷ []) → o₂ ≡ emits o₁ (name_tokens ys) → o₂ ≡ emits o (Token.Count (length xs) ∷ name_tokens xs)
+wrote-left k xs ys o o₁ o₂ e i one others =
+    others ∙ (ap (λ (y : Output). emits y (name_tokens ys)) one ∙ (emits-append o (Token.Count k ∷ []) (name_tokens ys) ∙ rw (i, e)))

@@ -2,7 +2,7 @@
 -- Assumes nothing.
 use mathlib.Core.Path.{◌≡◌, refl, sym, ◌∙◌, ap, subst}
 use mathlib.Core.List.{List, [], ◌∷◌, ◌++◌, append-nil}
-use mathlib.Core.Option.{none, some}
+use mathlib.Core.Option.{none}
 use Prim.Native.Nat.{ℕ, ◌+◌, ◌-◌, ◌<◌}
 use native.Mathlib.Omega.{arith}
 use lib.ListN.{length, get_or}
@@ -13,7 +13,8 @@ use Rattle.definitions.specs.Tree.{Declared, TypeDef, Node}
 use Rattle.definitions.specs.Grammar.{declaration}
 use Rattle.definitions.specs.Declock.{operator_outputs}
 use Rattle.definitions.specs.Output.{operand_tokens}
-use Rattle.grammar.proofs.Laws.{times-length}
+use Rattle.layout.specs.declared.Span.{Span}
+use Rattle.layout.specs.Spans.{Spans}
 use Rattle.layout.specs.Table.{Table}
 use Rattle.std.specs.declared.option.Option as code
 use Rattle.std.specs.declared.option.Option.TheVariants.{None, Some}
@@ -28,7 +29,7 @@ use Rattle.definitions.specs.declared.ExprToken.{ExprToken}
 use Rattle.planned.specs.Framed.{gate_tokens, named_tokens}
 use Rattle.skeleton.specs.Lies.{code_at}
 use Rattle.planned.specs.declared.Plan.{Plan}
-use Rattle.planned.specs.declared.Written.{Written}
+use Rattle.planned.specs.declared.WriteInput.{WriteInput}
 use Rattle.planned.specs.declared.Opened.{Opened}
 use Rattle.planned.specs.Writes.{Writer, plan_of, named, gate_codes, default_codes, Writes}
 use Rattle.planned.specs.Opening.{two_more, Behind, plan_in, WritesIn, WriterStands, OpenedAs, WrittenAs}
@@ -38,7 +39,7 @@ use Rattle.planned.proofs.Defaults.{few-outputs}
 same-gate : (c k n m flag : ℕ) (l : List TagValue) → c ≡ k → n ≡ m → gate_codes c n flag l ≡ gate_codes k m flag l
 same-gate c k n m flag l e f = rw (e, f)
 
-module _ (w : Written) (W : Writer) where
+module _ (w : WriteInput) (W : Writer) where
   abbrev gs : List ℕ
   gs = w.index.now.source.tags.now
 
@@ -93,36 +94,35 @@ module _ (w : Written) (W : Writer) where
         ungated q 0 end l (named 58 y []) [] o o₁ (a ∙ sym (emits-codes o (named 58 y []) (named_tokens ExprToken.Pre y) refl)) (subst (λ (u : ℕ). WritesIn w W u 0 q []) (sym (h q s.0)) Writes.done) s.1 r j
 
   -- a gated call, whose outputs were found
-  module _ (s : WriterStands w W) (at q flag : ℕ) (l : List TagValue) (i : plan_in w W at ≡ Plan.Gate flag) (x : WritesIn w W at 1 q l) (c : code.Option (ℕ × ℕ)) (d : OutputsStand M (tokens_of w.index.now.source) (operator_outputs W.nodes (get_or vs at 0)) c) where
+  module _ (s : WriterStands w W) (at q flag : ℕ) (l : List TagValue) (i : plan_in w W at ≡ Plan.Gate flag) (x : WritesIn w W at 1 q l) (c : code.Option Span) (d : OutputsStand M (tokens_of w.index.now.source) (operator_outputs W.nodes (get_or vs at 0)) c) where
     pub opened-other : c ≡ None → ⊥
     unfolding OutputsStand
     opened-other e = let g = gate-in gs vs W plan x refl flag i in rw (g.found, e) at d
 
-    pub opened-gate : (first count : ℕ) → c ≡ Some (first, count) → (o o₁ o₂ : Output) → o₁ ≡ emits o (gate_tokens w.index.now.condact (two_more count) flag) → o₂ ≡ puts o₁ (code_at gs vs at ∷ []) →
-        OpenedAs w W q l (record { many = 1; from = at + 1; outputs = Some (first, count) }) o o₂
+    pub opened-gate : (u : Span) → c ≡ Some u → (o o₁ o₂ : Output) → o₁ ≡ emits o (gate_tokens w.index.now.condact (two_more u.count) flag) → o₂ ≡ puts o₁ (code_at gs vs at ∷ []) →
+        OpenedAs w W q l (record { many = 1; from = at + 1; outputs = Some u }) o o₂
     unfolding OutputsStand Behind code_of
-    opened-gate first count e o o₁ o₂ a b =
+    opened-gate u e o o₁ o₂ a b =
         let g = gate-in gs vs W plan x refl flag i in
-        let y : OutputsStand M (tokens_of w.index.now.source) (some g.outputs) (Some (first, count)) = rw (g.found, e) at d in
-        let n = times-length (declaration M) (tokens_of w.index.now.source) count first g.outputs y.0 y.1 in
-        let m : two_more count ≡ length g.outputs + 2 = omega (arith, n, few-outputs M gs vs w.index.now.nodes.at w.index.now.nodes.count W.nodes s.standing (get_or vs at 0) g.outputs g.found) in
+        let y : Spans (declaration M) (tokens_of w.index.now.source) g.outputs u = rw (g.found, e) at d in
+        let m : two_more u.count ≡ length g.outputs + 2 = omega (arith, y.many, few-outputs M gs vs w.index.now.nodes.at w.index.now.nodes.count W.nodes s.standing (get_or vs at 0) g.outputs g.found) in
         record {
-          head = gate_codes w.index.now.condact (two_more count) flag (code_at gs vs at ∷ []);
+          head = gate_codes w.index.now.condact (two_more u.count) flag (code_at gs vs at ∷ []);
           inner = g.inner;
           called = get_or vs at 0;
           outputs = g.outputs;
-          put = then o o₁ o₂ (gate_codes w.index.now.condact (two_more count) flag []) (code_at gs vs at ∷ []) (gate_codes w.index.now.condact (two_more count) flag (code_at gs vs at ∷ [])) (a ∙ sym (emits-codes o (gate_codes w.index.now.condact (two_more count) flag []) (gate_tokens w.index.now.condact (two_more count) flag) refl)) b refl;
+          put = then o o₁ o₂ (gate_codes w.index.now.condact (two_more u.count) flag []) (code_at gs vs at ∷ []) (gate_codes w.index.now.condact (two_more u.count) flag (code_at gs vs at ∷ [])) (a ∙ sym (emits-codes o (gate_codes w.index.now.condact (two_more u.count) flag []) (gate_tokens w.index.now.condact (two_more u.count) flag) refl)) b refl;
           written = g.written;
-          stand = (y.0, y.1);
+          stand = y;
           faultless = g.faultless;
-          whole = g.whole ∙ same-gate W.condact w.index.now.condact (length g.outputs + 2) (two_more count) flag (code_at gs vs at ∷ (g.inner ++ default_codes W g.outputs)) s.condact (sym m);
+          whole = g.whole ∙ same-gate W.condact w.index.now.condact (length g.outputs + 2) (two_more u.count) flag (code_at gs vs at ∷ (g.inner ++ default_codes W g.outputs)) s.condact (sym m);
         }
 
   -- without outputs nothing is behind the parts
   undefaulted : (q : ℕ) (l : List TagValue) (r : Opened) (o o₁ : Output) → r.outputs ≡ None → (d : OpenedAs w W q l r o o₁) → l ≡ d.head ++ d.inner
   unfolding output_trees operand_tokens Behind
   undefaulted q l r o o₁ z d =
-      let n : d.outputs ≡ [] = subst (λ (u : code.Option (ℕ × ℕ)). Behind M (tokens_of w.index.now.source) u d.outputs) z d.stand in
+      let n : d.outputs ≡ [] = subst (λ (u : code.Option Span). Behind M (tokens_of w.index.now.source) u d.outputs) z d.stand in
       d.whole ∙ ap (λ (z : List TagValue). d.head ++ z) (ap (λ (ds : List Declared). d.inner ++ default_codes W ds) n ∙ append-nil d.inner)
 
   -- a token without parts

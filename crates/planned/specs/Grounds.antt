@@ -7,12 +7,12 @@ use Rattle.layout.specs.Table.{Table}
 use Rattle.layout.specs.declared.NodeLayout.{NodeLayout}
 use Rattle.layout.specs.Laid.{LaidNode}
 use Rattle.typing.specs.Found.{Declares}
-use Rattle.planned.specs.declared.Written.{Written}
+use Rattle.planned.specs.declared.WriteInput.{WriteInput}
 use Rattle.planned.specs.Writes.{Writer}
 use Rattle.planned.specs.Opening.{WriterStands}
 
 -- the types of a sheet, and those of the names of a node
-pub record TypesKnown (w : Written) (types : List TypeDef) (node : Node) : Type 0 where
+pub record TypesKnown (w : WriteInput) (types : List TypeDef) (node : Node) : Type 0 where
   pub layout : NodeLayout
   pub end : ℕ
   pub laid : LaidNode w.index.now.source.names (tokens_of w.index.now.source) node end layout
@@ -20,7 +20,7 @@ pub record TypesKnown (w : Written) (types : List TypeDef) (node : Node) : Type 
   pub declares : Declares w.index.now.source.names (tokens_of w.index.now.source) w.types.now (declared node)
 
 -- the writer stands, its node too, and the table has the declared types of the node's names
-pub record Grounds (w : Written) (layout : NodeLayout) (W : Writer) : Type 0 where
+pub record Grounds (w : WriteInput) (layout : NodeLayout) (W : Writer) : Type 0 where
   pub stands : WriterStands w W
   pub end : ℕ
   pub laid : LaidNode w.index.now.source.names (tokens_of w.index.now.source) W.node end layout

@@ -7,8 +7,8 @@ ghost use Rattle.grammar.specs.Read.{tokens_of};
 ghost use Rattle.definitions.specs.Lists.{join};
 ghost use Rattle.definitions.specs.Tokens.{TagValue};
 ghost use Rattle.definitions.specs.Tree.{Declared, TypeDef, Node, Ty, Expr, Equation};
-ghost use Rattle.definitions.specs.Reading.{got, times};
-ghost use Rattle.definitions.specs.Grammar.{declaration, ty, name};
+ghost use Rattle.definitions.specs.Reading.{got};
+ghost use Rattle.definitions.specs.Grammar.{ty, name};
 ghost use Rattle.definitions.specs.Output.{operand_tokens, ty_tokens, declared_tokens, equation_tokens, expr_tokens, name_tokens};
 ghost use Rattle.layout.specs.Table.{Table};
 ghost use Rattle.layout.specs.Owed.{Owed};
@@ -20,7 +20,7 @@ ghost use Rattle.planned.specs.Opening.{two_more, Behind, plan_in, WritesIn, Wri
 ghost use Rattle.definitions.specs.Declock.{Hold, declared, operand_type};
 ghost use Rattle.operands.specs.Spread.{tree};
 ghost use Rattle.typing.specs.Found.{IsFound, Declares};
-ghost use Rattle.planned.specs.Held.{HeldAt, HeldFrom};
+ghost use Rattle.planned.specs.Held.{hold_at, HeldAt, HeldFrom};
 ghost use Rattle.planned.specs.Shown.{hold_equations, hold_declarations, hold_tokens};
 ghost use Rattle.definitions.specs.declared.Token.{Token};
 ghost use Rattle.layout.specs.Spans.{Spans};
@@ -31,28 +31,36 @@ ghost use Rattle.definitions.specs.InferClocks.{Clocked};
 ghost use Rattle.planned.specs.Planned.{EquationPlanned, EquationsPlanned};
 ghost use Rattle.planned.specs.Grounds.{TypesKnown, Grounds};
 
-use definitions::{ExprToken, MOST_TYPES, Token, TypeToken};
+use definitions::{ExprToken, Token, TypeToken};
 use emit::Output;
-use grammar::Source;
+use grammar::{Source, tags};
 use index::Index;
-use layout::{PartsTable, PlaceTable, Span};
+use layout::{PartsTable, Span};
 use typing::TypeFound;
 
 // ---- Writing an expression of an accepted sheet by its plan: an array that has a word for each token. Of a `pre` the word is 0, or the
 // number of its hold and one more; of a `->` 0, or the row of its first-tick flag and one more; of a call 0, or the row of its activation
 // flag and one more; of a when and a merge, and of all else, the tag says what becomes of it. `output` is what is written so far.
+// Stays (fixed memory): words and no options, since the plan lies in a working table of words, which has chains for other questions.
+
+// A hold: where its operand stands, and the row of its flag.
+#[derive(Clone, Copy)]
+pub struct HeldOperand {
+    pub at: usize,
+    pub row: usize,
+}
 
 // What writing a node's equations reads: the sheet's index, the plan, the table of parts, the ids of new names by row and by number, the
-// holds, two words each (where its operand stands, and the row of its flag), and the declared types of the node's names.
+// holds, and the declared types of the node's names.
 #[derive(Clone, Copy)]
-pub struct Written<'a> {
+pub struct WriteInput<'a> {
     pub index: &'a Index<'a>,
     pub plan: &'a [u32],
     pub parts: &'a PartsTable,
     pub flag_ids: &'a [u32],
     pub first_ids: &'a [u32],
     pub hold_ids: &'a [u32],
-    pub holds: &'a [u32],
+    pub holds: &'a [HeldOperand],
     pub types: &'a [u32],
 }
 
@@ -67,12 +75,12 @@ pub enum Plan {
     Gate(u32),
 }
 
-// How many parts are to be written and from where on, and where the outputs are declared whose defaults stand behind them, and how many.
+// How many parts are to be written and from where on, and the outputs whose defaults stand behind them.
 #[derive(Clone, Copy)]
 pub struct Opened {
     pub many: u32,
     pub from: usize,
-    pub outputs: Option<(usize, u32)>,
+    pub outputs: Option<Span>,
 }
 
 // So many parts from a place on, without defaults behind them.
@@ -93,18 +101,19 @@ fn id_of(ids: &[u32], word: u32) -> u32
     clock_tables::word_at(ids, word.saturating_sub(1) as usize)
 }
 
-// What becomes of a token with this tag, value and word.
-fn plan_of(written: &Written<'_>, tag: u8, value: u32, word: u32) -> Plan
+// What becomes of a token with this tag, value and word. The two `when` are apart, since of `a | b` over numbers the goals are by bounds.
+// Stays (speed): a look at the tag; by whole tokens 32 counters take 5 instructions in 100 more.
+fn plan_of(written: &WriteInput<'_>, tag: u8, value: u32, word: u32) -> Plan
     ensures { result ≡ plan_of written.now.flag_ids.now written.now.first_ids.now written.now.hold_ids.now tag value word }
 {
     match tag {
-        67 => Plan::Drop,
-        68 => Plan::Drop,
-        69 => Plan::Choose(value),
+        tags::WHEN => Plan::Drop,
+        tags::WHEN_NOT => Plan::Drop,
+        tags::MERGE => Plan::Choose(value),
         _ if word == 0 => Plan::Stay,
-        58 => Plan::Hold(id_of(written.hold_ids, word)),
-        59 => Plan::Choose(id_of(written.first_ids, word)),
-        60 => Plan::Gate(id_of(written.flag_ids, word)),
+        tags::PRE => Plan::Hold(id_of(written.hold_ids, word)),
+        tags::ARROW => Plan::Choose(id_of(written.first_ids, word)),
+        tags::CALL => Plan::Gate(id_of(written.flag_ids, word)),
         _ => Plan::Stay,
     }
 }
@@ -131,25 +140,20 @@ fn put_gate(output: &mut Output, condact: u32, n: u32, flag: u32)
 }
 
 // The defaults of a gated call's outputs, one after another.
-fn put_defaults(
-    source: &Source<'_>,
-    types: &PlaceTable<MOST_TYPES>,
-    outputs: Option<(usize, u32)>,
-    output: &mut Output,
-)
-    ensures { (ts : List TypeDef) (l : List Node) (n : Node) (f : ℕ) (ds : List Declared) → Table source.now.names (tokens_of source.now) types.now.at types.now.count ts → Behind source.now.names (tokens_of source.now) outputs ds → outputs_fault ts l n f ds ≡ none → output.new ≡ emits output.old (join (operand_tokens (output_trees ts l n ds))) }
+fn put_defaults(index: &Index<'_>, outputs: Option<Span>, output: &mut Output)
+    ensures { let s = index.now.source in (ts : List TypeDef) (l : List Node) (n : Node) (f : ℕ) (ds : List Declared) → Table s.names (tokens_of s) index.now.types.at index.now.types.count ts → Behind s.names (tokens_of s) outputs ds → outputs_fault ts l n f ds ≡ none → output.new ≡ emits output.old (join (operand_tokens (output_trees ts l n ds))) }
 {
-    let Some((at, count)) = outputs else {
+    let Some(outputs) = outputs else {
         return;
     };
-    let mut place = at;
-    for _ in 0..count {
-        let Ok(next) = grammar::read_declaration(source, place) else {
+    let table = index.type_table();
+    let mut place = outputs.at;
+    for _ in 0..outputs.count {
+        let Some(declared) = layout::declaration_at(&index.source, place) else {
             return;
         };
-        let first = layout::behind(source.tags, place);
-        defaults::emit_default(source, types, first, output);
-        place = next;
+        defaults::emit_default(&table, declared.type_at, output);
+        place = declared.end;
     }
 }
 
@@ -164,7 +168,7 @@ fn part_end(source: &Source<'_>, at: usize) -> usize
 }
 
 // What is written before the parts of a call that is gated under this flag.
-fn open_gate(written: &Written<'_>, at: usize, flag: u32, output: &mut Output) -> Opened
+fn open_gate(written: &WriteInput<'_>, at: usize, flag: u32, output: &mut Output) -> Opened
     requires at_in_bounds { at < length written.now.index.now.source.tags.now }
     ensures from_value { (result.from ≡ at + 1) × (result.many ≡ 0 → result.outputs ≡ None) }
     ensures opened_as { (W : Writer) (q : ℕ) (l : List TagValue) → WriterStands written.now W → plan_in written.now W at ≡ Plan.Gate flag → WritesIn written.now W at 1 q l → OpenedAs written.now W q l result output.old output.new }
@@ -173,20 +177,20 @@ fn open_gate(written: &Written<'_>, at: usize, flag: u32, output: &mut Output) -
     let tags = index.source.tags;
     let values = index.source.values;
     let value = values[at];
-    let Some((first, count)) = index.operator_of(value) else {
+    let Some(outputs) = index.operator_of(value) else {
         return bare(0, at + 1);
     };
-    put_gate(output, index.condact, count, flag);
+    put_gate(output, index.condact, outputs.count, flag);
     output.put(tags[at], value);
     Opened {
         many: 1,
         from: at + 1,
-        outputs: Some((first, count)),
+        outputs: Some(outputs),
     }
 }
 
 // What is written before the parts of a token, by what becomes of it.
-fn opening(written: &Written<'_>, at: usize, p: Plan, output: &mut Output) -> Opened
+fn opening(written: &WriteInput<'_>, at: usize, p: Plan, output: &mut Output) -> Opened
     requires at_in_bounds { at < length written.now.index.now.source.tags.now }
     ensures at_lt_from { (at < result.from) × (result.many ≡ 0 → result.outputs ≡ None) }
     ensures opened_as { (W : Writer) (q : ℕ) (l : List TagValue) → WriterStands written.now W → plan_in written.now W at ≡ p → WritesIn written.now W at 1 q l → OpenedAs written.now W q l result output.old output.new }
@@ -218,7 +222,7 @@ fn opening(written: &Written<'_>, at: usize, p: Plan, output: &mut Output) -> Op
 
 // The part that stands there, and where it ends.
 #[cycle(walk)]
-fn expr(written: &Written<'_>, at: usize, output: &mut Output) -> usize
+fn expr(written: &WriteInput<'_>, at: usize, output: &mut Output) -> usize
     ensures { (W : Writer) → WriterStands written.now W → WrittenAs written.now W at 1 output.old output.new result }
 {
     let source = &written.index.source;
@@ -234,13 +238,13 @@ fn expr(written: &Written<'_>, at: usize, output: &mut Output) -> usize
         return o.from;
     }
     let end = exprs(written, o.many, o.from, output);
-    put_defaults(source, &written.index.types, o.outputs, output);
+    put_defaults(written.index, o.outputs, output);
     end
 }
 
 // So many parts that stand from a place on, and where they end.
 #[cycle(walk)]
-fn exprs(written: &Written<'_>, many: u32, at: usize, output: &mut Output) -> usize
+fn exprs(written: &WriteInput<'_>, many: u32, at: usize, output: &mut Output) -> usize
     ensures { (W : Writer) → WriterStands written.now W → WrittenAs written.now W at many output.old output.new result }
 {
     let mut from = at;
@@ -265,8 +269,7 @@ fn put_type_at(source: &Source<'_>, at: usize, output: &mut Output)
     };
     output.emit(Token::Type(t));
     match t {
-        TypeToken::Basic(_) => {}
-        TypeToken::Named(_) => {}
+        TypeToken::Basic(_) | TypeToken::Named(_) => {}
         TypeToken::Array(_) => {
             if next <= at {
                 return;
@@ -277,6 +280,7 @@ fn put_type_at(source: &Source<'_>, at: usize, output: &mut Output)
 }
 
 // The tokens of a type that was found.
+// Stays (proof): one pattern after another; tried in one `match`, whose equation of the inner variant no lemma of `IsFound` takes.
 fn put_type(source: &Source<'_>, found: Option<TypeFound>, output: &mut Output)
     ensures { (a : Ty) → IsFound source.now.names (tokens_of source.now) (some a) found → output.new ≡ emits output.old (ty_tokens a) }
 {
@@ -298,22 +302,24 @@ fn put_declaration(source: &Source<'_>, types: &[u32], at: usize, x: u32, output
     put_type(source, found, output);
 }
 
-// A word of hold j: its place, or behind it the row of its flag.
-fn hold_word(holds: &[u32], j: usize, more: u8) -> usize
-    ensures { result ≡ get_or holds.now (2 * j + more) 0 }
+// Hold j.
+fn hold_at(holds: &[HeldOperand], j: usize) -> HeldOperand
+    ensures { result ≡ hold_at holds.now j }
 {
-    let at = j.saturating_mul(2).saturating_add(more as usize);
-    clock_tables::word_at(holds, at) as usize
+    holds
+        .get(j)
+        .copied()
+        .unwrap_or(HeldOperand { at: 0, row: 0 })
 }
 
 // The declarations of so many holds.
-pub fn put_hold_declarations(written: &Written<'_>, count: usize, output: &mut Output)
+pub fn put_hold_declarations(written: &WriteInput<'_>, count: usize, output: &mut Output)
     ensures { let s = written.now.index.now.source in (W : Writer) (plan : List ℕ) (hs : List Hold) (ids : Ids) → length hs ≡ count → HeldFrom s.names s.tags.now s.values.now W plan written.now.holds.now 0 hs → Declares s.names (tokens_of s) written.now.types.now (declared W.node) → ((j : ℕ) → ids.hold j ≡ get_or written.now.hold_ids.now j 0) → output.new ≡ emits output.old (hold_declarations ids 0 hs) }
 {
     for j in 0..count {
         let x = clock_tables::word_at(written.hold_ids, j);
-        let at = hold_word(written.holds, j, 0);
-        put_declaration(&written.index.source, written.types, at, x, output);
+        let held = hold_at(written.holds, j);
+        put_declaration(&written.index.source, written.types, held.at, x, output);
     }
 }
 
@@ -330,20 +336,19 @@ fn put_hold(output: &mut Output, x: u32, flag: u32)
 }
 
 // The equation of hold j: its operand where its flag is true, else the value before.
-fn put_equation(written: &Written<'_>, j: usize, output: &mut Output)
+fn put_equation(written: &WriteInput<'_>, j: usize, output: &mut Output)
     ensures { let s = written.now.index.now.source in (W : Writer) (h : Hold) → WriterStands written.now W → HeldAt s.names s.tags.now s.values.now W written.now.plan.now written.now.holds.now j h → output.new ≡ emits output.old (equation_tokens (record { left = get_or written.now.hold_ids.now j 0 ∷ []; right = h.right })) }
 {
     let x = clock_tables::word_at(written.hold_ids, j);
-    let row = hold_word(written.holds, j, 1);
-    let flag = clock_tables::word_at(written.flag_ids, row);
-    let at = hold_word(written.holds, j, 0);
+    let held = hold_at(written.holds, j);
+    let flag = clock_tables::word_at(written.flag_ids, held.row);
     put_hold(output, x, flag);
-    expr(written, at, output);
+    expr(written, held.at, output);
     put_named(output, ExprToken::Pre, x);
 }
 
 // The equations of so many holds.
-pub fn put_hold_equations(written: &Written<'_>, count: usize, output: &mut Output)
+pub fn put_hold_equations(written: &WriteInput<'_>, count: usize, output: &mut Output)
     ensures { let s = written.now.index.now.source in (W : Writer) (hs : List Hold) (ids : Ids) → length hs ≡ count → WriterStands written.now W → HeldFrom s.names s.tags.now s.values.now W written.now.plan.now written.now.holds.now 0 hs → ((j : ℕ) → ids.hold j ≡ get_or written.now.hold_ids.now j 0) → output.new ≡ emits output.old (hold_equations ids 0 hs) }
 {
     for j in 0..count {
@@ -354,37 +359,21 @@ pub fn put_hold_equations(written: &Written<'_>, count: usize, output: &mut Outp
 // ---- The left names of an equation of an accepted sheet, and their defaults, written into the output's tokens.
 
 // The default of a left name: of its last declaration's type.
-fn put_left_default(written: &Written<'_>, x: u32, output: &mut Output)
+fn put_left_default(written: &WriteInput<'_>, x: u32, output: &mut Output)
     ensures { (ts : List TypeDef) (l : List Node) (n : Node) → TypesKnown written.now ts n → x < written.now.index.now.source.names → left_fault ts l n x ≡ none → output.new ≡ emits output.old (expr_tokens (left_tree ts l n x)) }
 {
-    let Some(at) = typing::last_type(written.types, x) else {
-        return;
-    };
-    defaults::emit_default(&written.index.source, &written.index.types, at, output);
-}
-
-// The defaults of so many left names, one after another.
-fn put_left_defaults(written: &Written<'_>, count: u32, at: usize, output: &mut Output)
-    ensures { let s = written.now.index.now.source in (ts : List TypeDef) (l : List Node) (n : Node) (xs : List ℕ) (q : ℕ) → TypesKnown written.now ts n → times count (name s.names) (tokens_of s) at ≡ got xs q → lefts_fault ts l n xs ≡ none → output.new ≡ emits output.old (join (operand_tokens (left_trees ts l n xs))) }
-{
-    let source = &written.index.source;
-    let mut place = at;
-    for _ in 0..count {
-        let x = layout::value_at(source.values, place);
-        put_left_default(written, x, output);
-        place = layout::behind(source.tags, place);
+    if let Some(at) = typing::last_type(written.types, x) {
+        defaults::emit_default(&written.index.type_table(), at, output);
     }
 }
 
-// So many names, one after another.
-fn put_names(source: &Source<'_>, count: u32, at: usize, output: &mut Output)
-    ensures { (xs : List ℕ) (q : ℕ) → times count (name source.now.names) (tokens_of source.now) at ≡ got xs q → output.new ≡ emits output.old (name_tokens xs) }
+// The defaults of left names, one after another.
+fn put_left_defaults(written: &WriteInput<'_>, left: Span, output: &mut Output)
+    ensures { let s = written.now.index.now.source in (ts : List TypeDef) (l : List Node) (n : Node) (xs : List ℕ) → TypesKnown written.now ts n → Spans (name s.names) (tokens_of s) xs left → lefts_fault ts l n xs ≡ none → output.new ≡ emits output.old (join (operand_tokens (left_trees ts l n xs))) }
 {
-    let mut place = at;
-    for _ in 0..count {
-        let id = layout::value_at(source.values, place);
-        output.emit(Token::Name(id));
-        place = layout::behind(source.tags, place);
+    let names = layout::names_in(&written.index.source, left);
+    for &x in names {
+        put_left_default(written, x, output);
     }
 }
 
@@ -393,7 +382,10 @@ fn put_left(source: &Source<'_>, left: Span, output: &mut Output)
     ensures { (xs : List ℕ) → Spans (name source.now.names) (tokens_of source.now) xs left → output.new ≡ emits output.old (Token.Count (length xs) ∷ name_tokens xs) }
 {
     output.emit(Token::Count(left.count));
-    put_names(source, left.count, left.at, output);
+    let names = layout::names_in(source, left);
+    for &x in names {
+        output.emit(Token::Name(x));
+    }
 }
 
 // ---- What is written around a right side of an accepted sheet under the flag of its clock.
@@ -432,24 +424,25 @@ fn put_before(output: &mut Output, f: Frame, condact: u32, n: u32)
 }
 
 // A left name's default, and then its value one tick before.
-fn put_kept(written: &Written<'_>, left: Span, output: &mut Output)
+fn put_kept(written: &WriteInput<'_>, left: Span, output: &mut Output)
     ensures { let s = written.now.index.now.source in (ts : List TypeDef) (l : List Node) (n : Node) (xs : List ℕ) (ks : List Token) → TypesKnown written.now ts n → Spans (name s.names) (tokens_of s) xs left → DefaultThenHeld ts l n xs ks → output.new ≡ emits output.old ks }
 {
-    let source = &written.index.source;
-    let x = layout::value_at(source.values, left.at);
+    let Some(&x) = layout::names_in(&written.index.source, left).first() else {
+        return;
+    };
     output.emit(Token::Expression(ExprToken::Arrow));
     put_left_default(written, x, output);
     put_named(output, ExprToken::Pre, x);
 }
 
 // What is written behind the right side of these left names.
-fn put_behind(written: &Written<'_>, left: Span, f: Frame, output: &mut Output)
+fn put_behind(written: &WriteInput<'_>, left: Span, f: Frame, output: &mut Output)
     ensures { let s = written.now.index.now.source in (ts : List TypeDef) (l : List Node) (n : Node) (xs : List ℕ) (ks : List Token) → TypesKnown written.now ts n → Spans (name s.names) (tokens_of s) xs left → LeadOut ts l n f xs ks → output.new ≡ emits output.old ks }
 {
     match f {
         Frame::Plain => {}
         Frame::Choose(_) => put_kept(written, left, output),
-        Frame::Gate(_) => put_left_defaults(written, left.count, left.at, output),
+        Frame::Gate(_) => put_left_defaults(written, left, output),
     }
 }
 
@@ -457,7 +450,7 @@ fn put_behind(written: &Written<'_>, left: Span, f: Frame, output: &mut Output)
 // the row of its flag and one more.
 
 // The equation that stands there: its left names behind their count, and its right side in its frame. Where it ends.
-fn one_equation(written: &Written<'_>, at: usize, output: &mut Output) -> usize
+fn one_equation(written: &WriteInput<'_>, at: usize, output: &mut Output) -> usize
     ensures { let s = written.now.index.now.source in (W : Writer) (ids : Ids) (layout : NodeLayout) (n : ℕ) (c : Clock) (e : Equation) (q : ℕ) → Grounds written.now layout W → ids.condact ≡ W.condact → right_fault W.types W.nodes W.node W.condact c e.left e.right ≡ none → EquationPlanned s.names s.tags.now s.values.now W written.now.plan.now W.condact ids n c e at q → (output.new ≡ emits output.old (equation_tokens (record { left = e.left; right = (right_yield W.types W.nodes W.node ids c e.left n e.right).value }))) × (result ≡ q) }
 {
     let left = layout::names_at(&written.index.source, at);
@@ -471,7 +464,7 @@ fn one_equation(written: &Written<'_>, at: usize, output: &mut Output) -> usize
 }
 
 // So many equations of the node, which stand there, in order.
-pub fn old_equations(written: &Written<'_>, count: u32, at: usize, output: &mut Output)
+pub fn old_equations(written: &WriteInput<'_>, count: u32, at: usize, output: &mut Output)
     ensures { let s = written.now.index.now.source in (W : Writer) (ids : Ids) (layout : NodeLayout) (cs : List Clocked) (end : ℕ) → Grounds written.now layout W → ids.condact ≡ W.condact → old_fault W.types W.nodes W.node W.condact 0 cs ≡ none → length cs ≡ count → EquationsPlanned s.names s.tags.now s.values.now W written.now.plan.now W.condact ids 0 cs at end → output.new ≡ emits output.old (join (map equation_tokens (old_yield W.types W.nodes W.node ids 0 cs).value)) }
 {
     let mut place = at;

@@ -1,13 +1,15 @@
 -- A node found, laid out and clocked. Assumes nothing.
 use mathlib.Core.Path.{◌≡◌, refl, sym, ◌∙◌, ap}
-use mathlib.Core.Bool.{Bool}
+use mathlib.Core.Bool.{Bool, true, false, true≢false}
 use mathlib.Core.List.{List, [], ◌∷◌, ◌++◌}
-use mathlib.Core.Logic.{◌⊎◌, inl, inr}
 use Prim.Native.Nat.{ℕ, zero, suc, ◌+◌, ◌-◌, ◌≤◌, ◌<◌, min}
 use native.Mathlib.Omega.{arith}
+use native.Mathlib.Numerals.{add-one}
 use lib.ListN.{length, take}
 use lib.Seq.{length-take-le}
 use Rattle.std.proofs.Common.{Result, Ok, Err}
+use Rattle.std.specs.Prelude.{is_ok}
+use Rattle.std.specs.Result.{MatchResult}
 use Rattle.definitions.specs.declared.Refusal.{Refusal}
 use Rattle.definitions.specs.Tokens.{TagValue}
 use Rattle.definitions.specs.Bytes.{tokens}
@@ -21,7 +23,7 @@ use Rattle.definitions.specs.Answer.{Input, clockings, item_at, node_at}
 use Rattle.grammar.proofs.Got.{times-cons}
 use Rattle.layout.specs.declared.NodeLayout.{NodeLayout}
 use Rattle.layout.specs.Laid.{LaidNode}
-use Rattle.lines.specs.declared.Told.{Told}
+use Rattle.lines.specs.declared.ToldNode.{ToldNode}
 use Rattle.clock_tables.specs.declared.TooDeep.{TooDeep}
 use Rattle.infer_clocks.specs.declared.NodeClocked.{NodeClocked}
 use Rattle.infer_clocks.specs.Clocked.{SitesTold, ClockedOrDeep, Deeply}
@@ -134,52 +136,6 @@ clocked-long : (i : ℕ) (ns : List Node) (l : List ClockedNode) → clockings i
 clocked-long i [] l h = ap length (none-clocked i l h)
 clocked-long i (n ∷ ns) l h = let a = cons-clocked i n ns l h in ap length a.4 ∙ ap suc (clocked-long (suc i) ns a.1 a.3)
 
--- the same nodes numbered from i and from j on: all clocks are formed, or the same node's are not
-numbered-anew : (i j : ℕ) (ns : List Node) → ((l : List ClockedNode) × (clockings i ns ≡ accepted l) × (clockings j ns ≡ accepted l)) ⊎ ((d : ℕ) × (clockings i ns ≡ refused (Refusal.Deep (i + d))) × (clockings j ns ≡ refused (Refusal.Deep (j + d))))
-unfolding clockings
-numbered-anew i j [] = inl ([], refl, refl)
-numbered-anew i j (n ∷ ns) = go (clocking n) refl (numbered-anew (suc i) (suc j) ns)
-  where
-    with_first : Clocking → Answer (List ClockedNode) → Answer (List ClockedNode)
-    with_first c v = v >>= λ l. accepted (record { node = n; clocking = c } ∷ l)
-
-    go : (v : Formed Clocking) → clocking n ≡ v
-        → ((l : List ClockedNode) × (clockings (suc i) ns ≡ accepted l) × (clockings (suc j) ns ≡ accepted l)) ⊎ ((d : ℕ) × (clockings (suc i) ns ≡ refused (Refusal.Deep (suc i + d))) × (clockings (suc j) ns ≡ refused (Refusal.Deep (suc j + d))))
-        → ((l : List ClockedNode) × (clockings i (n ∷ ns) ≡ accepted l) × (clockings j (n ∷ ns) ≡ accepted l)) ⊎ ((d : ℕ) × (clockings i (n ∷ ns) ≡ refused (Refusal.Deep (i + d))) × (clockings j (n ∷ ns) ≡ refused (Refusal.Deep (j + d))))
-    go deep e h =
-        let a : i ≡ i + 0 = omega arith in
-        let b : j ≡ j + 0 = omega arith in
-        inr (0, node-deep i n ns e ∙ ap (λ (x : ℕ). refused (Refusal.Deep x)) a, node-deep j n ns e ∙ ap (λ (x : ℕ). refused (Refusal.Deep x)) b)
-    go (formed c) e (inl (l, a, b)) = inl (record { node = n; clocking = c } ∷ l, node-formed i n ns c e ∙ ap (with_first c) a, node-formed j n ns c e ∙ ap (with_first c) b)
-    go (formed c) e (inr (d, a, b)) =
-        let x : suc i + d ≡ i + suc d = omega arith in
-        let y : suc j + d ≡ j + suc d = omega arith in
-        inr (suc d, node-formed i n ns c e ∙ (ap (with_first c) a ∙ ap (λ (z : ℕ). refused (Refusal.Deep z)) x), node-formed j n ns c e ∙ (ap (with_first c) b ∙ ap (λ (z : ℕ). refused (Refusal.Deep z)) y))
-
-module _ (j : ℕ) (ns : List Node) where
-  -- the nodes from node j on, by the search among them
-  behind-fine : (l : List ClockedNode) → clockings 0 ns ≡ accepted l → clockings j ns ≡ accepted l
-  behind-fine l h = go (numbered-anew 0 j ns)
-    where
-      go : ((l : List ClockedNode) × (clockings 0 ns ≡ accepted l) × (clockings j ns ≡ accepted l)) ⊎ ((d : ℕ) × (clockings 0 ns ≡ refused (Refusal.Deep (0 + d))) × (clockings j ns ≡ refused (Refusal.Deep (j + d)))) → clockings j ns ≡ accepted l
-      go (inl (m, a, b)) = b ∙ (sym a ∙ h)
-      go (inr (d, a, b)) =
-          let x : refused (Refusal.Deep (0 + d)) ≡ accepted l = sym a ∙ h in
-          let z : ◌≡◌ {A = ℕ} 0 1 = cc in absurd (omega arith)
-
-  behind-deep : (i : ℕ) → clockings 0 ns ≡ refused (Refusal.Deep i) → clockings j ns ≡ refused (Refusal.Deep (j + i))
-  behind-deep i h = go (numbered-anew 0 j ns)
-    where
-      go : ((l : List ClockedNode) × (clockings 0 ns ≡ accepted l) × (clockings j ns ≡ accepted l)) ⊎ ((d : ℕ) × (clockings 0 ns ≡ refused (Refusal.Deep (0 + d))) × (clockings j ns ≡ refused (Refusal.Deep (j + d)))) → clockings j ns ≡ refused (Refusal.Deep (j + i))
-      go (inl (m, a, b)) =
-          let x : accepted m ≡ refused (Refusal.Deep i) = sym a ∙ h in
-          let z : ◌≡◌ {A = ℕ} 0 1 = cc in absurd (omega arith)
-      go (inr (d, a, b)) =
-          let x : refused (Refusal.Deep (0 + d)) ≡ refused (Refusal.Deep i) = sym a ∙ h in
-          let y : 0 + d ≡ i = cc in
-          let w : j + d ≡ j + i = omega arith in
-          b ∙ ap (λ (z : ℕ). refused (Refusal.Deep z)) w
-
 -- ---- what is told of node k
 -- 8
 pub node-missing : (r : Input) (k : ℕ) → length r.sheet.nodes ≤ k → node_at r k ≡ refused Refusal.Missing
@@ -191,10 +147,10 @@ module _ (r : Input) (k : ℕ) (front : List Node) (n : Node) (ns : List Node) (
   known = ap (λ (l : List Node). item_at l k) e ∙ item-behind front (n ∷ ns) k many
 
   -- 9 at a node before it
-  pub node-after-deep : (i : ℕ) → clockings 0 front ≡ refused (Refusal.Deep i) → node_at r k ≡ refused (Refusal.Deep i)
+  pub node-after-deep : (y : Refusal) → clockings 0 front ≡ refused y → node_at r k ≡ refused y
   unfolding node_at
-  node-after-deep i h =
-      let x : clockings 0 r.sheet.nodes ≡ refused (Refusal.Deep i) = ap (clockings 0) e ∙ (clockings-append 0 front (n ∷ ns) ∙ rw h) in
+  node-after-deep y h =
+      let x : clockings 0 r.sheet.nodes ≡ refused y = ap (clockings 0) e ∙ (clockings-append 0 front (n ∷ ns) ∙ rw h) in
       rw (known, x)
 
   -- it and the nodes behind it
@@ -215,14 +171,14 @@ module _ (M : ℕ) (ts : List TagValue) (r : Input) (k count before at q : ℕ) 
   among : Around (node M) ts before (count - before - 1) at r.sheet.nodes q
   among = let f : count ≡ before + suc (count - before - 1) = omega arith in around (node M) ts before (count - before - 1) at r.sheet.nodes q (ap (λ (n : ℕ). times n (node M) ts at) (sym f) ∙ g)
 
-  module _ (d : Result ℕ ℕ) (D : (ns : List Node) (p : ℕ) → times before (node M) ts at ≡ got ns p → Deeply p d (clockings 0 ns)) where
+  module _ (d : Result ℕ Refusal) (D : (ns : List Node) (p : ℕ) → times before (node M) ts at ≡ got ns p → Deeply p d (clockings 0 ns)) where
     -- 9 before it
-    pub asked-deep : (i w : ℕ) → d ≡ Err i → w ≡ i → node_at r k ≡ refused (Refusal.Deep w)
+    pub asked-deep : (y : Refusal) → d ≡ Err y → node_at r k ≡ refused y
     unfolding Deeply
-    asked-deep i w f u =
+    asked-deep y f =
         let s = among in
-        let x : Deeply s.place (Err i) (clockings 0 s.front) = rw f at (D s.front s.place s.before) in
-        node-after-deep r k s.front s.item s.rest s.whole (s.many ∙ e) i x ∙ ap (λ (z : ℕ). refused (Refusal.Deep z)) (sym u)
+        let x : Deeply s.place (Err y) (clockings 0 s.front) = rw f at (D s.front s.place s.before) in
+        node-after-deep r k s.front s.item s.rest s.whole (s.many ∙ e) y x
 
     -- it stands there, and the nodes behind it after it
     pub asked-there : (p : ℕ) → d ≡ Ok p → (n : Node) × (m : ℕ) × (ns : List Node) × (node M ts p ≡ got n m) × (times (count - before - 1) (node M) ts m ≡ got ns q) × (node_at r k ≡ first_from k (n ∷ ns))
@@ -233,7 +189,7 @@ module _ (M : ℕ) (ts : List TagValue) (r : Input) (k count before at q : ℕ) 
         (s.item, s.next, s.rest, ap (node M ts) x.0 ∙ s.here, s.after, node-after r k s.front s.item s.rest s.whole (s.many ∙ e) x.1 x.2)
 
 -- what is told is that
-pub told-as : (M : ℕ) (gs vs t sites : List ℕ) (k : ℕ) (a : Result Told Refusal) (v w : Answer ClockedNode) → v ≡ w → NodeTold M gs vs t sites k a w → NodeTold M gs vs t sites k a v
+pub told-as : (M : ℕ) (gs vs t sites : List ℕ) (k : ℕ) (a : Result ToldNode Refusal) (v w : Answer ClockedNode) → v ≡ w → NodeTold M gs vs t sites k a w → NodeTold M gs vs t sites k a v
 told-as M gs vs t sites k a v w e h = rw e h
 
 pub told-refused : (M : ℕ) (gs vs t sites : List ℕ) (k : ℕ) (x : Refusal) (v : Answer ClockedNode) → v ≡ refused x → NodeTold M gs vs t sites k (Err x) v
@@ -248,17 +204,16 @@ module _ (k : ℕ) (n : Node) (ns : List Node) where
 
   module _ (c : Clocking) (e : clocking n ≡ formed c) where
     -- 9 behind it
-    pub first-behind : (i : ℕ) → clockings 0 ns ≡ refused (Refusal.Deep i) → first_from k (n ∷ ns) ≡ refused (Refusal.Deep (k + 1 + i))
-    first-behind i h =
+    pub first-behind : (y : Refusal) → clockings (k + 1) ns ≡ refused y → first_from k (n ∷ ns) ≡ refused y
+    first-behind y h =
         let x = node-formed k n ns c e in
-        let y = behind-deep (suc k) ns i h in
-        let j : suc k + i ≡ k + 1 + i = omega arith in
-        rw (x, y, j)
+        let z = ap (λ (j : ℕ). clockings j ns) (sym (add-one k)) ∙ h in
+        rw (x, z)
 
-    pub first-there : (l : List ClockedNode) → clockings 0 ns ≡ accepted l → first_from k (n ∷ ns) ≡ accepted (record { node = n; clocking = c })
+    pub first-there : (l : List ClockedNode) → clockings (k + 1) ns ≡ accepted l → first_from k (n ∷ ns) ≡ accepted (record { node = n; clocking = c })
     first-there l h =
         let x = node-formed k n ns c e in
-        let y = behind-fine (suc k) ns l h in
+        let y = ap (λ (j : ℕ). clockings j ns) (sym (add-one k)) ∙ h in
         rw (x, y)
 
 -- what clocking it and searching behind it tell
@@ -267,22 +222,22 @@ module _ (M : ℕ) (gs vs t sites : List ℕ) (k : ℕ) (n : Node) (ns : List No
   unfolding NodeTold ClockedAs
   told-deep x h = first-deep k n ns h.0 ∙ ap refused (sym h.1)
 
-  module _ (told : Told) (h : ClockedAs M gs vs t sites k n (Ok told)) (q : ℕ) (d : Result ℕ ℕ) (D : Deeply q d (clockings 0 ns)) where
-    this : (c : Clocking) × (clocking n ≡ formed c) × NodeWithClocks M gs vs t sites k told (record { node = n; clocking = c })
+  module _ (told : ToldNode) (h : ClockedAs M gs vs t sites k n (Ok told)) (q : ℕ) (d : Result ℕ Refusal) (D : Deeply q d (clockings (k + 1) ns)) where
+    this : (c : Clocking) × (clocking n ≡ formed c) × NodeWithClocks gs vs t sites told (record { node = n; clocking = c }) × (told.number ≡ k) × (told.names ≡ M)
     unfolding ClockedAs
     this = h
 
-    pub told-behind : (i w : ℕ) → d ≡ Err i → w ≡ i → NodeTold M gs vs t sites k (Err (Refusal.Deep (k + 1 + w))) (first_from k (n ∷ ns))
+    pub told-behind : (y : Refusal) → d ≡ Err y → NodeTold M gs vs t sites k (Err y) (first_from k (n ∷ ns))
     unfolding NodeTold Deeply
-    told-behind i w f u =
-        let x : Deeply q (Err i) (clockings 0 ns) = rw f at D in
-        first-behind k n ns this.0 this.1 i x ∙ ap (λ (z : ℕ). refused (Refusal.Deep (k + 1 + z))) (sym u)
+    told-behind y f =
+        let x : Deeply q (Err y) (clockings (k + 1) ns) = rw f at D in
+        first-behind k n ns this.0 this.1 y x
 
     pub told-node : (p : ℕ) → d ≡ Ok p → k < 16 → NodeTold M gs vs t sites k (Ok told) (first_from k (n ∷ ns))
     unfolding NodeTold Deeply
     told-node p f few =
-        let x : Deeply q (Ok p) (clockings 0 ns) = rw f at D in
-        (record { node = n; clocking = this.0 }, first-there k n ns this.0 this.1 x.1 x.2, this.2, few)
+        let x : Deeply q (Ok p) (clockings (k + 1) ns) = rw f at D in
+        (record { node = n; clocking = this.0 }, first-there k n ns this.0 this.1 x.1 x.2, this.2, this.3, this.4, few)
 
 -- ---- the part of a working table that names take
 module _ (n w : ℕ) (l : List Bool) (e : n ≡ min w 1024) (f : length l ≡ 1024) where
@@ -292,11 +247,21 @@ module _ (n w : ℕ) (l : List Bool) (e : n ≡ min w 1024) (f : length l ≡ 10
   pub part-enough : (M : ℕ) → w ≡ M → M ≤ 1024 → M ≤ length (take n l)
   part-enough M g h = omega (arith, part-long)
 
+-- ---- what is answered in the place of an error
+pub ok-kept : {A D : Type 0} (E : Type 0) (a : Result A D) (b : A) (Q : D → Type 0) → true ≡ is_ok a → MatchResult a (λ x. ◌≡◌ {A = Result A E} (Ok b) (Ok x)) Q → a ≡ Ok b
+ok-kept E (Ok x) b Q v m = let y : b ≡ x = cc in ap Ok (sym y)
+ok-kept E (Err d) b Q v m = absurd (true≢false v)
+
+pub deep-told : (env t : List ℕ) (M : ℕ) (n : Node) (r : Result NodeClocked TooDeep) → ClockedOrDeep env t M r (clocking n) → false ≡ is_ok r → clocking n ≡ deep
+unfolding ClockedOrDeep
+deep-told env t M n (Ok a) h e = absurd (true≢false (sym e))
+deep-told env t M n (Err d) h e = h
+
 -- ---- a node clocked
 module _ (M : ℕ) (gs vs env t sites : List ℕ) (k : ℕ) (n : Node) (r : Result NodeClocked TooDeep) (h : ClockedOrDeep env t M r (clocking n)) where
-  pub clocked-deep : (d : TooDeep) → r ≡ Err d → ClockedAs M gs vs t sites k n (Err (Refusal.Deep k))
-  unfolding ClockedOrDeep ClockedAs
-  clocked-deep d e = let x : ClockedOrDeep env t M (Err d) (clocking n) = rw e at h in (x, refl)
+  pub clocked-deep : (a : Refusal) → false ≡ is_ok r → a ≡ Refusal.Deep k → ClockedAs M gs vs t sites k n (Err a)
+  unfolding ClockedAs
+  clocked-deep a v e = (deep-told env t M n r h v, e)
 
   pub clocked-node : (q : ℕ) (l : NodeLayout) (a : NodeClocked) → r ≡ Ok a → LaidNode M (tokens gs vs) n q l
       → ((c : Clocking) → clocking n ≡ formed c → SitesTold M gs vs sites c.findings c.equations l.equations.at l.equations.end)
@@ -304,4 +269,4 @@ module _ (M : ℕ) (gs vs env t sites : List ℕ) (k : ℕ) (n : Node) (r : Resu
   unfolding ClockedOrDeep ClockedAs
   clocked-node q l a e d S =
       let x : ClockedOrDeep env t M (Ok a) (clocking n) = rw e at h in
-      (x.0, x.1, record { end = q; laid = d; formed = x.1; tells = record { made = x.2.made; room = x.2.room; all = x.2.all; on = (S x.0 x.1).on }; number = refl; names = refl })
+      (x.0, x.1, record { end = q; laid = d; formed = x.1; tells = record { made = x.2.made; room = x.2.room; all = x.2.all; on = (S x.0 x.1).on } }, refl, refl)

@@ -1,14 +1,17 @@
--- The listings of nodes, put in lent bytes.
+-- A text, and the listings of nodes, put in lent bytes.
 use Rattle.std.specs.Prelude.{ℕ, ◌≡◌, List, Result, Ok, Err}
 use Rattle.definitions.specs.declared.Refusal.{Refusal}
 use Rattle.definitions.specs.Lists.{join, numbered, Letters}
 use Rattle.definitions.specs.Tree.{Node}
-use Rattle.definitions.specs.Refusals.{accepted, refused}
-use Rattle.definitions.specs.Output.{ClockedNode}
+use Rattle.definitions.specs.Refusals.{Answer, accepted, refused, ◌>>=◌}
 use Rattle.definitions.specs.Answer.{clockings, node_listing}
 use Rattle.query.specs.Words.{PutText}
 
--- the listings of these nodes stand over the front of the lent bytes, as far as they reach, and are so long; or 9
-unfoldable pub ListingsStand : (ℕ → Letters) → List Node → List ℕ → List ℕ → Result ℕ Refusal → Type 0
-ListingsStand letters ns lent now (Err r) = clockings 0 ns ≡ refused r
-ListingsStand letters ns lent now (Ok m) = (l : List ClockedNode) × (clockings 0 ns ≡ accepted l) × PutText (join (numbered (node_listing letters) 0 l)) 0 lent m now
+-- the text that is answered stands over the front of the lent bytes, as far as they reach, and is so long; or it is refused so
+unfoldable pub TextStands : Answer Letters → List ℕ → List ℕ → Result ℕ Refusal → Type 0
+TextStands v lent now (Err r) = v ≡ refused r
+TextStands v lent now (Ok m) = (text : Letters) × (v ≡ accepted text) × PutText text 0 lent m now
+
+-- the listings of these nodes, one behind another, or 9
+abbrev pub listings_text : (ℕ → Letters) → List Node → Answer Letters
+listings_text letters ns = clockings 0 ns >>= λ l. accepted (join (numbered (node_listing letters) 0 l))

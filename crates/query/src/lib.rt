@@ -1,38 +1,38 @@
-// What the questions on a sheet's nodes are answered from, over the working tables: a node found and clocked, its clocks and faults
-// as words, the listings of all nodes. The table of sites has seventeen words for each token: clocking puts the clock of each equation in
+// What the questions on a sheet's nodes are answered from, over the working tables: a node found and clocked, its clocks as words,
+// its faults, the listings of all nodes. The table of sites has seventeen words for each token: clocking puts the clock of each equation in
 // the row of its first token.
 #![tactic(auto)]
 
-ghost use Rattle.std.specs.Prelude.{◌≡◌, List, [], ◌∷◌, map, ℕ, ◌+◌, ◌*◌, ◌/◌, ◌≤◌, ◌<◌, length, get_or, ltb};
+ghost use Rattle.std.specs.Prelude.{◌≡◌, List, [], ◌∷◌, map, ℕ, ◌+◌, ◌*◌, ◌≤◌, ◌<◌, length, get_or, set};
 ghost use Rattle.grammar.specs.Read.{tokens_of};
-ghost use Rattle.definitions.specs.Lists.{choose};
+ghost use Rattle.definitions.specs.Lists.{over};
 ghost use Rattle.definitions.specs.Tree.{Node};
 ghost use Rattle.definitions.specs.Reading.{got, times};
 ghost use Rattle.definitions.specs.Grammar.{node, sheet};
 ghost use Rattle.definitions.specs.InferClocks.{Clocked, chains, clock_faults};
+ghost use Rattle.definitions.specs.InferClocks as clocks;
 ghost use Rattle.definitions.specs.Output.{ClockedNode};
-ghost use Rattle.definitions.specs.Answer.{Input, clockings, node_at, node_clocks, node_listing};
-ghost use Rattle.clock_tables.specs.Value.{value_of};
+ghost use Rattle.definitions.specs.Answer.{Input, clockings, fault_record, node_at, node_clocks, node_listing};
 ghost use Rattle.findings.specs.Findings.{findings_in};
 ghost use Rattle.spelling.specs.Places.{letters_in};
 ghost use Rattle.chain_order.specs.Order.{ordered_clocks};
-ghost use Rattle.spelling.specs.Writing.{over_at, farthest};
+ghost use Rattle.spelling.specs.Writing.{farthest};
+ghost use Rattle.spelling.specs.Written.{Wrote};
 ghost use Rattle.layout.specs.Laid.{LaidNode};
 ghost use Rattle.skeleton.specs.Sites.{EquationsOn};
 ghost use Rattle.infer_clocks.specs.Clocked.{Deeply};
 ghost use Rattle.workspace.specs.Room.{SameRoom, Roomy, Ample, RoomToList};
 ghost use Rattle.query.specs.Standing.{first_from, NodeWithClocks, ClockedAs, NodeTold};
-ghost use Rattle.query.specs.Listed.{ListingsStand};
-ghost use Rattle.query.specs.Words.{clock_words, clocks_over, faults_over, Written, PutText};
+ghost use Rattle.query.specs.Listed.{TextStands, listings_text};
+ghost use Rattle.query.specs.Words.{clocks_over, found_counts, Written};
 
 use chain_order::OrderedClocks;
-use clock_tables::Clock;
-use definitions::{MOST_NAMES, Refusal};
+use definitions::{FaultRecord, MOST_NAMES, Refusal};
 use findings::{Fault, Finding, FindingList};
 use grammar::Source;
 use layout::{NodeLayout, Span};
-use lines::{ListedNode, Told};
-use spelling::Spelling;
+use lines::{ListedNode, ToldNode};
+use spelling::{Spelling, TextWriter};
 use workspace::Working;
 
 // A node's name and passes, and how many equations, chains and clock faults it has.
@@ -45,19 +45,23 @@ pub struct NodeCounts {
     pub faults: usize,
 }
 
-// Where so many nodes end, the first of which stands there; or the number of the first in which too deep a clock is formed.
+// Where so many nodes end, the first of which stands there and has this number; or refusal 9 at the first in which too deep a clock is
+// formed.
 pub fn deep_among(
     source: &Source<'_>,
+    number: u32,
     count: u32,
     at: usize,
     working: &mut Working<'_>,
-) -> Result<usize, u32>
+) -> Result<usize, Refusal>
     ensures same_room { SameRoom working.old working.new }
-    ensures deeply { (ns : List Node) (q : ℕ) → times count (node source.now.names) (tokens_of source.now) at ≡ got ns q → Roomy source.now.names (length source.now.tags.now) working.old → Deeply q result (clockings 0 ns) }
+    ensures others_stay { (working.new.rows.now ≡ working.old.rows.now) × (working.new.chain.now ≡ working.old.chain.now) }
+    ensures deeply { (ns : List Node) (q : ℕ) → times count (node source.now.names) (tokens_of source.now) at ≡ got ns q → Roomy source.now.names (length source.now.tags.now) working.old → Deeply q result (clockings number ns) }
 {
     let mut marks = [false; MOST_NAMES];
     infer_clocks::first_deep(
         source,
+        number,
         count,
         at,
         working.env,
@@ -73,8 +77,9 @@ fn clock_laid(
     layout: NodeLayout,
     k: usize,
     working: &mut Working<'_>,
-) -> Result<Told, Refusal>
+) -> Result<ToldNode, Refusal>
     ensures same_room { SameRoom working.old working.new }
+    ensures others_stay { (working.new.rows.now ≡ working.old.rows.now) × (working.new.chain.now ≡ working.old.chain.now) }
     ensures clocked_as { (n : Node) (q : ℕ) → LaidNode source.now.names (tokens_of source.now) n q layout → Roomy source.now.names (length source.now.tags.now) working.old → ClockedAs source.now.names source.now.tags.now source.now.values.now working.new.table.now working.new.sites.now k n result }
 {
     let n = (source.names as usize).min(MOST_NAMES);
@@ -87,16 +92,14 @@ fn clock_laid(
         working.table,
         working.sites,
     );
-    match clocked {
-        Err(_) => Err(Refusal::Deep(k)),
-        Ok(clocked) => Ok(Told {
-            layout,
-            number: k,
-            names: source.names,
-            passes: clocked.passes,
-            findings: clocked.findings,
-        }),
-    }
+    let told = clocked.map_err(|_| Refusal::Deep(k))?;
+    Ok(ToldNode {
+        layout,
+        number: k,
+        names: source.names,
+        passes: told.passes,
+        findings: told.findings,
+    })
 }
 
 // Node k, which stands there, laid out and clocked; or the first of it and so many nodes behind it in which too deep a clock is formed. It
@@ -107,24 +110,27 @@ fn clock_before(
     at: usize,
     behind: u32,
     working: &mut Working<'_>,
-) -> Result<Told, Refusal>
-    requires k_bound { k < 4294967296 }
+) -> Result<ToldNode, Refusal>
+    requires k_bound { k < 4294967295 }
     ensures same_room { SameRoom working.old working.new }
+    ensures others_stay { (working.new.rows.now ≡ working.old.rows.now) × (working.new.chain.now ≡ working.old.chain.now) }
     ensures node_told { (n : Node) (p : ℕ) (ns : List Node) (q : ℕ) → node source.now.names (tokens_of source.now) at ≡ got n p → times behind (node source.now.names) (tokens_of source.now) p ≡ got ns q → Roomy source.now.names (length source.now.tags.now) working.old → k < 16 → NodeTold source.now.names source.now.tags.now source.now.values.now working.new.table.now working.new.sites.now k result (first_from k (n ∷ ns)) }
 {
     let layout = layout::node_at(source, at);
-    let end = layout.end;
-    let deep = deep_among(source, behind, end, working);
+    let deep = deep_among(source, k as u32 + 1, behind, layout.end, working);
     let told = clock_laid(source, layout, k, working)?;
-    if let Err(i) = deep {
-        return Err(Refusal::Deep(k + 1 + i as usize));
-    }
+    deep?;
     Ok(told)
 }
 
 // Node k laid out and clocked; refusal 8 is told before 9.
-pub fn clock_at(source: &Source<'_>, k: usize, working: &mut Working<'_>) -> Result<Told, Refusal>
+pub fn clock_at(
+    source: &Source<'_>,
+    k: usize,
+    working: &mut Working<'_>,
+) -> Result<ToldNode, Refusal>
     ensures same_room { SameRoom working.old working.new }
+    ensures others_stay { (working.new.rows.now ≡ working.old.rows.now) × (working.new.chain.now ≡ working.old.chain.now) }
     ensures node_told { (i : Input) (q : ℕ) → sheet source.now.names (tokens_of source.now) 0 ≡ got i.sheet q → Roomy source.now.names (length source.now.tags.now) working.old → NodeTold source.now.names source.now.tags.now source.now.values.now working.new.table.now working.new.sites.now k result (node_at i k) }
 {
     let whole = layout::sheet_at(source);
@@ -134,58 +140,17 @@ pub fn clock_at(source: &Source<'_>, k: usize, working: &mut Working<'_>) -> Res
         return Err(Refusal::Missing);
     }
     let before = k as u32;
-    let deep = deep_among(source, before, nodes.at, working);
-    match deep {
-        Err(i) => Err(Refusal::Deep(i as usize)),
-        Ok(at) => {
-            let behind = n - before - 1;
-            clock_before(source, k, at, behind, working)
-        }
-    }
-}
-
-// Word j of a clock in seventeen.
-fn clock_word(c: Clock, j: usize) -> u32
-    ensures { result ≡ get_or (clock_words (value_of c)) j 0 }
-{
-    let d = c.depth();
-    if j == 0 {
-        return (d + 1) as u32;
-    }
-    let i = (j - 1) / 2;
-    if d <= i {
-        return 0;
-    }
-    let k = c.conditions[i];
-    if j % 2 == 1 {
-        return k.name;
-    }
-    let test = k.test;
-    clock_tables::word_of(test)
-}
-
-// A clock in the seventeen words from b on.
-fn put_clock(list: &mut [u32], b: usize, c: Clock)
-    requires { b + 17 ≤ length list.old }
-    ensures { list.new ≡ over_at b (clock_words (value_of c)) list.old }
-{
-    for j in 0..clock_tables::WORDS {
-        list[b + j] = clock_word(c, j);
-    }
+    let at = deep_among(source, 0, before, nodes.at, working)?;
+    clock_before(source, k, at, n - before - 1, working)
 }
 
 // The clocks of the equations that stand there.
 fn write_equations(source: &Source<'_>, sites: &[u32], s: Span, list: &mut [u32])
     ensures { (M : ℕ) (cs : List Clocked) (q : ℕ) → EquationsOn M source.now.tags.now source.now.values.now sites.now cs s.at q → length cs ≡ s.count → list.new ≡ clocks_over (map (λ c. c.clock) cs) list.old }
 {
-    let room = list.len() / clock_tables::WORDS;
     let mut place = s.at;
-    for i in 0..(s.count as usize).min(room) {
-        put_clock(
-            list,
-            clock_tables::WORDS * i,
-            clock_tables::get(sites, place),
-        );
+    for i in 0..s.count as usize {
+        clock_tables::put_row(list, i, clock_tables::get(sites, place));
         place = layout::equation_end(source, place);
     }
 }
@@ -194,9 +159,8 @@ fn write_equations(source: &Source<'_>, sites: &[u32], s: Span, list: &mut [u32]
 fn write_rows(ordered: &OrderedClocks<'_>, list: &mut [u32])
     ensures { list.new ≡ clocks_over (ordered_clocks ordered.now) list.old }
 {
-    let room = list.len() / clock_tables::WORDS;
-    for i in 0..ordered.count.min(room) {
-        put_clock(list, clock_tables::WORDS * i, ordered.get(i));
+    for i in 0..ordered.count {
+        clock_tables::put_row(list, i, ordered.get(i));
     }
 }
 
@@ -211,97 +175,102 @@ fn write_chains(
     ensures value { 17 * findings.entry.count ≤ length rows.old → findings.entry.count ≤ length chain.old → findings.entry.count < 4294967296 → result ≡ length (chains (letters_in spelling.entry) (findings_in findings.entry.words.now findings.entry.count)) }
     ensures list_after { 17 * findings.entry.count ≤ length rows.old → findings.entry.count ≤ length chain.old → findings.entry.count < 4294967296 → list.new ≡ clocks_over (chains (letters_in spelling.entry) (findings_in findings.entry.words.now findings.entry.count)) list.old }
 {
-    let count = infer_clocks::chain_rows(spelling, findings, rows, chain);
-    let ordered = OrderedClocks {
-        rows,
-        order: chain,
-        count,
-    };
+    let ordered = infer_clocks::chain_rows(spelling, findings, rows, chain);
     write_rows(&ordered, list);
-    count
+    ordered.count
 }
 
-// Fault m of a node in three words, if the list has a place for it.
-fn put_fault(list: &mut [u32], m: usize, node: u32, number: u32, equation: u32)
-    ensures { list.new ≡ choose (ltb m (length list.old / 3)) (over_at (3 * m) (node ∷ number ∷ equation ∷ []) list.old) list.old }
+// Record m of a list, if that has a place for it.
+fn put_fault(list: &mut [FaultRecord], m: usize, fault: FaultRecord)
+    ensures { list.new ≡ set list.old m fault }
 {
-    if list.len() / 3 <= m {
-        return;
+    if m < list.len() {
+        list[m] = fault;
     }
-    let b = 3 * m;
-    list[b] = node;
-    list[b + 1] = number;
-    list[b + 2] = equation;
 }
 
 // The clock faults of a node by its findings: how many there are.
-fn write_faults(findings: FindingList<'_>, node: u32, list: &mut [u32]) -> usize
+fn write_faults(findings: FindingList<'_>, node: u32, list: &mut [FaultRecord]) -> usize
     ensures value { result ≡ length (clock_faults (findings_in findings.entry.words.now findings.entry.count)) }
-    ensures list_after { list.new ≡ faults_over node (clock_faults (findings_in findings.entry.words.now findings.entry.count)) list.old }
+    ensures list_after { list.new ≡ over (map (fault_record node) (clock_faults (findings_in findings.entry.words.now findings.entry.count))) list.old }
 {
     let mut m: usize = 0;
     for i in 0..findings.count {
         if let Finding::Fault { equation, fault } = findings.finding_at(i) {
-            let number = findings::fault_number(Fault::Clock(fault));
-            put_fault(list, m, node, number, equation);
+            let fault = findings::fault_number(Fault::Clock(fault));
+            put_fault(
+                list,
+                m,
+                FaultRecord {
+                    node,
+                    fault,
+                    equation,
+                },
+            );
             m += 1;
         }
     }
     m
 }
 
-// The clocks and faults of a node, over three lent lists.
+// The chains and clock faults of a node by what was found in it, over two lent lists, and its counts.
+fn write_found(
+    node: &ListedNode<'_>,
+    rows: &mut [u32],
+    chain: &mut [u32],
+    chains: &mut [u32],
+    faults: &mut [FaultRecord],
+) -> NodeCounts
+    ensures counted { 17 * node.now.told.findings ≤ length rows.old → node.now.told.findings ≤ length chain.old → node.now.told.findings < 4294967296 → result ≡ found_counts (letters_in node.now.spelling) node.now.table.now node.now.told }
+    ensures chains_after { 17 * node.now.told.findings ≤ length rows.old → node.now.told.findings ≤ length chain.old → node.now.told.findings < 4294967296 → chains.new ≡ clocks_over (clocks.chains (letters_in node.now.spelling) (findings_in node.now.table.now node.now.told.findings)) chains.old }
+    ensures faults_after { node.now.told.number < 4294967296 → faults.new ≡ over (map (fault_record node.now.told.number) (clock_faults (findings_in node.now.table.now node.now.told.findings))) faults.old }
+{
+    let told = node.told;
+    let findings = FindingList {
+        words: node.table,
+        count: told.findings,
+    };
+    let number = u32::try_from(told.number).unwrap_or(0);
+    NodeCounts {
+        name: told.layout.name,
+        passes: told.passes,
+        equations: told.layout.equations.count as usize,
+        chains: write_chains(node.spelling, findings, rows, chain, chains),
+        faults: write_faults(findings, number, faults),
+    }
+}
+
+// The clocks and faults of a clocked node, over three lent lists.
 pub fn write_clocks(
     node: &ListedNode<'_>,
     rows: &mut [u32],
     chain: &mut [u32],
     equations: &mut [u32],
     chains: &mut [u32],
-    faults: &mut [u32],
+    faults: &mut [FaultRecord],
 ) -> NodeCounts
-    ensures { (n : ClockedNode) → NodeWithClocks node.now.told.names node.now.source.tags.now node.now.source.values.now node.now.table.now node.now.sites.now node.now.told.number node.now.told n → Ample node.now.table.now rows.old chain.old → node.now.told.number < 16 → Written node.now.told.number (node_clocks (letters_in node.now.spelling) n) equations.old chains.old faults.old equations.new chains.new faults.new result }
+    ensures { (n : ClockedNode) → NodeWithClocks node.now.source.tags.now node.now.source.values.now node.now.table.now node.now.sites.now node.now.told n → Ample node.now.table.now rows.old chain.old → node.now.told.number < 16 → Written node.now.told.number (node_clocks (letters_in node.now.spelling) n) equations.old chains.old faults.old equations.new chains.new faults.new result }
 {
-    let told = node.told;
-    let l = told.layout;
-    let number = u32::try_from(told.number).unwrap_or(0);
-    write_equations(&node.source, node.sites, l.equations, equations);
-    NodeCounts {
-        name: l.name,
-        passes: told.passes,
-        equations: l.equations.count as usize,
-        chains: write_chains(node.spelling, node.findings(), rows, chain, chains),
-        faults: write_faults(node.findings(), number, faults),
-    }
+    let equations_at = node.told.layout.equations;
+    write_equations(&node.source, node.sites, equations_at, equations);
+    write_found(node, rows, chain, chains, faults)
 }
 
-// The listing of a clocked node, with its chains in order, at a place of the lent bytes, as far as they reach: how long it is.
-fn put_told(out: &mut [u8], at: usize, node: &ListedNode<'_>, ordered: &OrderedClocks<'_>) -> usize
-    ensures upper_bound { result ≤ farthest }
-    ensures put_text { (n : ClockedNode) → NodeWithClocks node.now.told.names node.now.source.tags.now node.now.source.values.now node.now.table.now node.now.sites.now node.now.told.number node.now.told n → ordered_clocks ordered.now ≡ chains (letters_in node.now.spelling) (findings_in node.now.table.now node.now.told.findings) → length node.now.spelling.letters.now ≤ 16384 → length node.now.source.tags.now ≤ 4096 → node.now.told.findings ≤ 4096 → PutText (node_listing (letters_in node.now.spelling) node.now.told.number n) at out.old result out.new }
-{
-    if out.len() <= at {
-        return node.measure(ordered);
-    }
-    let left = out.len() - at;
-    let to = at + left.min(4294967296);
-    node.put(&mut out[at..to], ordered)
-}
-
-// The same of a node that was clocked in these tables, whose chains are put in their rows first.
+// The listing of a node that was clocked in these tables.
 // Stays (proof): of a table that is lent from behind `Working` into a struct, no length is known when it comes back.
-fn put_chained(
-    out: &mut [u8],
-    at: usize,
+fn write_listing(
+    text: &mut TextWriter<'_>,
     spelling: Spelling<'_>,
     source: &Source<'_>,
-    told: Told,
+    told: ToldNode,
     table: &mut [u32],
     rows: &mut [u32],
     chain: &mut [u32],
     sites: &mut [u32],
-) -> usize
-    ensures upper_bound { result ≤ farthest }
-    ensures put_text { (n : ClockedNode) → NodeWithClocks told.names source.now.tags.now source.now.values.now table.old sites.old told.number told n → Ample table.old rows.old chain.old → length spelling.entry.letters.now ≤ 16384 → length source.now.tags.now ≤ 4096 → PutText (node_listing (letters_in spelling.entry) told.number n) at out.old result out.new }
+)
+    ensures same_reference { text.new.out.ghost_name ≡ text.old.out.ghost_name }
+    ensures wrote { (n : ClockedNode) → NodeWithClocks source.now.tags.now source.now.values.now table.old sites.old told n → Ample table.old rows.old chain.old → Wrote (node_listing (letters_in spelling.entry) told.number n) text.old text.new }
+    ensures fits { (n : ClockedNode) → NodeWithClocks source.now.tags.now source.now.values.now table.old sites.old told n → Ample table.old rows.old chain.old → length spelling.entry.letters.now ≤ 16384 → length source.now.tags.now ≤ 4096 → length (node_listing (letters_in spelling.entry) told.number n) ≤ farthest }
 {
     let node = ListedNode {
         spelling,
@@ -310,36 +279,31 @@ fn put_chained(
         table,
         sites,
     };
-    let count = infer_clocks::chain_rows(spelling, node.findings(), rows, chain);
-    let ordered = OrderedClocks {
-        rows,
-        order: chain,
-        count,
-    };
-    put_told(out, at, &node, &ordered)
+    let ordered = infer_clocks::chain_rows(spelling, node.findings(), rows, chain);
+    node.write(text, &ordered);
 }
 
-// The listings of n nodes, of which the first stands at `from`, over the front of the lent bytes, as far as they reach: each node is clocked
-// and its listing put, up to the first in which too deep a clock is formed.
-pub fn put_listings(
-    out: &mut [u8],
+// The listings of n nodes, of which the first stands at `from`, and where they end: each node is clocked and its listing written, up to the
+// first in which too deep a clock is formed.
+fn write_listings(
+    text: &mut TextWriter<'_>,
     spelling: Spelling<'_>,
     source: &Source<'_>,
     n: u32,
     from: usize,
     working: &mut Working<'_>,
 ) -> Result<usize, Refusal>
+    requires { text.old.at ≡ 0 }
+    ensures same_reference { text.new.out.ghost_name ≡ text.old.out.ghost_name }
     ensures same_room { SameRoom working.old working.new }
-    ensures listings_stand { (ns : List Node) (q : ℕ) → times n (node source.now.names) (tokens_of source.now) from ≡ got ns q → RoomToList source.now.names (length source.now.tags.now) working.old → length spelling.entry.letters.now ≤ 16384 → length source.now.tags.now ≤ 4096 → ListingsStand (letters_in spelling.entry) ns out.old out.new result }
+    ensures listings_stand { (ns : List Node) (q : ℕ) → times n (node source.now.names) (tokens_of source.now) from ≡ got ns q → RoomToList source.now.names (length source.now.tags.now) working.old → length spelling.entry.letters.now ≤ 16384 → length source.now.tags.now ≤ 4096 → TextStands (listings_text (letters_in spelling.entry) ns) text.old.out.now text.new.out.now result }
 {
     let mut place = from;
-    let mut at = 0;
     for i in 0..n {
         let layout = layout::node_at(source, place);
         let told = clock_laid(source, layout, i as usize, working)?;
-        at += put_chained(
-            out,
-            at,
+        write_listing(
+            text,
             spelling,
             source,
             told,
@@ -350,5 +314,21 @@ pub fn put_listings(
         );
         place = layout.end;
     }
-    Ok(at)
+    Ok(text.at)
+}
+
+// The same over the front of the lent bytes, as far as they reach, and how long they are.
+pub fn put_listings(
+    out: &mut [u8],
+    spelling: Spelling<'_>,
+    source: &Source<'_>,
+    n: u32,
+    from: usize,
+    working: &mut Working<'_>,
+) -> Result<usize, Refusal>
+    ensures same_room { SameRoom working.old working.new }
+    ensures listings_stand { (ns : List Node) (q : ℕ) → times n (node source.now.names) (tokens_of source.now) from ≡ got ns q → RoomToList source.now.names (length source.now.tags.now) working.old → length spelling.entry.letters.now ≤ 16384 → length source.now.tags.now ≤ 4096 → TextStands (listings_text (letters_in spelling.entry) ns) out.old out.new result }
+{
+    let mut text = TextWriter { out, at: 0 };
+    write_listings(&mut text, spelling, source, n, from, working)
 }

@@ -2,66 +2,54 @@
 use Prim.Native.Nat.{ℕ}
 use mathlib.Core.Path.{◌≡◌}
 use mathlib.Core.List.{List}
-use native.Mathlib.Omega.{arith}
 use lib.ListN.{length}
 use Rattle.std.proofs.Common.{Result, Err}
 use Rattle.query.specs.declared.NodeCounts.{NodeCounts}
 use Rattle.definitions.specs.declared.Refusal.{Refusal}
+use Rattle.definitions.specs.declared.FaultRecord.{FaultRecord}
 use Rattle.definitions.specs.Refusals.{accepted, down, told}
-use Rattle.definitions.specs.Answer.{Input, input, rewrite_answer}
-use Rattle.listings.specs.Answers.{clocks_of, listing_of, listings_of, ClocksInWords, ListingGiven}
+use Rattle.definitions.specs.Answer.{Input, input, clocks_answer, listing_answer, listings_answer, text_answer, fault_lines_answer}
+use Rattle.listings.specs.Answers.{clocks_of, listing_of, listings_of, ClocksGiven, ListingGiven}
 use Rattle.listings.proofs.Given.{clocks-refused, listing-refused, listings-refused, clocks-read, listing-read, listings-read}
-use Rattle.declock_project.specs.Given.{RewriteInWords}
 use Rattle.fault_text.specs.Texts.{text_of}
 use Rattle.fault_text.specs.Lines.{fault_lines_of}
-use Rattle.fault_text.proofs.Texts.{text-down, text-read}
-use Rattle.fault_text.proofs.Laws.{lines-down, lines-read}
-use Rattle.workspace.specs.declared.Working.{Working}
-use Rattle.workspace.specs.Room.{Rooms}
-use Rattle.questions.specs.declared.Question.{Question}
-use Rattle.questions.specs.declared.Reply.{Reply}
-use Rattle.questions.specs.Asked.{bytes_replied, clocks_replied, Asked, Enough}
-use Rattle.questions.proofs.Demand.{rewrite-down}
+use Rattle.fault_text.proofs.Texts.{text-read}
+use Rattle.fault_text.proofs.Texts as texts
+use Rattle.fault_text.proofs.Laws.{lines-read}
+use Rattle.fault_text.proofs.Laws as lines
 
--- refusals 1 to 7, whatever is asked
-pub asked-down : (q : Question) (b out es cs fs : List ℕ) (t : Refusal) → told (input b) ≡ down t → Asked q b out es cs fs out es cs fs (Err t)
-asked-down Question.Rewrite b out es cs fs t h = rewrite-down b out fs t h
-asked-down (Question.Clocks k) b out es cs fs t h = clocks-refused b t h k es cs fs
-asked-down (Question.Listing k) b out es cs fs t h = listing-refused b t h k out
-asked-down Question.Listings b out es cs fs t h = listings-refused b t h out
-asked-down (Question.Text k j) b out es cs fs t h = text-down b k j out t h
-asked-down Question.FaultLines b out es cs fs t h = lines-down b out t h
+-- refusals 1 to 7: nothing was called
+module _ (b out out' : List ℕ) (r : Result ℕ Refusal) {t : Refusal} (h : told (input b) ≡ down t) (e : r ≡ Err t) (f : out' ≡ out) where
+  pub listing-down : (k : ℕ) → ListingGiven (listing_answer b k (length out)) out out' r
+  listing-down k = rw (e, f) (listing-refused b t h k out)
 
--- ---- an arm's answer, of a sheet that was read
-module _ (q : Question) (b out es cs fs out' es' cs' fs' : List ℕ) (r : Result Reply Refusal) where
-  pub rewrite-asked : (a : Result ℕ Refusal) → q ≡ Question.Rewrite → bytes_replied r ≡ a → RewriteInWords (rewrite_answer b (length out)) out fs out' fs' a → Asked q b out es cs fs out' es' cs' fs' r
-  rewrite-asked a e f g = rw (e, f) g
+  pub listings-down : ListingGiven (listings_answer b (length out)) out out' r
+  listings-down = rw (e, f) (listings-refused b t h out)
 
-  module _ (i : Input) (h : input b ≡ accepted i) where
-    pub clocks-asked : (k : ℕ) (a : Result NodeCounts Refusal) → q ≡ Question.Clocks k → clocks_replied r ≡ a → ClocksInWords k (clocks_of i k) es cs fs es' cs' fs' a → Asked q b out es cs fs out' es' cs' fs' r
-    clocks-asked k a e f g = rw (e, f, clocks-read b i h k) g
+  pub text-down : (k j : ℕ) → ListingGiven (text_answer b k j (length out)) out out' r
+  text-down k j = rw (e, f) (texts.text-down b k j out t h)
 
-    pub listing-asked : (k : ℕ) (a : Result ℕ Refusal) → q ≡ Question.Listing k → bytes_replied r ≡ a → ListingGiven (listing_of i k (length out)) out out' a → Asked q b out es cs fs out' es' cs' fs' r
-    listing-asked k a e f g = rw (e, f, listing-read b i h k (length out)) g
+  pub lines-down : ListingGiven (fault_lines_answer b (length out)) out out' r
+  lines-down = rw (e, f) (lines.lines-down b out t h)
 
-    pub listings-asked : (a : Result ℕ Refusal) → q ≡ Question.Listings → bytes_replied r ≡ a → ListingGiven (listings_of i (length out)) out out' a → Asked q b out es cs fs out' es' cs' fs' r
-    listings-asked a e f g = rw (e, f, listings-read b i h (length out)) g
+pub clocks-down : (b es cs : List ℕ) (fs : List FaultRecord) {es' cs' : List ℕ} {fs' : List FaultRecord} {k : ℕ} {r : Result NodeCounts Refusal} {t : Refusal} → told (input b) ≡ down t → r ≡ Err t → es' ≡ es → cs' ≡ cs → fs' ≡ fs
+    → ClocksGiven k (clocks_answer b k) es cs fs es' cs' fs' r
+clocks-down b es cs fs {k = k} {t = t} h e f g j = rw (e, f, g, j) (clocks-refused b t h k es cs fs)
 
-    pub text-asked : (k j : ℕ) (a : Result ℕ Refusal) → q ≡ Question.Text k j → bytes_replied r ≡ a → ListingGiven (text_of i k j (length out)) out out' a → Asked q b out es cs fs out' es' cs' fs' r
-    text-asked k j a e f g = rw (e, f, text-read b i h k j (length out)) g
+-- a sheet that was read
+module _ (b out out' : List ℕ) (r : Result ℕ Refusal) {i : Input} (h : input b ≡ accepted i) where
+  pub listing-called : (k : ℕ) → ListingGiven (listing_of i k (length out)) out out' r → ListingGiven (listing_answer b k (length out)) out out' r
+  listing-called k g = rw (listing-read b i h k (length out)) g
 
-    pub lines-asked : (a : Result ℕ Refusal) → q ≡ Question.FaultLines → bytes_replied r ≡ a → ListingGiven (fault_lines_of i (length out)) out out' a → Asked q b out es cs fs out' es' cs' fs' r
-    lines-asked a e f g = rw (e, f, lines-read b i h (length out)) g
+  pub listings-called : ListingGiven (listings_of i (length out)) out out' r → ListingGiven (listings_answer b (length out)) out out' r
+  listings-called g = rw (listings-read b i h (length out)) g
 
--- ---- working tables that are enough have room
-pub rooms-of : {M many clocks findings chains tokens : ℕ} (w : Working) → length w.env.now ≡ clocks → length w.table.now ≡ findings → length w.rows.now ≡ chains → length w.chain.now ≡ tokens → length w.sites.now ≡ chains
-    → Enough M many clocks findings chains tokens → Rooms M many w
-rooms-of w a b c d e r =
-    record {
-      listed = record {
-        clocks = record { few = r.few; clocks = omega (arith, r.named, a); found = omega (arith, r.found, b); sited = omega (arith, r.sited, e) };
-        chains = record { few = omega (arith, r.few-found, b); chained = omega (arith, r.chained, b, c); ordered = omega (arith, r.ordered, b, d) };
-      };
-      typed = omega (arith, r.typed, c);
-      planned = omega (arith, r.planned, d);
-    }
+  pub text-called : (k j : ℕ) → ListingGiven (text_of i k j (length out)) out out' r → ListingGiven (text_answer b k j (length out)) out out' r
+  text-called k j g = rw (text-read b i h k j (length out)) g
+
+  pub lines-called : ListingGiven (fault_lines_of i (length out)) out out' r → ListingGiven (fault_lines_answer b (length out)) out out' r
+  lines-called g = rw (lines-read b i h (length out)) g
+
+pub clocks-called : (b : List ℕ) (k : ℕ) (es₁ cs₁ : List ℕ) (fs₁ : List FaultRecord) {es cs es' cs' : List ℕ} {fs fs' : List FaultRecord} {r : Result NodeCounts Refusal} {i : Input} → input b ≡ accepted i
+    → ClocksGiven k (clocks_of i k) es cs fs es₁ cs₁ fs₁ r → es' ≡ es₁ → cs' ≡ cs₁ → fs' ≡ fs₁ → ClocksGiven k (clocks_answer b k) es cs fs es' cs' fs' r
+clocks-called b k es₁ cs₁ fs₁ {i = i} h g d e f = rw (clocks-read b i h k, d, e, f) g

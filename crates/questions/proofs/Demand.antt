@@ -10,6 +10,7 @@ use lib.ListN.{length, take, get_or}
 use borrow.Author.Tests.{leb-true}
 use Rattle.std.proofs.Common.{Result, Ok, Err}
 use Rattle.definitions.specs.declared.Refusal.{Refusal}
+use Rattle.definitions.specs.declared.FaultRecord.{FaultRecord}
 use Rattle.definitions.specs.Lists.{over}
 use Rattle.definitions.specs.Refusals.{Answer, accepted, refused, faulty, down, told, must}
 use Rattle.definitions.specs.Output.{names_out, sheet_out, within_limits, written}
@@ -19,7 +20,7 @@ use Rattle.shapes.proofs.Accepts.{Accepts, accepts, no-refused, no-faulty, accep
 use Rattle.runs.specs.Demand.{DemandThreeAt}
 use Rattle.runs.proofs.Sheet.{demand-three-at}
 use Rattle.stateless.proofs.Answers.{rewrite-refused}
-use Rattle.declock_project.specs.Given.{RewriteInWords}
+use Rattle.declock_project.specs.Given.{RewriteGiven}
 use Rattle.declock_project.proofs.Outcomes.{given-refused}
 
 -- ---- what a slice of bytes has is below 256
@@ -50,11 +51,11 @@ front-written (b ∷ out) [] h = absurd (omega arith)
 front-written (b ∷ out) (x ∷ lent) h = ap (λ (l : List ℕ). b ∷ l) (front-written out lent (omega arith))
 
 -- THE LAW: where so many bytes were written, they keep every plain node's runs
-pub written-demand : (bytes lent list lent' list' : List ℕ) (a : Result ℕ Refusal) → Bytes bytes → RewriteInWords (rewrite_answer bytes (length lent)) lent list lent' list' a
+pub written-demand : (bytes lent : List ℕ) (list : List FaultRecord) (lent' : List ℕ) (list' : List FaultRecord) (a : Result ℕ Refusal) → Bytes bytes → RewriteGiven (rewrite_answer bytes (length lent)) lent list lent' list' a
     → (n : ℕ) → a ≡ Ok n → DemandThreeAt bytes (take n lent')
 written-demand bytes lent list lent' list' a b g n e = go (rewrite_answer bytes (length lent)) refl g
   where
-    go : (v : Answer (List ℕ)) → rewrite_answer bytes (length lent) ≡ v → RewriteInWords v lent list lent' list' a → DemandThreeAt bytes (take n lent')
+    go : (v : Answer (List ℕ)) → rewrite_answer bytes (length lent) ≡ v → RewriteGiven v lent list lent' list' a → DemandThreeAt bytes (take n lent')
     go (refused r) h x = let y = sym e ∙ x.answer in let z : ◌≡◌ {A = ℕ} 0 1 = cc in absurd (omega arith)
     go (faulty l) h x = let y = sym e ∙ x.answer in let z : ◌≡◌ {A = ℕ} 0 1 = cc in absurd (omega arith)
     go (accepted out) h x =
@@ -64,5 +65,10 @@ written-demand bytes lent list lent' list' a b g n e = go (rewrite_answer bytes 
         subst⁻¹ (DemandThreeAt bytes) f (demand-three-at bytes (length lent) out b h)
 
 -- refusals 1 to 7
-pub rewrite-down : (bytes lent list : List ℕ) (x : Refusal) → told (input bytes) ≡ down x → RewriteInWords (rewrite_answer bytes (length lent)) lent list lent list (Err x)
+pub rewrite-down : (bytes lent : List ℕ) (list : List FaultRecord) (x : Refusal) → told (input bytes) ≡ down x → RewriteGiven (rewrite_answer bytes (length lent)) lent list lent list (Err x)
 rewrite-down bytes lent list x h = given-refused (rewrite_answer bytes (length lent)) lent list x (rewrite-refused bytes (length lent) x h)
+
+-- what was written, and that it keeps every plain node's runs
+pub rewritten : (bytes lent : List ℕ) (list : List FaultRecord) (lent' : List ℕ) (list' : List FaultRecord) {lent'' : List ℕ} {list'' : List FaultRecord} {a : Result ℕ Refusal} → Bytes bytes → RewriteGiven (rewrite_answer bytes (length lent)) lent list lent' list' a → lent'' ≡ lent' → list'' ≡ list'
+    → RewriteGiven (rewrite_answer bytes (length lent)) lent list lent'' list'' a × ((n : ℕ) → a ≡ Ok n → DemandThreeAt bytes (take n lent''))
+rewritten bytes lent list lent' list' b g d e = let h : RewriteGiven (rewrite_answer bytes (length lent)) lent list _ _ _ = rw (d, e) g in (h, written-demand bytes lent list _ _ _ b h)

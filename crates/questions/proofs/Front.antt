@@ -2,11 +2,12 @@
 use mathlib.Core.Path.{◌≡◌, refl, sym, ◌∙◌, ap, subst⁻¹, fun_ext}
 use mathlib.Core.List.{List}
 use mathlib.Core.Bool.{Bool, true, false}
-use Prim.Native.Nat.{ℕ, ◌+◌, ◌-◌, ◌≤◌, ◌<◌}
+use Prim.Native.Nat.{ℕ, zero, suc, ◌+◌, ◌-◌, ◌≤◌, ◌<◌}
 use native.Mathlib.Omega.{arith}
 use lib.Dec.{ltb}
 use borrow.Author.Tests.{ltb-true, ltb-false}
-use lib.ListN.{length, get_or, take, drop, get_or-eq_default}
+use lib.ListN.{length, get_or, take, drop, replicate, get_or-eq_default}
+use Rattle.std.proofs.lemmas.List.{length-replicate}
 use Rattle.definitions.specs.Lists.{sum, over}
 use Rattle.definitions.specs.Bytes.{T, lengths, letters, cut, tokens}
 use Rattle.definitions.specs.Reading.{got}
@@ -15,41 +16,50 @@ use Rattle.definitions.specs.Output.{letters_of}
 use Rattle.definitions.specs.Answer.{Input}
 use Rattle.spelling.specs.Writing.{over_at}
 use Rattle.spelling.proofs.Writing.{over-front}
+use Rattle.spelling.specs.declared.names.Spelling.{Spelling}
 use Rattle.spelling.specs.Places.{starts_from, between, letters_at}
+use Rattle.clock_tables.proofs.FlatLaws.{over-in, over-after}
 use Rattle.spelling.proofs.Places.{starts-length}
 use Rattle.chain_order.proofs.Laws.{letters-of}
 use Rattle.parts.specs.declared.Sizes.{Sizes}
 use Rattle.parts.specs.Answers.{sizes_of, SizedParts, Accepted}
 use Rattle.parts.proofs.Laws.{lengths-part, letters-part, few-lengths, lengths-long, letters-long, names-told, tokens-told}
-use Rattle.sheet.specs.Answers.{Stands}
-use Rattle.query.specs.Words.{zeros}
+use Rattle.grammar.specs.declared.source.Source.{Source}
+use Rattle.questions.specs.Asked.{TokensRead}
 use Rattle.query.specs.Standing.{Standing}
-use Rattle.query.proofs.Words.{over-in, over-after, zero-at, zeros-long}
+
+zero-at : (n i : ℕ) → ◌≡◌ {A = ℕ} (get_or (replicate n 0) i 0) 0
+zero-at zero i = refl
+zero-at (suc n) zero = refl
+zero-at (suc n) (suc i) = zero-at n i
 
 -- a list over zeros, read at any place
-over_zeros : (l : List ℕ) (n i : ℕ) → length l ≤ n → get_or (over l (zeros n)) i 0 ≡ get_or l i 0
+over_zeros : (l : List ℕ) (n i : ℕ) → length l ≤ n → get_or (over l (replicate n 0)) i 0 ≡ get_or l i 0
 over_zeros l n i h = go (ltb i (length l)) refl
   where
-    go : (b : Bool) → ltb i (length l) ≡ b → get_or (over l (zeros n)) i 0 ≡ get_or l i 0
-    go true e = let k : i < length l = ltb-true i (length l) e in over-in l (zeros n) i k (omega (arith, zeros-long n))
+    go : (b : Bool) → ltb i (length l) ≡ b → get_or (over l (replicate n 0)) i 0 ≡ get_or l i 0
+    go true e = let k : i < length l = ltb-true i (length l) e in over-in l (replicate n 0) i k (omega (arith, length-replicate {A = ℕ} n 0))
     go false e =
         let k : length l ≤ i = ltb-false i (length l) e in
-        over-after l (zeros n) i k ∙ (zero-at n i ∙ sym (get_or-eq_default l 0 k))
+        over-after l (replicate n 0) i k ∙ (zero-at n i ∙ sym (get_or-eq_default l 0 k))
 
 same-between : (letters : List ℕ) (a a' b b' : ℕ) → a ≡ a' → b ≡ b' → between letters a b ≡ between letters a' b'
 same-between letters a a' b b' e f = rw (e, f)
 
 -- the letters by starts that stand over zeros
-same-letters : (letters l starts : List ℕ) (n : ℕ) → length l ≤ n → starts ≡ over_at 0 l (zeros n) → letters_at starts letters ≡ letters_at l letters
+same-letters : (letters l starts : List ℕ) (n : ℕ) → length l ≤ n → starts ≡ over_at 0 l (replicate n 0) → letters_at starts letters ≡ letters_at l letters
 unfolding letters_at
 same-letters letters l starts n h e = fun_ext (λ x. same-between letters (get_or starts x 0) (get_or l x 0) (get_or starts (x + 1) 0) (get_or l (x + 1) 0) (at x) (at (x + 1)))
   where
     at : (i : ℕ) → get_or starts i 0 ≡ get_or l i 0
-    at i = ap (λ (s : List ℕ). get_or s i 0) (e ∙ over-front l (zeros n)) ∙ over_zeros l n i h
+    at i = ap (λ (s : List ℕ). get_or s i 0) (e ∙ over-front l (replicate n 0)) ∙ over_zeros l n i h
 
 module _ (b : List ℕ) (s : Sizes) (a : Accepted b × (s ≡ sizes_of b)) where
   sized : SizedParts b s
   sized = subst⁻¹ (SizedParts b) a.1 a.0.sized
+
+  pub few-parts : (s.tokens ≤ 4096) × (s.names ≤ 1024)
+  few-parts = (omega (arith, tokens-told b s sized, sized.many), omega (arith, names-told b s sized, sized.names))
 
   pub few : length (take (12 + s.names - 12) (drop 12 b)) ≤ 1024
   few = few-lengths b s sized
@@ -58,9 +68,9 @@ module _ (b : List ℕ) (s : Sizes) (a : Accepted b × (s ≡ sizes_of b)) where
   summed = omega (arith, ap sum (lengths-part b s sized), a.0.summed, sized.letters)
 
   -- the starts of the names
-  pub starts-stand : (starts : List ℕ) → starts ≡ over_at 0 (starts_from 0 (take (12 + s.names - 12) (drop 12 b))) (zeros 1025) → letters_at starts (letters b) ≡ letters_of (cut (lengths b) (letters b))
+  pub starts-stand : (starts : List ℕ) → starts ≡ over_at 0 (starts_from 0 (take (12 + s.names - 12) (drop 12 b))) (replicate 1025 0) → letters_at starts (letters b) ≡ letters_of (cut (lengths b) (letters b))
   starts-stand starts e =
-      let f : starts ≡ over_at 0 (starts_from 0 (lengths b)) (zeros 1025) = e ∙ ap (λ (l : List ℕ). over_at 0 (starts_from 0 l) (zeros 1025)) (lengths-part b s sized) in
+      let f : starts ≡ over_at 0 (starts_from 0 (lengths b)) (replicate 1025 0) = e ∙ ap (λ (l : List ℕ). over_at 0 (starts_from 0 l) (replicate 1025 0)) (lengths-part b s sized) in
       let m : length (starts_from 0 (lengths b)) ≤ 1025 = omega (arith, starts-length 0 (lengths b), lengths-long b s sized, sized.names) in
       same-letters (letters b) (starts_from 0 (lengths b)) starts 1025 m f ∙ letters-of (lengths b) (letters b) (omega (arith, a.0.summed, letters-long b s sized))
 
@@ -71,26 +81,20 @@ module _ (b : List ℕ) (s : Sizes) (a : Accepted b × (s ≡ sizes_of b)) where
   pub few-letters : length (take (12 + s.names + s.letters - (12 + s.names)) (drop (12 + s.names) b)) ≤ 16384
   few-letters = omega (arith, ap length (letters-part b s sized), letters-long b s sized, sized.letters)
 
-  -- they cut the letters into the names
-  pub cut-names : (ts vs : List ℕ) (i : Input) → Stands b ts vs i
-      → i.names ≡ cut (take (12 + s.names - 12) (drop 12 b)) (take (12 + s.names + s.letters - (12 + s.names)) (drop (12 + s.names) b))
-  cut-names ts vs i z = z.names ∙ rw (lengths-part b s sized, letters-part b s sized)
-
   -- the sheet stands in the tables
-  module _ (ts vs : List ℕ) (i : Input) (z : Stands b ts vs i) where
-    pub tree-there : sheet s.names (tokens (take s.tokens ts) (take s.tokens vs)) 0 ≡ got i.sheet (T b)
-    tree-there = rw (names-told b s sized, tokens-told b s sized) z.tree
+  module _ (source : Source) (i : Input) (z : TokensRead b source i) where
+    -- the lengths cut the letters into the names
+    pub cut-names : i.names ≡ cut (take (12 + s.names - 12) (drop 12 b)) (take (12 + s.names + s.letters - (12 + s.names)) (drop (12 + s.names) b))
+    cut-names = z.names ∙ rw (lengths-part b s sized, letters-part b s sized)
 
-    pub standing : (starts : List ℕ) (names : ℕ) → letters_at starts (letters b) ≡ letters_of (cut (lengths b) (letters b)) → names ≡ s.names
-        → Standing starts (take (12 + s.names + s.letters - (12 + s.names)) (drop (12 + s.names) b)) (take s.tokens ts) (take s.tokens vs) names i
-    standing starts names e n =
-        let p = letters-part b s sized in
-        let t = tokens-told b s sized in
-        let m = n ∙ names-told b s sized in
+    pub standing : (names : Spelling) → letters_at names.starts.now (letters b) ≡ letters_of (cut (lengths b) (letters b))
+        → names.letters.now ≡ take (12 + s.names + s.letters - (12 + s.names)) (drop (12 + s.names) b) → Standing names source i
+    standing names e f =
+        let p = f ∙ letters-part b s sized in
         record {
-          named = ap (letters_at starts) p ∙ (e ∙ ap letters_of (sym z.names));
+          named = ap (letters_at names.starts.now) p ∙ (e ∙ ap letters_of (sym z.names));
           few-letters = omega (arith, ap length p, letters-long b s sized, sized.letters);
-          few-names = omega (arith, m, sized.names);
-          few-tokens = omega (arith, ap (λ (k : ℕ). length (take k ts)) t, z.tags-count, sized.many);
-          tree = rw (m, t, z.tags-count) z.tree;
+          few-names = omega (arith, z.count, sized.names);
+          few-tokens = z.few;
+          tree = z.tree;
         }

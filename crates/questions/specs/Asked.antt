@@ -1,32 +1,40 @@
--- What is answered and written, question by question, by the definitions' answers.
-use Rattle.std.specs.Prelude.{ℕ, ◌*◌, ◌≤◌, List, length, Result, Ok, Err}
-use Rattle.query.specs.declared.NodeCounts.{NodeCounts}
+-- How a sheet is asked: what answers a question is called once on the sheet's names and tokens, with working tables, or not at all.
+use Rattle.std.specs.Prelude.{ℕ, ◌*◌, ◌≤◌, ◌≡◌, ◌⊎◌, List, length, Result, Err}
+use Rattle.std.specs.Borrow.{Bor, MutBor}
 use Rattle.definitions.specs.declared.Refusal.{Refusal}
-use Rattle.definitions.specs.Answer.{rewrite_answer, clocks_answer, listing_answer, listings_answer, text_answer, fault_lines_answer}
-use Rattle.listings.specs.Answers.{ClocksInWords, ListingGiven}
-use Rattle.declock_project.specs.Given.{RewriteInWords}
-use Rattle.questions.specs.declared.Question.{Question}
-use Rattle.questions.specs.declared.Reply.{Reply}
+use Rattle.definitions.specs.Bytes.{M, lengths, letters, cut}
+use Rattle.definitions.specs.Reading.{got}
+use Rattle.definitions.specs.Grammar.{sheet}
+use Rattle.definitions.specs.Refusals.{accepted, down, told}
+use Rattle.grammar.specs.Read.{tokens_of}
+use Rattle.definitions.specs.Answer.{Input, input}
+use Rattle.grammar.specs.declared.source.Source.{Source}
+use Rattle.spelling.specs.declared.sheet_names.SheetNames.{SheetNames}
+use Rattle.workspace.specs.declared.Working.{Working}
+use Rattle.workspace.specs.Room.{Rooms}
+use Rattle.declock_project.specs.Given.{Read}
 
--- a reply as the answer of a kind of question; a reply of another kind, which such a question never gets, is any refusal
-abbrev pub bytes_replied : Result Reply Refusal → Result ℕ Refusal
-bytes_replied (Ok (Reply.Written n)) = Ok n
-bytes_replied (Ok (Reply.Clocks c)) = Err Refusal.Missing
-bytes_replied (Err r) = Err r
+-- the sheet i, which these bytes say, was asked: by a call with its names and tokens, and with working tables that have room
+pub record CalledOn {F R : Type 0} (step : F → SheetNames → Bor Source → MutBor Working → R → MutBor Working → F → Type 0) (old new : F) (bytes : List ℕ) (i : Input) (r : R) : Type 0 where
+  pub names : SheetNames
+  pub source : Bor Source
+  pub before : MutBor Working
+  pub after : MutBor Working
+  pub read : Read names.lengths.now names.spelling source.now bytes i
+  pub room : Rooms source.now.names (length source.now.tags.now) before.now
+  pub called : step old names source before r after new
 
-abbrev pub clocks_replied : Result Reply Refusal → Result NodeCounts Refusal
-clocks_replied (Ok (Reply.Written n)) = Err Refusal.Missing
-clocks_replied (Ok (Reply.Clocks c)) = Ok c
-clocks_replied (Err r) = Err r
+-- the same of bytes that say a sheet
+pub record Called {F R : Type 0} (step : F → SheetNames → Bor Source → MutBor Working → R → MutBor Working → F → Type 0) (old new : F) (bytes : List ℕ) (r : R) : Type 0 where
+  pub input : Input
+  pub call : CalledOn step old new bytes input r
 
--- a question was asked of these bytes: the reply, and the lent bytes, equations, chains and faults afterwards
-abbrev pub Asked : Question → (bytes out es cs fs out' es' cs' fs' : List ℕ) → Result Reply Refusal → Type 0
-Asked Question.Rewrite bytes out es cs fs out' es' cs' fs' r = RewriteInWords (rewrite_answer bytes (length out)) out fs out' fs' (bytes_replied r)
-Asked (Question.Clocks k) bytes out es cs fs out' es' cs' fs' r = ClocksInWords k (clocks_answer bytes k) es cs fs es' cs' fs' (clocks_replied r)
-Asked (Question.Listing k) bytes out es cs fs out' es' cs' fs' r = ListingGiven (listing_answer bytes k (length out)) out out' (bytes_replied r)
-Asked Question.Listings bytes out es cs fs out' es' cs' fs' r = ListingGiven (listings_answer bytes (length out)) out out' (bytes_replied r)
-Asked (Question.Text k j) bytes out es cs fs out' es' cs' fs' r = ListingGiven (text_answer bytes k j (length out)) out out' (bytes_replied r)
-Asked Question.FaultLines bytes out es cs fs out' es' cs' fs' r = ListingGiven (fault_lines_answer bytes (length out)) out out' (bytes_replied r)
+-- refusals 1 to 7: nothing was called
+pub record NotCalled {F T : Type 0} (old new : F) (bytes : List ℕ) (r : Result T Refusal) : Type 0 where
+  pub refusal : Refusal
+  pub told : told (input bytes) ≡ down refusal
+  pub answer : r ≡ Err refusal
+  pub kept : new ≡ old
 
 -- working tables of so many words, for names' clocks, for findings, for rows and sites and for tokens' order, are enough for a sheet of M
 -- names and so many tokens
@@ -40,3 +48,11 @@ pub record Enough (M many clocks findings chains tokens : ℕ) : Type 0 where
   pub ordered : findings ≤ 38 * tokens
   pub typed : M ≤ chains
   pub planned : many ≤ tokens
+
+-- these are the tokens of the sheet i, which these bytes say
+pub record TokensRead (bytes : List ℕ) (source : Source) (i : Input) : Type 0 where
+  pub reading : input bytes ≡ accepted i
+  pub names : i.names ≡ cut (lengths bytes) (letters bytes)
+  pub count : source.names ≡ M bytes
+  pub few : length source.tags.now ≤ 4096
+  pub tree : sheet source.names (tokens_of source) 0 ≡ got i.sheet (length source.tags.now)

@@ -5,9 +5,8 @@ ghost use Rattle.std.specs.Prelude.{◌≤◌};
 
 use arguments::Word;
 use definitions::Refusal;
-use spelling::TextWriter;
 use std::io;
-use std::io::{Read, Write};
+use std::io::Write;
 
 const HELP: &[u8] =
     b"rewrite [BYTES]: rewrites the sheet on standard input to run on one base tick, to standard output.
@@ -44,20 +43,6 @@ const ENOUGH: usize = 65536;
 // A sheet of less than 64 bytes has too few tokens for a when: it comes out as it is, and fits in what it was read into.
 const FEW: usize = 4096;
 
-// `faults COUNT`
-fn show_count(errors: &mut impl Write, count: usize) -> io::Result<()> {
-    let mut line = [0u8; 128];
-    let mut text = TextWriter {
-        out: &mut line,
-        at: 0,
-    };
-    text.put_all(b"faults");
-    text.put_number(count);
-    text.put(b'\n');
-    let n = text.at;
-    arguments::show(errors, &line, n)
-}
-
 // A line for each faulty node, its first fault: 16,384 bytes are enough for sixteen, the longest being 819.
 fn show_faults(errors: &mut impl Write, sheet: &[u8]) -> io::Result<()> {
     let mut lines = [0u8; 16384];
@@ -70,7 +55,7 @@ fn show_faults(errors: &mut impl Write, sheet: &[u8]) -> io::Result<()> {
 fn refuse(errors: &mut impl Write, sheet: &[u8], r: Refusal) -> io::Result<()> {
     arguments::refuse(errors, r)?;
     if let Refusal::Faulty(count) = r {
-        show_count(errors, count)?;
+        writeln!(errors, "faults {count}")?;
         show_faults(errors, sheet)?;
     }
     Ok(())
@@ -105,48 +90,33 @@ fn rewrite_lent<const N: usize>(
     rewrite(output, errors, sheet, &mut out[..lent.min(N)])
 }
 
-// A sheet of which these bytes are read. Never inlined, as the one above.
-#[inline(never)]
-fn answer_long(
-    input: &mut impl Read,
-    output: &mut impl Write,
-    errors: &mut impl Write,
-    start: &[u8; 4096],
-    lent: usize,
-) -> io::Result<()> {
-    let mut sheet = [0u8; 65536];
-    let n = arguments::read_on(input, start, &mut sheet)?;
-    rewrite_lent::<ENOUGH>(output, errors, &sheet[..n], lent)
-}
-
+// A sheet of so few bytes that it comes out as it is has a small table.
 fn answer(
-    input: &mut impl Read,
     output: &mut impl Write,
     errors: &mut impl Write,
+    sheet: &[u8],
     lent: usize,
 ) -> io::Result<()> {
-    let mut start = [0u8; 4096];
-    let n = arguments::read_full(input, &mut start)?;
-    if n < 64 {
-        return rewrite_lent::<FEW>(output, errors, &start[..n], lent);
+    if sheet.len() < 64 {
+        return rewrite_lent::<FEW>(output, errors, sheet, lent);
     }
-    if n < 4096 {
-        return rewrite_lent::<ENOUGH>(output, errors, &start[..n], lent);
-    }
-    answer_long(input, output, errors, &start, lent)
+    rewrite_lent::<ENOUGH>(output, errors, sheet, lent)
 }
 
 fn main(rt: HostRuntime) -> io::Result<()> {
-    let mut input = rt.stdin();
     let mut output = rt.stdout();
     let mut errors = rt.stderr();
     if arguments::argument(&rt, 2).is_some() {
         return errors.write_all(WRONG);
     }
-    match arguments::argument(&rt, 1) {
-        None => answer(&mut input, &mut output, &mut errors, ENOUGH),
-        Some(Word::Help) => output.write_all(HELP),
-        Some(Word::Number(lent)) => answer(&mut input, &mut output, &mut errors, lent),
-        Some(Word::Other) => errors.write_all(WRONG),
-    }
+    let lent = match arguments::argument(&rt, 1) {
+        None => ENOUGH,
+        Some(Word::Help) => return output.write_all(HELP),
+        Some(Word::Number(lent)) => lent,
+        Some(Word::Other) => return errors.write_all(WRONG),
+    };
+    arguments::with_sheet(
+        &mut rt.stdin(),
+        |sheet| answer(&mut output, &mut errors, sheet, lent),
+    )
 }

@@ -12,6 +12,7 @@ ghost use Rattle.definitions.specs.Refusals.{told};
 ghost use Rattle.definitions.specs.InferClocks.{uses_clocks};
 ghost use Rattle.sheet.specs.Answers.{tokens_answer, checked_told, SheetRead};
 
+use cycles::TypeTable;
 use definitions::{MOST_TOKENS, MOST_TYPES, Refusal};
 use grammar::Source;
 use parts::Sizes;
@@ -22,8 +23,11 @@ fn check_types(source: &Source<'_>) -> Result<(), Refusal>
 {
     let types = layout::sheet_at(source).types;
     let count = MOST_TYPES.min(types.count as usize);
-    let places = layout::definition_places(source, count, types.at);
-    match cycles::first_cycle(source, &places) {
+    let table = TypeTable {
+        source: *source,
+        places: &layout::definition_places(source, count, types.at),
+    };
+    match cycles::first_cycle(&table) {
         Some(cycle) => Err(Refusal::Cycle(cycle)),
         None => Ok(()),
     }

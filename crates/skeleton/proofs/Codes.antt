@@ -6,6 +6,7 @@ use mathlib.Core.List.{List, [], ◌∷◌, ◌++◌, map}
 use Prim.Native.Nat.{ℕ}
 use lib.Dec.{eqb, ltb}
 use borrow.Author.Tests.{eqb-true}
+use Rattle.std.proofs.lemmas.List.{map-append}
 use Rattle.definitions.specs.declared.UnaryOp.{UnaryOp}
 use Rattle.definitions.specs.declared.BinOp.{BinOp}
 use Rattle.definitions.specs.declared.Primitive.{Primitive}
@@ -18,13 +19,9 @@ use Rattle.definitions.specs.Tokens.{TagValue, tag_value, unary_of, binary_of, p
 use Rattle.shapes.proofs.Decoded.{Maybe, pick, maybe-given, maybe-mapped}
 
 -- the codes of tokens, one list after another
-pub codes-append : (a b : List Token) → map code_of (a ++ b) ≡ map code_of a ++ map code_of b
-codes-append [] b = refl
-codes-append (x ∷ a) b = ap {B = List TagValue} (λ z. code_of x ∷ z) (codes-append a b)
-
 pub codes-join : (ps : List (List Token)) → map code_of (join ps) ≡ join (map (map code_of) ps)
 codes-join [] = refl
-codes-join (x ∷ ps) = codes-append x (join ps) ∙ ap (λ (z : List TagValue). map code_of x ++ z) (codes-join ps)
+codes-join (x ∷ ps) = map-append code_of x (join ps) ∙ ap (λ (z : List TagValue). map code_of x ++ z) (codes-join ps)
 
 -- the tag and value of what is allowed
 unary-decoded : (v : ℕ) → Maybe (λ o. unary_value o ≡ v) (unary_of v)

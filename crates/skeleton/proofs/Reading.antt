@@ -3,12 +3,13 @@
 use mathlib.Core.Path.{◌≡◌, refl, sym, ◌∙◌, ap, ap₂, subst}
 use mathlib.Core.List.{List, [], ◌∷◌, ◌++◌, map, append-nil}
 use mathlib.Core.Option.{none, some}
-use mathlib.Core.Bool.{Bool, true, false}
-use Prim.Native.Nat.{ℕ, zero, suc, ◌+◌, ◌-◌, ◌≤◌, ◌<◌}
+use mathlib.Core.Bool.{true, false}
+use Prim.Native.Nat.{ℕ, zero, suc, ◌+◌, ◌≤◌, ◌<◌}
 use native.Mathlib.Omega.{arith}
 use native.Mathlib.Numerals.{sub-one}
 use lib.Dec.{eqb}
 use lib.ListN.{length, get_or, take, drop, length-map, length-drop}
+use Rattle.std.proofs.lemmas.List.{map-append}
 use Rattle.definitions.specs.declared.Literal.{Literal}
 use Rattle.definitions.specs.declared.Primitive.{Primitive}
 use Rattle.definitions.specs.declared.TypeToken.{TypeToken}
@@ -36,7 +37,7 @@ use Rattle.operands.proofs.Deeper.{expr-deeper}
 use Rattle.stateless.specs.Need.{is_bare}
 use Rattle.skeleton.specs.Around.{around}
 use Rattle.skeleton.specs.Lies.{Frame, weave, is_plain, Computes, Lies, LiesAt}
-use Rattle.skeleton.proofs.Codes.{codes-append, codes-join, type-decoded, expr-decoded}
+use Rattle.skeleton.proofs.Codes.{codes-join, type-decoded, expr-decoded}
 
 -- ---- frames
 holes : ℕ → Frame → Frame
@@ -84,7 +85,7 @@ fields-law : (xs : List ℕ) (ps : List (List Token)) → length ps ≡ length x
 unfolding weave named field_tokens code_of
 fields-law [] ps h = refl
 fields-law (x ∷ xs) [] h = absurd (omega arith)
-fields-law (x ∷ xs) (p ∷ ps) h = ap {B = List TagValue} (λ z. tag_value 4 x ∷ z) (ap {B = List TagValue} (λ z. map code_of p ++ z) (fields-law xs ps (omega arith)) ∙ sym (codes-append p (field_tokens xs ps)))
+fields-law (x ∷ xs) (p ∷ ps) h = ap {B = List TagValue} (λ z. tag_value 4 x ∷ z) (ap {B = List TagValue} (λ z. map code_of p ++ z) (fields-law xs ps (omega arith)) ∙ sym (map-append code_of p (field_tokens xs ps)))
 
 map-take : (k : ℕ) (ps : List (List Token)) → take k (map (map code_of) ps) ≡ map (map code_of) (take k ps)
 map-take zero ps = refl
@@ -105,7 +106,7 @@ iteration-law k n ps h =
     ap {B = List TagValue} (λ z. tag_value 3 k ∷ z)
     (weave-holes k (some (tag_value 3 n) ∷ holes n []) (map (map code_of) ps) (omega arith)
     ∙ (rw (map-take k ps, map-drop k ps, items-law n (drop k ps) e, ← codes-join (take k ps), e)
-    (sym (codes-append (join (take k ps)) (Token.Count n ∷ join (drop k ps))))))
+    (sym (map-append code_of (join (take k ps)) (Token.Count n ∷ join (drop k ps))))))
 
 -- a count and so many operands
 items-codes : (n : ℕ) (ps : List (List Token)) → length ps ≡ n → map code_of (item_tokens ps) ≡ tag_value 3 n ∷ weave (holes n []) (map (map code_of) ps)
@@ -114,7 +115,7 @@ items-codes n ps h = ap₂ {C = List TagValue} (λ (a : ℕ) (z : List TagValue)
 
 -- a type and one operand
 cast-codes : (a : Ty) (ps : List (List Token)) → length ps ≡ 1 → map code_of (ty_tokens a ++ join ps) ≡ weave (signs (map code_of (ty_tokens a)) (holes 1 [])) (map (map code_of) ps)
-cast-codes a ps h = codes-append (ty_tokens a) (join ps) ∙ (ap (λ (z : List TagValue). map code_of (ty_tokens a) ++ z) (sym (items-law 1 ps h)) ∙ sym (weave-signs (map code_of (ty_tokens a)) (holes 1 []) (map (map code_of) ps)))
+cast-codes a ps h = map-append code_of (ty_tokens a) (join ps) ∙ (ap (λ (z : List TagValue). map code_of (ty_tokens a) ++ z) (sym (items-law 1 ps h)) ∙ sym (weave-signs (map code_of (ty_tokens a)) (holes 1 []) (map (map code_of) ps)))
 
 -- ---- trees
 append-end : (es : Exprs) → append es Exprs.end ≡ es

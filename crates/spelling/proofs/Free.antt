@@ -2,15 +2,17 @@
 use Prim.Native.Nat.{ℕ, zero, suc, ◌+◌, ◌-◌, ◌^◌, ◌≤◌, ◌<◌}
 use mathlib.Core.Path.{◌≡◌, refl, sym, ap, ◌∙◌}
 use mathlib.Core.Bool.{Bool, true, false, ◌||◌, not}
-use mathlib.Core.List.{List, [], ◌∷◌, ◌++◌, map}
+use mathlib.Core.List.{List, [], ◌∷◌, ◌++◌, map, map-append}
 use native.Mathlib.Nat.{zero-add, suc-add, add-suc, add-zero}
-use native.Mathlib.Numerals.{add-one, sub-one}
+use native.Mathlib.Numerals.{add-one}
 use native.Mathlib.Omega.{arith}
 use lib.Dec.{eqb, ltb}
 use lib.ListN.{length, get_or, take, set, length-append}
 use lib.Seq.{get_or-append_seam, take_all, take-suc-set}
 use borrow.Author.Tests.{eqb-true, eqb-false, ltb-true, ltb-false}
 use Rattle.definitions.specs.Lists.{choose, any, keep, up_from, Letters, same_letters, decimal}
+use Rattle.std.specs.Prelude.{Option, Some, None}
+use Rattle.std.specs.Option.{MatchOption, unwrap_or}
 use Rattle.definitions.specs.Tree.{Node}
 use Rattle.definitions.specs.Declock.{Stem}
 use Rattle.definitions.specs.Output.{stem_letters, new_letters}
@@ -35,10 +37,6 @@ up-add k (suc m) n = rw (suc-add m n) (ap (λ l. k ∷ l) (up-add (suc k) m n �
 up-length : (k n : ℕ) → length (up_from k n) ≡ n
 up-length k zero = refl
 up-length k (suc n) = ap suc (up-length (suc k) n)
-
-map-append : {A B : Type 0} (f : A → B) (a b : List A) → map f (a ++ b) ≡ map f a ++ map f b
-map-append f [] b = refl
-map-append f (x ∷ a) b = ap (λ l. f x ∷ l) (map-append f a b)
 
 module _ {A : Type 0} where
   keep_append : (p : A → Bool) (a b : List A) → keep p (a ++ b) ≡ keep p a ++ keep p b
@@ -112,15 +110,7 @@ module _ (taken : List Letters) (stem : Stem) where
   unfolding seek
   step n k t e = rw e
 
-  pub seek-here : (k left : ℕ) {r : Bool} → 0 < left → r ≡ is_free taken stem k → r ≡ true → seek taken stem left k ≡ k
-  seek-here k zero h e f = absurd (omega arith)
-  seek-here k (suc n) h e f = step n k true (sym e ∙ f)
-
-  pub seek-next : (k left : ℕ) {r : Bool} → 0 < left → r ≡ is_free taken stem k → r ≡ false → seek taken stem left k ≡ seek taken stem (left - 1) (k + 1)
-  seek-next k zero h e f = absurd (omega arith)
-  seek-next k (suc n) h e f = rw (sub-one (suc n), add-one k) (step n k false (sym e ∙ f))
-
-  pub seek-end : (k left : ℕ) → left ≡ 0 → seek taken stem left k ≡ k
+  seek-end : (k left : ℕ) → left ≡ 0 → seek taken stem left k ≡ k
   unfolding seek
   seek-end k left e = rw e
 
@@ -156,6 +146,28 @@ module _ (taken : List Letters) (stem : Stem) where
       go : (t : Bool) → is_free taken stem k ≡ t → (seek taken stem n (suc k) < suc k + n → is_free taken stem (seek taken stem n (suc k)) ≡ true) → is_free taken stem (seek taken stem (suc n) k) ≡ true
       go true e g = rw (step n k true e) e
       go false e g = rw (step n k false e) (g (omega (arith, step n k false e)))
+
+  -- what a search from k on answers
+  seek-none : (n k : ℕ) → ((i : ℕ) → k ≤ i → i < k + n → is_free taken stem i ≡ false) → seek taken stem n k ≡ k + n
+  seek-none zero k h = omega (arith, seek-end k 0 refl)
+  seek-none (suc n) k h = step n k false (h k (omega arith) (omega arith)) ∙ (seek-none n (suc k) (λ i a b. h i (omega arith) (omega arith)) ∙ omega arith)
+
+  seek-some : (n k i : ℕ) → k ≤ i → i < k + n → is_free taken stem i ≡ true → ((j : ℕ) → k ≤ j → j < i → is_free taken stem j ≡ false) → seek taken stem n k ≡ i
+  seek-some zero k i a b f h = absurd (omega arith)
+  seek-some (suc n) k i a b f h = go (eqb k i) refl (λ c. seek-some n (suc k) i c (omega arith) f (λ j u v. h j (omega arith) v))
+    where
+      go : (t : Bool) → eqb k i ≡ t → (suc k ≤ i → seek taken stem n (suc k) ≡ i) → seek taken stem (suc n) k ≡ i
+      go true e r = let z : k ≡ i = eqb-true k i e in step n k true (ap (is_free taken stem) z ∙ f) ∙ z
+      go false e r =
+          let z : k ≡ i → ⊥ = eqb-false k i e in
+          step n k false (h k (omega arith) (omega arith)) ∙ r (omega arith)
+
+  pub found-next : (k last : ℕ) (o : Option ℕ) → last ≡ k + length taken
+      → MatchOption o ((j : ℕ) → k ≤ j → j < last → is_free taken stem j ≡ false) (λ i. (k ≤ i) × (i < last) × (is_free taken stem i ≡ true) × ((j : ℕ) → k ≤ j → j < i → is_free taken stem j ≡ false))
+      → unwrap_or o last ≡ next_free taken stem k
+  unfolding next_free
+  found-next k last None e m = e ∙ sym (seek-none (length taken) k (λ i a b. m i a (omega arith)))
+  found-next k last (Some i) e m = sym (seek-some (length taken) k i m.0 (omega (arith, m.1, e)) m.2 m.3)
 
   -- ---- one more number than names: one is free
   -- the numbers that are free are no fewer than the others leave
@@ -284,12 +296,3 @@ module _ (taken : List Letters) (stem : Stem) (i from : ℕ) (e : free_below tak
 
 pub numbers-end : (taken : List Letters) (stem : Stem) (i : ℕ) (out : List ℕ) → length out ≤ i → i ≤ length out → take i out ≡ new_numbers taken stem i → out ≡ new_numbers taken stem (length out)
 numbers-end taken stem i out a b g = let z : i ≡ length out = omega arith in rw z at (sym (take_all i out a) ∙ g)
-
-pub map-length : {A B : Type 0} (f : A → B) (l : List A) → length (map f l) ≡ length l
-map-length f [] = refl
-map-length f (a ∷ l) = ap suc (map-length f l)
-
--- the search starts with as many trials as ids
-pub seek-start : (f : ℕ → Letters) (ids : List ℕ) (stem : Stem) (k : ℕ) → next_free (map f ids) stem k ≡ seek (map f ids) stem (length ids) k
-unfolding next_free
-seek-start f ids stem k = ap (λ n. seek (map f ids) stem n k) (map-length f ids)

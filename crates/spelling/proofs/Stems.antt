@@ -1,7 +1,8 @@
 -- Laws on the letters of new names.
+use Rattle.std.proofs.lemmas.List.{append_cancel_left}
 use Prim.Native.Nat.{ℕ, ◌^◌, ◌≤◌, ◌<◌}
 use mathlib.Core.Path.{◌≡◌}
-use mathlib.Core.List.{List, [], ◌∷◌, ◌++◌}
+use mathlib.Core.List.{◌++◌}
 use native.Mathlib.Omega.{arith}
 use lib.Dec.{lit≤}
 use lib.ListN.{length, length-append}
@@ -24,17 +25,6 @@ unfolding bytes
 new-length (NewName.Numbered stem n) = simp length-append (omega (arith, stem-length (stem_of stem), decimal-length n))
 new-length NewName.Condact = lit≤ tt
 
--- a new name has letters
-pub new-some : (s : Stem) (n : ℕ) → 0 < length (stem_letters s ++ decimal n)
-unfolding bytes
-new-some ck n = omega arith
-new-some first n = omega arith
-new-some hold n = omega arith
-
 -- new names of a stem say their numbers
-front_same : (a b c : List ℕ) → a ++ b ≡ a ++ c → b ≡ c
-front_same [] b c e = e
-front_same (x ∷ a) b c e = front_same a b c (cc)
-
 pub new-same : (s : Stem) (m n : ℕ) → m < 2 ^ 64 → n < 2 ^ 64 → stem_letters s ++ decimal m ≡ stem_letters s ++ decimal n → m ≡ n
-new-same s m n h k e = decimal-same m n h k (front_same (stem_letters s) (decimal m) (decimal n) e)
+new-same s m n h k e = decimal-same m n h k (append_cancel_left (stem_letters s) (decimal m) (decimal n) e)

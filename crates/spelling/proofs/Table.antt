@@ -1,13 +1,15 @@
 -- Laws on a table of names that grows.
 use Prim.Native.Nat.{ℕ, suc, ◌+◌, ◌-◌, ◌≤◌, ◌<◌}
 use mathlib.Core.Path.{◌≡◌, refl, sym, ap, ◌∙◌}
-use mathlib.Core.Bool.{Bool, true, false, ◌&&◌, ◌||◌, not}
+use mathlib.Core.Bool.{Bool, true, false, false≢true, ◌&&◌, ◌||◌, not}
 use mathlib.Core.List.{List, [], ◌∷◌, ◌++◌, map}
 use mathlib.Core.Logic.{◌⊎◌, inl, inr}
 use native.Mathlib.Nat.{zero-add}
 use native.Mathlib.Numerals.{add-one}
 use native.Mathlib.Omega.{arith}
 use lib.Dec.{leb}
+use Rattle.std.specs.Prelude.{Option, Some, None, is_some, IfSome}
+use Rattle.std.specs.Option.{unwrap_or}
 use lib.ListN.{length, take, drop, set, length-append, length-drop, take-append-drop}
 use lib.Seq.{take-length, take-suc-set, length-take-le, take-append-le, drop-append-le}
 use borrow.Author.Tests.{le-leb, leb-true}
@@ -59,6 +61,15 @@ id-most (m ∷ names) n = go (same_letters n m) (id-most names n)
 -- that of `condact` among names cut out of letters
 pub condact-few : (lens letters : List ℕ) (x : ℕ) → x ≡ condact_id (cut lens letters) → length lens ≤ 1024 → x ≤ 1024
 condact-few lens letters x e h = omega (arith, id-most (cut lens letters) (bytes "condact"), cut-length lens letters)
+
+-- ---- a place, if there is one
+there-within : (o : Option ℕ) (n : ℕ) → IfSome o (λ i. i < n) → is_some o ≡ true → unwrap_or o n < n
+there-within None n h e = absurd (false≢true e)
+there-within (Some i) n h e = h
+
+none-behind : (o : Option ℕ) (n : ℕ) → is_some o ≡ false → n ≤ unwrap_or o n
+none-behind None n e = omega arith
+none-behind (Some i) n e = absurd (false≢true (sym e))
 
 -- ---- names cut out of letters
 cut-last : (lens letters : List ℕ) (name : Letters) → sum lens ≡ length letters → cut (lens ++ (length name ∷ [])) (letters ++ name) ≡ cut lens letters ++ (name ∷ [])
@@ -123,9 +134,6 @@ module _ {many long : ℕ} where
     pub used : sum (take t.names t.lengths) ≡ length (take t.used t.letters)
     used = t.summed ∙ sym (length-take-le t.used t.letters letters-within)
 
-    pub used-within : sum (take t.names t.lengths) ≤ length (take t.used t.letters)
-    used-within = omega (arith, used)
-
     pub names-count : length (names_of t) ≡ t.names
     unfolding names_of
     names-count = cut-length (take t.names t.lengths) (take t.used t.letters) ∙ length-take-le t.names t.lengths names-within
@@ -187,15 +195,17 @@ module _ {many long : ℕ} where
             }
 
     -- a name present is not added
-    pub stays-there : {r : ℕ} → t.full ≡ false → r ≡ id_of (names_of t) name → r < t.names → NamesHeld t (add_name names name)
-    stays-there e f k =
+    pub stays-there : (o : Option ℕ) → t.full ≡ false → unwrap_or o t.names ≡ id_of (names_of t) name → IfSome o (λ i. i < t.names) → is_some o ≡ true → NamesHeld t (add_name names name)
+    stays-there o e f i j =
+        let k : unwrap_or o t.names < t.names = there-within o t.names i j in
         let g : any (same_letters name) names ≡ true = ap (λ l. any (same_letters name) l) (h.kept e) ∙ present t name f k in
         rw g h
 
     -- any other is put behind
-    pub goes_on : {r : ℕ} {t₁ : NameTable many long} → t.full ≡ false → r ≡ id_of (names_of t) name → t.names ≤ r
+    pub goes_on : (o : Option ℕ) {t₁ : NameTable many long} → t.full ≡ false → unwrap_or o t.names ≡ id_of (names_of t) name → is_some o ≡ false
         → ((ns : List Letters) → ns ≡ names_of t → NamesHeld t₁ (ns ++ (name ∷ []))) → NamesHeld t₁ (add_name names name)
-    goes_on e f k m =
+    goes_on o e f j m =
+        let k : t.names ≤ unwrap_or o t.names = none-behind o t.names j in
         let g : any (same_letters name) names ≡ false = ap (λ l. any (same_letters name) l) (h.kept e) ∙ absent t name f k in
         rw g (m names (h.kept e))
 

@@ -6,7 +6,7 @@ use Prim.Native.Nat.{◌+◌}
 use lib.ListN.{length, length-append}
 use Rattle.definitions.specs.Lists.{Letters}
 use Rattle.spelling.specs.Writing.{over_at}
-use Rattle.spelling.proofs.Writing.{over_nothing, over-then, length_over, past, put-length}
+use Rattle.spelling.proofs.Writing.{over_nothing, over-then, length_over, past}
 use Rattle.spelling.specs.Written.{Wrote}
 use Rattle.spelling.specs.declared.text_writer.TextWriter.{TextWriter}
 
@@ -31,7 +31,3 @@ wrote_as e u = rw e at u
 -- nothing was put
 pub wrote_none : (w : TextWriter) → Wrote [] w w
 wrote_none w = record { same = refl; next = omega (arith, w.counted); put = record { place = omega arith; bytes = sym (over_nothing w.at w.out.now) } }
-
--- how long the lent bytes are stays
-pub wrote-length : {l : Letters} {w w₁ : TextWriter} → Wrote l w w₁ → length w₁.out.now ≡ length w.out.now
-wrote-length u = put-length u.put

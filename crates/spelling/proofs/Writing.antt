@@ -45,6 +45,14 @@ module _ {A : Type 0} where
   over-past (suc p) l [] h = refl
   over-past (suc p) l (b ∷ s) h = ap (λ r. b ∷ r) (over-past p l s (omega arith))
 
+  -- what stands before, then the list over the rest
+  pub over-parts : (p : ℕ) (l s : List A) → over_at p l s ≡ take p s ++ over l (drop p s)
+  unfolding over_at
+  over-parts zero l s = refl
+  over-parts (suc p) [] [] = refl
+  over-parts (suc p) (a ∷ l) [] = refl
+  over-parts (suc p) l (b ∷ s) = ap (λ r. b ∷ r) (over-parts p l s)
+
   -- one byte is a store
   pub over-set : (p : ℕ) (a : A) (s : List A) → over_at p (a ∷ []) s ≡ set s p a
   unfolding over_at

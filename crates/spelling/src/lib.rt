@@ -3,9 +3,11 @@
 
 mod name_table;
 mod names;
+mod sheet_names;
 mod text_writer;
 
-ghost use Rattle.std.specs.Prelude.{◌≡◌, map, ◌+◌, ◌≤◌, ◌^◌, ◌<◌, length};
+ghost use Rattle.std.specs.Prelude.{◌≡◌, map, ◌+◌, ◌≤◌, ◌^◌, ◌<◌, length, IfSome};
+ghost use Rattle.std.specs.Option.{unwrap_or};
 ghost use Rattle.definitions.specs.Lists.{sum, any, same_letters};
 ghost use Rattle.definitions.specs.Output.{id_of};
 ghost use Rattle.spelling.specs.Writing.{over_at};
@@ -17,6 +19,7 @@ ghost use Rattle.spelling.specs.Free.{is_free, next_free, new_numbers};
 use definitions::NAME_LETTERS;
 pub use name_table::{NameTable, OutputNames};
 pub use names::Spelling;
+pub use sheet_names::SheetNames;
 pub use text_writer::TextWriter;
 
 // ---- The letters of new names and of texts, put at a place of lent bytes.
@@ -91,12 +94,9 @@ fn next_free(spelling: Spelling<'_>, ids: &[u32], stem: StemName, from: u32) -> 
     ensures { result ≡ next_free (map (letters_in spelling.entry) ids.now) (stem_of stem) from }
 {
     let last = from + ids.len() as u32;
-    for number in from..last {
-        if is_free(spelling, ids, stem, number) {
-            return number;
-        }
-    }
-    last
+    (from..last)
+        .find(|&number| is_free(spelling, ids, stem, number))
+        .unwrap_or(last)
 }
 
 // The numbers of the first new names of a stem, as many as `out` holds.
@@ -105,35 +105,35 @@ pub fn fill_numbers(spelling: Spelling<'_>, ids: &[u32], stem: StemName, out: &m
     ensures { out.new ≡ new_numbers (map (letters_in spelling.entry) ids.now) (stem_of stem) (length out.old) }
 {
     let mut from: u32 = 0;
-    for i in 0..out.len() {
-        let number = next_free(spelling, ids, stem, from);
-        out[i] = number;
-        from = number + 1;
+    for number in out.iter_mut() {
+        *number = next_free(spelling, ids, stem, from);
+        from = *number + 1;
     }
 }
 
-// A name's id.
-// Stays (no plainer): `id_of` of the definitions is the number of names, where it is none of them.
-fn find_name(lengths: &[u8], letters: &[u8], name: &[u8]) -> usize
+// The place of some letters among the names, if they are one of them.
+fn find_name(lengths: &[u8], letters: &[u8], name: &[u8]) -> Option<usize>
     requires { sum lengths.now ≤ length letters.now }
-    ensures { result ≡ id_of (cut lengths.now letters.now) name.now }
+    ensures value { unwrap_or result (length lengths.now) ≡ id_of (cut lengths.now letters.now) name.now }
+    ensures in_bounds { IfSome result (λ i. i < length lengths.now) }
 {
     let mut rest = letters;
     for (i, &n) in lengths.iter().enumerate() {
         let (first, others) = rest.split_at(n as usize);
         if name == first {
-            return i;
+            return Some(i);
         }
         rest = others;
     }
-    lengths.len()
+    None
 }
 
-// The id of a new name.
-pub fn find_new(lengths: &[u8], letters: &[u8], name: NewName) -> usize
+// The id of a new name: the number of names, where it is none of them.
+pub(crate) fn find_new(lengths: &[u8], letters: &[u8], name: NewName) -> usize
     requires { sum lengths.now ≤ length letters.now }
     ensures { result ≡ id_of (cut lengths.now letters.now) (new_letters name) }
 {
     let mut buffer = [0u8; NAME_LETTERS];
-    find_name(lengths, letters, spell(name, &mut buffer))
+    let spelled = spell(name, &mut buffer);
+    find_name(lengths, letters, spelled).unwrap_or(lengths.len())
 }

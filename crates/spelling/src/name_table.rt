@@ -1,5 +1,6 @@
 // A table of names that grows.
-ghost use Rattle.std.specs.Prelude.{◌≡◌, ◌≤◌, ◌<◌, List, [], ◌∷◌, ◌++◌, length, take};
+ghost use Rattle.std.specs.Prelude.{◌≡◌, ◌≤◌, ◌<◌, List, [], ◌∷◌, ◌++◌, length, take, IfSome};
+ghost use Rattle.std.specs.Option.{unwrap_or};
 ghost use Rattle.definitions.specs.Lists.{sum, Letters};
 ghost use Rattle.definitions.specs.Bytes.{cut};
 ghost use Rattle.definitions.specs.Output.{id_of, add_name};
@@ -11,6 +12,7 @@ use definitions::{MOST_LETTERS, MOST_NAMES, NAME_LETTERS};
 
 // A sheet's names with those that rewriting adds, of at most NAMES with LETTERS in all: each name's length, the letters of all, how many
 // of both are in use; full, where a name had no place.
+// Stays (fixed memory): how many there are shows as names are added, and the arrays are as long as there can be.
 #[derive(Drop)]
 pub struct NameTable<const NAMES: usize, const LETTERS: usize> {
     pub lengths: [u8; NAMES],
@@ -45,10 +47,11 @@ impl<const NAMES: usize, const LETTERS: usize> NameTable<NAMES, LETTERS> {
         copy_at(&mut self.letters, 0, text);
     }
 
-    // The id of some letters: their name's place; the number of names, where they are none of them.
+    // The place of some letters among the names, if they are one of them.
     #[tactic(auto, unfolding(crate::specs::Table::names_of))]
-    fn find(&self, name: &[u8]) -> usize
-        ensures { result ≡ id_of (names_of self.now) name.now }
+    fn find(&self, name: &[u8]) -> Option<usize>
+        ensures value { unwrap_or result self.now.names ≡ id_of (names_of self.now) name.now }
+        ensures in_bounds { IfSome result (λ i. i < self.now.names) }
     {
         find_name(
             &self.lengths[..self.names],
@@ -57,12 +60,12 @@ impl<const NAMES: usize, const LETTERS: usize> NameTable<NAMES, LETTERS> {
         )
     }
 
-    // The id of a new name.
+    // The id of a new name: the number of names, where it is none of them.
     pub fn find_new(&self, name: NewName) -> usize
         ensures { result ≡ id_of (names_of self.now) (new_letters name) }
     {
         let mut buffer = [0u8; NAME_LETTERS];
-        self.find(spell(name, &mut buffer))
+        self.find(spell(name, &mut buffer)).unwrap_or(self.names)
     }
 
     // A name that has no place yet is put behind the others, where there is room.
@@ -88,7 +91,7 @@ impl<const NAMES: usize, const LETTERS: usize> NameTable<NAMES, LETTERS> {
     {
         let mut buffer = [0u8; NAME_LETTERS];
         let letters = spell(name, &mut buffer);
-        if !self.full && self.names <= self.find(letters) {
+        if !self.full && self.find(letters).is_none() {
             self.add_last(letters);
         }
     }

@@ -28,7 +28,7 @@ pub(crate) fn copy_at(out: &mut [u8], at: usize, part: &[u8])
 {
     if at < out.len() {
         let fits = part.len().min(out.len() - at);
-        parts::copy_bytes(&mut out[at..at + fits], &part[..fits]);
+        parts::copy_items(&mut out[at..at + fits], &part[..fits]);
     }
 }
 
@@ -87,7 +87,7 @@ impl TextWriter<'_> {
         self.put_all(spelling.name(x));
     }
 
-    // Stays (C interface): a text for each stem as a slice would be data of the library, which has none.
+    // Stays (C interface): a match of slices becomes a table of addresses, which is data, and the library has none (`tests/library`).
     fn put_stem(&mut self, stem: StemName)
         ensures { Wrote (stem_letters (stem_of stem)) self.old self.new }
     {

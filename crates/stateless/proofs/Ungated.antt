@@ -16,8 +16,7 @@ use Rattle.definitions.specs.Declock.{Shape, bare, other, calls, shape_of, if_of
 use Rattle.shapes.specs.Shape.{Shaped, ShapedEquation}
 use Rattle.shapes.proofs.Facts.{All}
 use Rattle.index.specs.Callees.{is_there}
-use Rattle.stateless.specs.declared.Turn.{Turn}
-use Rattle.stateless.specs.Need.{Needs, with_flag, with_gate, settled, is_bare, pre_turn, arrow_turn, call_turn, needed, needed_all}
+use Rattle.stateless.specs.Need.{Turn, Needs, with_flag, with_gate, settled, is_bare, pre_turn, arrow_turn, call_turn, needed, needed_all}
 use Rattle.stateless.specs.Yield.{Ids, Yield, mapped, joined, type_or, gate_of, shape_after, pre_yield, call_tree, yield, yields, several_tree, flagged_tree, right_yield, old_yield}
 use Rattle.stateless.specs.Whole.{several_needs, flagged_needs, right_needs, old_needs}
 

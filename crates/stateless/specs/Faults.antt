@@ -8,8 +8,7 @@ use Rattle.definitions.specs.Clock.{Clock, ◌↓◌, parent, is_on, is_not, is_
 use Rattle.definitions.specs.Types.{default}
 use Rattle.definitions.specs.InferClocks.{Fault, undeclared, no_default, no_output_default, not_single_call, pre_untyped, NodeFault, Clocked}
 use Rattle.definitions.specs.Declock.{Shape, bare, other, calls, declared, last_type, operand_type, operator_outputs}
-use Rattle.stateless.specs.declared.Turn.{Turn}
-use Rattle.stateless.specs.Need.{is_bare, pre_turn}
+use Rattle.stateless.specs.Need.{Turn, is_bare, pre_turn}
 use Rattle.stateless.specs.Yield.{gate_of, shape_after}
 
 -- a fault where there is nothing

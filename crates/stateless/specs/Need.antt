@@ -7,7 +7,13 @@ use Rattle.definitions.specs.Declock.{State, add, add_with_parents, operator_out
 use Rattle.clock_tables.specs.Rows.{RowsHold}
 use Rattle.index.specs.Callees.{is_there}
 use Rattle.stateless.specs.declared.Counts.{Counts}
-use Rattle.stateless.specs.declared.Turn.{Turn}
+
+-- what an expression needs for itself, its operands apart: nothing; a flag and a hold; both flags; a flag and `condact`
+pub data Turn : Type 0 where
+  Keep : Turn
+  Hold : Turn
+  First : Turn
+  Gate : Turn
 
 -- what is needed so far: the clocks with flags in order of need, how many holds, whether `condact`
 pub record Needs : Type 0 where

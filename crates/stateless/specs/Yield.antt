@@ -10,8 +10,7 @@ use Rattle.definitions.specs.Clock.{Clock, ◌↓◌, parent, is_on, is_not, is_
 use Rattle.definitions.specs.Types.{default}
 use Rattle.definitions.specs.InferClocks.{Clocked}
 use Rattle.definitions.specs.Declock.{Hold, Shape, bare, other, calls, shape_of, if_of, declared, last_type, operand_type, operator_outputs}
-use Rattle.stateless.specs.declared.Turn.{Turn}
-use Rattle.stateless.specs.Need.{is_bare, pre_turn}
+use Rattle.stateless.specs.Need.{Turn, is_bare, pre_turn}
 
 -- the ids of new names: of a clock's activation flag, of its first-tick flag, of a hold by its number; and of `condact`
 pub record Ids : Type 0 where

@@ -20,15 +20,6 @@ pub struct Counts {
     pub condact: bool,
 }
 
-// What an expression needs for itself, its operands apart: nothing; a flag and a hold; both flags; a flag and `condact`.
-#[derive(Clone, Copy)]
-pub enum Turn {
-    Keep,
-    Hold,
-    First,
-    Gate,
-}
-
 // The id of a clock's flag: it stands at the clock's place among the clocks with flags.
 pub fn flag_id(rows: ClockList<'_>, ids: &[u32], c: Clock) -> u32
     ensures { 17 * rows.entry.count ≤ length rows.entry.words.now → result ≡ get_or ids.now (clock_place (value_of c) (clocks_in rows.entry.words.now rows.entry.count)) 0 }

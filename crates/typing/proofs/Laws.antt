@@ -24,10 +24,12 @@ use Rattle.definitions.specs.Tree.{Ty, Declared, Head, Expr, Exprs, Node}
 use Rattle.definitions.specs.Reading.{got, token, times}
 use Rattle.definitions.specs.Grammar.{name, high, ty, declaration, constant, form}
 use Rattle.definitions.specs.Declock.{declared, last_type, literal_type, element, operand_type}
-use Rattle.grammar.specs.Outcome.{outcome, told}
+use Rattle.grammar.specs.Outcome.{told}
 use Rattle.grammar.proofs.Laws.{wrap-got, tokens-length}
 use Rattle.grammar.proofs.Got.{tagged-value, times-nil}
-use Rattle.layout.proofs.TypedefsLaws.{type-not-refused, type-is-basic, type-is-named, type-is-array, FirstField, declared-read, declared-not-refused}
+use Rattle.layout.proofs.TypedefsLaws.{type-not-refused, type-is-basic, type-is-named, type-is-array, FirstField, declared-there, declared-first}
+use Rattle.layout.specs.declared.DeclarationLayout.{DeclarationLayout}
+use Rattle.layout.specs.Laid.{LaidDeclaration}
 use Rattle.operands.specs.declared.Gap.{Gap}
 use Rattle.operands.specs.declared.Operand.{Operand}
 use Rattle.operands.specs.declared.Role.{Role}
@@ -39,7 +41,6 @@ use Rattle.operands.proofs.Deeper.{tree-head}
 use Rattle.operands.proofs.Forms.{formed}
 use Rattle.inference.proofs.Low.{role-low}
 use Rattle.operands.proofs.Apart.{apart}
-use Rattle.layout.specs.Spans.{past_in}
 use Rattle.typing.specs.declared.TypeFound.{TypeFound}
 use Rattle.std.specs.Option.{option_map, option_or, MatchOption, IsSomeAnd}
 use Rattle.std.specs.declared.option.Option as code
@@ -177,18 +178,19 @@ pub record Declaring (M : ℕ) (gs vs : List ℕ) (k p : ℕ) (t t' : List ℕ) 
 pub declaring-none : (M : ℕ) (gs vs : List ℕ) (k p : ℕ) (t : List ℕ) → k ≡ 0 → Declaring M gs vs k p t t
 declaring-none M gs vs k p t z = record { more = λ ds all q g room few h. declares-none M (tokens gs vs) t k p ds all q z g h }
 
-module _ (M : ℕ) (gs vs : List ℕ) (same : length vs ≡ length gs) (k p : ℕ) (t : List ℕ) (some_left : k ≡ 0 → ⊥) (r : Result ℕ Refusal) (i : r ≡ outcome (declaration M (tokens gs vs) p)) where
-  pub declaring-refused : (e : Refusal) → r ≡ Err e → (t' : List ℕ) → Declaring M gs vs k p t t'
-  declaring-refused e j t' = record { more = λ ds all q g room few h. absurd (declared-not-refused M gs vs same k p ds q some_left g r i e j) }
+module _ (M : ℕ) (gs vs : List ℕ) (same : length vs ≡ length gs) (k p : ℕ) (t : List ℕ) (some_left : k ≡ 0 → ⊥) (r : code.Option DeclarationLayout)
+    (read : (d : Declared) (q : ℕ) → declaration M (tokens gs vs) p ≡ got d q → IsSomeAnd r (LaidDeclaration M (tokens gs vs) p d q)) where
+  pub declaring-refused : r ≡ None → (t' : List ℕ) → Declaring M gs vs k p t t'
+  declaring-refused j t' = record { more = λ ds all q g room few h. absurd (declared-there M (tokens gs vs) k p ds q some_left g (λ d s i. let z : ⊥ = rw j at read d s i in z)) }
 
-  pub declaring-step : (next : ℕ) → r ≡ Ok next → (first : ℕ) → first ≡ past_in (length gs) p → (x w : ℕ) → x ≡ get_or vs p 0 → (first < 4294967295 → w ≡ suc first) → (t₁ t' : List ℕ) → t₁ ≡ set t x w → length t₁ ≡ length t → (n : ℕ) → n ≡ k - 1 → Declaring M gs vs n next t₁ t' → Declaring M gs vs k p t t'
-  declaring-step next b first j x w v word t₁ t' u l n c d = record {
+  pub declaring-step : (l : DeclarationLayout) → r ≡ Some l → (w : ℕ) → (l.type_at < 4294967295 → w ≡ suc l.type_at) → (t₁ t' : List ℕ) → t₁ ≡ set t l.name w → length t₁ ≡ length t → (n : ℕ) → n ≡ k - 1 → Declaring M gs vs n l.end t₁ t' → Declaring M gs vs k p t t'
+  declaring-step l e w word t₁ t' u same_long n c d = record {
     more = λ ds all q g room few h.
-        let a = declared-read M gs vs same k p ds q some_left g r i next b first j in
+        let a = declared-first M (tokens gs vs) k p ds q some_left g l (λ d s i. rw e at read d s i) in
         let f = a.0 in
-        let y = label_is M gs vs same p f.id first f.label in
-        let z = declares-stored M (tokens gs vs) t t₁ k p first ds all q f y.1 room x w (y.0 ∙ sym v) (word (omega (arith, few, y.2, y.3))) u h in
-        declares-rest M (tokens gs vs) t' all ds f.rest _ f.whole (d.more f.rest _ q (ap (λ (m : ℕ). times m (declaration M) (tokens gs vs) next) c ∙ a.1) (omega (arith, room, l)) few z);
+        let y = label_is M gs vs same p f.id l.type_at f.label in
+        let z = declares-stored M (tokens gs vs) t t₁ k p l.type_at ds all q f y.1 room l.name w (sym a.2) (word (omega (arith, few, y.2, y.3))) u h in
+        declares-rest M (tokens gs vs) t' all ds f.rest _ f.whole (d.more f.rest _ q (ap (λ (m : ℕ). times m (declaration M) (tokens gs vs) l.end) c ∙ a.1) (omega (arith, room, same_long)) few z);
   }
 
 -- nothing is declared yet

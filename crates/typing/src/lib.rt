@@ -5,11 +5,12 @@ ghost use Rattle.std.specs.Prelude.{◌≡◌, List, ◌++◌, ℕ, suc, ◌≤�
 ghost use Rattle.std.proofs.Math.Option.{Option};
 ghost use Rattle.grammar.specs.Read.{tokens_of};
 ghost use Rattle.definitions.specs.Tree.{Ty, Declared, Expr, Node, TypeDef, Exprs};
-ghost use Rattle.definitions.specs.Reading.{got, times};
+ghost use Rattle.definitions.specs.Reading.{got};
 ghost use Rattle.definitions.specs.Grammar.{declaration};
 ghost use Rattle.definitions.specs.Declock.{declared, element, literal_type, operand_type, calls};
 ghost use Rattle.operands.specs.Spread.{tree};
 ghost use Rattle.layout.specs.Laid.{LaidNode};
+ghost use Rattle.layout.specs.Spans.{Spans};
 ghost use Rattle.typing.specs.Found.{IsFound, place_of, Declares};
 ghost use Rattle.clock_tables.specs.Value.{value_of};
 ghost use Rattle.index.specs.Indexed.{NodesIn};
@@ -20,12 +21,13 @@ use clock_tables::Clock;
 use definitions::{ExprToken, Literal, Primitive, TypeToken};
 use grammar::Source;
 use index::Index;
-use layout::NodeLayout;
+use layout::{NodeLayout, Span};
 use operands::Role;
 
 // ---- The types that a node declares, by name; and that of the operand of a held `pre` in an accepted sheet: declared names, constants,
 // and when, `pre`, `->` or index over such have one. `types` has a word a name: 0, or the place of its last declaration's type and one
 // more.
+// Stays (fixed memory): words and no options, since the types lie in a working table of words, which has rows for other questions.
 
 // A type: by its place among the tokens, or a literal's.
 #[derive(Clone, Copy)]
@@ -50,52 +52,45 @@ fn literal_type(l: Literal) -> Primitive
 fn constant_type(source: &Source<'_>, at: usize) -> Option<TypeFound>
     ensures { (l : Literal) (w q : ℕ) → tree source.now.names (tokens_of source.now) at ≡ got (Expr.const l w) q → result ≡ Some (TypeFound.Basic (literal_type l)) }
 {
-    let Ok((t, _)) = grammar::expr_head(source, at) else {
-        return None;
-    };
-    let ExprToken::Const(l) = t else {
-        return None;
-    };
-    Some(TypeFound::Basic(literal_type(l)))
+    let (t, _) = grammar::expr_head(source, at).ok()?;
+    match t {
+        ExprToken::Const(l) => Some(TypeFound::Basic(literal_type(l))),
+        _ => None,
+    }
 }
 
 // An array type's element type.
 fn element_of(source: &Source<'_>, found: Option<TypeFound>) -> Option<TypeFound>
     ensures { (o : Option Ty) → IsFound source.now.names (tokens_of source.now) o found → IsFound source.now.names (tokens_of source.now) (element o) result }
 {
-    let Some(f) = found else {
+    let TypeFound::At(p) = found? else {
         return None;
     };
-    let TypeFound::At(p) = f else {
-        return None;
-    };
-    let Ok((t, next)) = grammar::type_head(source, p) else {
-        return None;
-    };
-    let TypeToken::Array(_) = t else {
-        return None;
-    };
-    Some(TypeFound::At(next))
+    let (t, next) = grammar::type_head(source, p).ok()?;
+    match t {
+        TypeToken::Array(_) => Some(TypeFound::At(next)),
+        _ => None,
+    }
 }
 
-// The types of so many declarations, each by its name; a later one takes the place of an earlier.
-fn declare(source: &Source<'_>, count: u32, at: usize, types: &mut [u32])
+// The types of these declarations, each by its name; a later one takes the place of an earlier.
+fn declare(source: &Source<'_>, declarations: Span, types: &mut [u32])
     ensures types_len_unchanged { length types.new ≡ length types.old }
-    ensures declares { (ds all : List Declared) (q : ℕ) → times count (declaration source.now.names) (tokens_of source.now) at ≡ got ds q → source.now.names ≤ length types.old → length source.now.tags.now < 4294967295 → Declares source.now.names (tokens_of source.now) types.old all → Declares source.now.names (tokens_of source.now) types.new (all ++ ds) }
+    ensures declares { (ds all : List Declared) → Spans (declaration source.now.names) (tokens_of source.now) ds declarations → source.now.names ≤ length types.old → length source.now.tags.now < 4294967295 → Declares source.now.names (tokens_of source.now) types.old all → Declares source.now.names (tokens_of source.now) types.new (all ++ ds) }
 {
-    let mut place = at;
-    for _ in 0..count {
-        let Ok(next) = grammar::read_declaration(source, place) else {
+    let mut place = declarations.at;
+    for _ in 0..declarations.count {
+        let Some(declared) = layout::declaration_at(source, place) else {
             return;
         };
-        let first = layout::behind(source.tags, place);
-        let x = layout::value_at(source.values, place);
-        clock_tables::put_word(types, x as usize, clock_tables::word_past(first));
-        place = next;
+        let word = clock_tables::word_past(declared.type_at);
+        clock_tables::put_word(types, declared.name as usize, word);
+        place = declared.end;
     }
 }
 
 // No name below m has a type, if the table has room for them.
+// Stays (no plainer): `inference` `unmark` is over truth values; of both in one would be left what `fill` is.
 fn clear(types: &mut [u32], m: u32)
     ensures types_len_unchanged { length types.new ≡ length types.old }
     ensures x_after { m ≤ length types.old → (x : ℕ) → x < m → get_or types.new x 0 ≡ 0 }
@@ -112,9 +107,9 @@ pub fn declared_types(source: &Source<'_>, node: NodeLayout, types: &mut [u32])
     ensures declares { (n : Node) (u : ℕ) → LaidNode source.now.names (tokens_of source.now) n u node → source.now.names ≤ length types.old → length source.now.tags.now < 4294967295 → Declares source.now.names (tokens_of source.now) types.new (declared n) }
 {
     clear(types, source.names);
-    declare(source, node.inputs.count, node.inputs.at, types);
-    declare(source, node.outputs.count, node.outputs.at, types);
-    declare(source, node.locals.count, node.locals.at, types);
+    declare(source, node.inputs, types);
+    declare(source, node.outputs, types);
+    declare(source, node.locals, types);
 }
 
 // Where the type of a name stands: its last declaration's.
@@ -143,8 +138,7 @@ pub fn type_of(source: &Source<'_>, types: &[u32], at: usize) -> Option<TypeFoun
     match v.role {
         Role::Constant => constant_type(source, at),
         Role::Name(x) => last_type(types, x).map(TypeFound::At),
-        Role::Sample(_) => type_of(source, types, o.at),
-        Role::Previous => type_of(source, types, o.at),
+        Role::Sample(_) | Role::Previous => type_of(source, types, o.at),
         Role::Follow => {
             let a = type_of(source, types, o.at);
             let p = operands::operand_at(source.tags, o.rest.gap, o.rest.next);

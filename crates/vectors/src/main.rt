@@ -10,6 +10,7 @@ ghost use Rattle.spelling.specs.Written.{Wrote};
 ghost use Rattle.vectors.specs.Fields.{place_of, before, behind, digit_of, decoded, hex_digit, hex};
 
 use arguments::Word;
+use clock_pass::TOLD_CLOCKS;
 use definitions::{CHAIN_TABLE, FaultRecord, MOST_NODES, MOST_TOKENS, Refusal};
 use query::NodeCounts;
 use spelling::{Spelling, TextWriter};
@@ -80,19 +81,11 @@ fn word(line: &[u8]) -> Word
 fn digit(b: u8) -> u8
     ensures { (result ≡ digit_of b) × (result < 16) }
 {
-    if b < 48 {
-        return 0;
+    match b {
+        b'0'..=b'9' => b - b'0',
+        b'a'..=b'f' => b - b'a' + 10,
+        _ => 0,
     }
-    if b < 58 {
-        return b - 48;
-    }
-    if b < 97 {
-        return 0;
-    }
-    if b < 103 {
-        return b - 87;
-    }
-    0
 }
 
 // The bytes that hex says, as far as the lent bytes reach.
@@ -120,7 +113,7 @@ fn hex_digit(b: u8) -> u8
     ensures { result ≡ hex_digit b }
 {
     let n = b % 16;
-    if n < 10 { 48 + n } else { 87 + n }
+    if n < 10 { b'0' + n } else { b'a' + n - 10 }
 }
 
 // Bytes in hex.
@@ -151,48 +144,41 @@ fn put_faults(text: &mut TextWriter<'_>, list: &[FaultRecord], faults: usize) {
     }
 }
 
-fn is_front(out: &[u8; 65536], n: usize, answer: &[u8]) -> bool {
-    arguments::front(out, n) == answer
+// Is the answer what this puts?
+fn is_spelled<F: FnOnce(&mut TextWriter<'_>)>(answer: &[u8], put: F) -> bool
+    requires { F.IsAlwaysCallable put }
+{
+    let mut out = [0u8; 65536];
+    let mut text = TextWriter {
+        out: &mut out,
+        at: 0,
+    };
+    put(&mut text);
+    let end = text.at;
+    arguments::front(&out, end) == answer
 }
 
 // Is the answer that these first n bytes are written?
 fn is_written(bytes: &[u8], n: usize, answer: &[u8]) -> bool {
-    let mut out = [0u8; 65536];
-    let mut text = TextWriter {
-        out: &mut out,
-        at: 0,
-    };
-    text.put_all(b"accepted ");
-    put_bytes(&mut text, arguments::front(bytes, n));
-    let end = text.at;
-    is_front(&out, end, answer)
+    is_spelled(answer, |text| {
+        text.put_all(b"accepted ");
+        put_bytes(text, arguments::front(bytes, n));
+    })
 }
 
 // Is the answer that a question is refused so?
 fn is_refused(r: Refusal, answer: &[u8]) -> bool {
-    let mut out = [0u8; 65536];
-    let mut text = TextWriter {
-        out: &mut out,
-        at: 0,
-    };
-    refusals::put_refused(&mut text, r);
-    let end = text.at;
-    is_front(&out, end, answer)
+    is_spelled(answer, |text| refusals::put_refused(text, r))
 }
 
 // Is the answer that a rewriting is refused so, with these faults?
-fn is_refused_with(r: Refusal, faults: [FaultRecord; MOST_NODES], answer: &[u8]) -> bool {
-    let count = refusals::faulty_nodes(r);
-    let mut out = [0u8; 65536];
-    let mut text = TextWriter {
-        out: &mut out,
-        at: 0,
-    };
-    refusals::put_refused(&mut text, r);
-    text.put_number(count);
-    put_faults(&mut text, &faults, count);
-    let end = text.at;
-    is_front(&out, end, answer)
+fn is_refused_with(r: Refusal, faults: &[FaultRecord; MOST_NODES], answer: &[u8]) -> bool {
+    is_spelled(answer, |text| {
+        let count = refusals::faulty_nodes(r);
+        refusals::put_refused(text, r);
+        text.put_number(count);
+        put_faults(text, faults, count);
+    })
 }
 
 // Is rewriting into the bytes lent answered so?
@@ -200,7 +186,7 @@ fn is_rewritten(sheet: &[u8], out: &mut [u8], answer: &[u8]) -> bool {
     let told = clock_pass::rewrite_told(sheet, out);
     match told.answer {
         Ok(n) => is_written(out, n, answer),
-        Err(r) => is_refused_with(r, told.list, answer),
+        Err(r) => is_refused_with(r, &told.list, answer),
     }
 }
 
@@ -232,6 +218,7 @@ fn byte_at(bytes: &[u8], i: usize) -> u32
 }
 
 // Where each name's letters start: the lengths stand behind the sheet's three sizes.
+// Stays (no plainer): the replay cuts names by itself, since what `questions` cuts is what it checks, and these bytes need be no sheet.
 fn starts_of(sheet: &[u8]) -> [u32; 1025] {
     let mut starts = [0u32; 1025];
     let mut at: u32 = 0;
@@ -306,21 +293,16 @@ fn is_listing(text: &[u8], listing: &[u8], faults: usize) -> bool {
 fn is_clocks(
     listing: &[u8],
     counts: NodeCounts,
-    faults: [FaultRecord; 256],
+    faults: &[FaultRecord; TOLD_CLOCKS],
     answer: &[u8],
 ) -> bool {
-    let mut out = [0u8; 65536];
-    let mut text = TextWriter {
-        out: &mut out,
-        at: 0,
-    };
-    text.put_all(b"accepted ");
-    put_hex(&mut text, listing);
-    text.put_number(counts.passes);
-    text.put_number(counts.faults);
-    put_faults(&mut text, &faults, counts.faults);
-    let end = text.at;
-    is_front(&out, end, answer)
+    is_spelled(answer, |text| {
+        text.put_all(b"accepted ");
+        put_hex(text, listing);
+        text.put_number(counts.passes);
+        text.put_number(counts.faults);
+        put_faults(text, faults, counts.faults);
+    })
 }
 
 // Is this what a node's clocks are answered?
@@ -328,7 +310,7 @@ fn are_clocks(
     sheet: &[u8],
     node: usize,
     clocks: NodeClocks<'_>,
-    faults: [FaultRecord; 256],
+    faults: &[FaultRecord; TOLD_CLOCKS],
     answer: &[u8],
 ) -> bool {
     let counts = clocks.counts;
@@ -377,16 +359,14 @@ fn is_clocked(sheet: &[u8], node: usize, answer: &[u8]) -> bool {
                 equations: &equations,
                 chains: &chains,
             };
-            are_clocks(sheet, node, clocks, told.list, answer)
+            are_clocks(sheet, node, clocks, &told.list, answer)
         }
     }
 }
 
 // NODE SHEET ANSWER
-fn check_clocks(line: &[u8]) -> Verdict {
-    let Some(node) = number(line) else {
-        return Some(false);
-    };
+fn check_clocks(line: &[u8]) -> Option<bool> {
+    let node = number(line)?;
     let rest = next(line);
     let mut bytes = [0u8; 4096];
     let n = decode(field(rest), &mut bytes);
@@ -394,10 +374,8 @@ fn check_clocks(line: &[u8]) -> Verdict {
 }
 
 // LENT SHEET ANSWER
-fn check_rewrite(line: &[u8]) -> Verdict {
-    let Some(lent) = number(line) else {
-        return Some(false);
-    };
+fn check_rewrite(line: &[u8]) -> Option<bool> {
+    let lent = number(line)?;
     let rest = next(line);
     let mut bytes = [0u8; 4096];
     let n = decode(field(rest), &mut bytes);
@@ -405,18 +383,12 @@ fn check_rewrite(line: &[u8]) -> Verdict {
 }
 
 // NODE FAULT LENT SHEET ANSWER
-fn check_text(line: &[u8]) -> Verdict {
-    let Some(node) = number(line) else {
-        return Some(false);
-    };
+fn check_text(line: &[u8]) -> Option<bool> {
+    let node = number(line)?;
     let faults = next(line);
-    let Some(fault) = number(faults) else {
-        return Some(false);
-    };
+    let fault = number(faults)?;
     let lents = next(faults);
-    let Some(lent) = number(lents) else {
-        return Some(false);
-    };
+    let lent = number(lents)?;
     let rest = next(lents);
     let mut bytes = [0u8; 4096];
     let n = decode(field(rest), &mut bytes);
@@ -490,46 +462,29 @@ fn asks(line: &[u8], name: &[u8]) -> bool {
     field(line) == name
 }
 
-// What is said of a line that is a question of this name.
-fn check_asked<F: Fn(&[u8]) -> Verdict>(line: &[u8], name: &[u8], check: F) -> Verdict
+// What is said of a line that is a question of this name. One whose numbers are none is not as listed.
+fn check_asked<F: Fn(&[u8]) -> Option<bool>>(line: &[u8], name: &[u8], check: F) -> Verdict
     requires { F.IsAlwaysCallable check }
 {
     if asks(line, name) {
-        check(next(line))
+        Some(check(next(line)).unwrap_or(false))
     } else {
         None
     }
 }
 
-// `line N is answered otherwise`
-fn tell_line(output: &mut impl Write, number: u64) -> io::Result<()> {
-    let mut out = [0u8; 4096];
-    let mut text = TextWriter {
-        out: &mut out,
-        at: 0,
-    };
-    text.put_all(b"line ");
-    text.put_decimal(number);
-    text.put_all(b" is answered otherwise\n");
-    let end = text.at;
-    arguments::show(output, &out, end)
-}
-
+// The tally with one line more, which is told where it is answered otherwise.
 fn add(output: &mut impl Write, t: Tally, v: Verdict, number: u64) -> io::Result<Tally> {
-    match v {
-        None => Ok(t),
-        Some(true) => Ok(Tally {
-            all: t.all.saturating_add(1),
-            other: t.other,
-        }),
-        Some(false) => {
-            tell_line(output, number)?;
-            Ok(Tally {
-                all: t.all.saturating_add(1),
-                other: t.other.saturating_add(1),
-            })
-        }
+    let Some(is_listed) = v else {
+        return Ok(t);
+    };
+    if !is_listed {
+        writeln!(output, "line {number} is answered otherwise")?;
     }
+    Ok(Tally {
+        all: t.all.saturating_add(1),
+        other: t.other.saturating_add(!is_listed as u64),
+    })
 }
 
 // Replays the lines of one kind.
@@ -551,33 +506,21 @@ fn replay<W: Write, F: Fn(&[u8]) -> Verdict>(
 }
 
 // `N questions, N as listed, N otherwise`, behind what they are about.
-fn put_tally(text: &mut TextWriter<'_>, about: &[u8], t: Tally) {
-    text.put_all(about);
-    text.put_decimal(t.all);
-    text.put_all(b" questions, ");
-    text.put_decimal(t.all.saturating_sub(t.other));
-    text.put_all(b" as listed, ");
-    text.put_decimal(t.other);
-    text.put_all(b" otherwise\n");
-}
-
 fn report<W: Write, F: Fn(&[u8]) -> Verdict>(
     output: &mut W,
     list: &[u8],
     check: F,
-    about: &[u8],
+    about: &str,
 ) -> io::Result<()>
     requires { F.IsAlwaysCallable check }
 {
     let t = replay(output, list, check)?;
-    let mut out = [0u8; 4096];
-    let mut text = TextWriter {
-        out: &mut out,
-        at: 0,
-    };
-    put_tally(&mut text, about, t);
-    let n = text.at;
-    arguments::show(output, &out, n)
+    let listed = t.all.saturating_sub(t.other);
+    writeln!(
+        output,
+        "{about}{} questions, {listed} as listed, {} otherwise",
+        t.all, t.other
+    )
 }
 
 // Sheets that the list refuses under 1 to 7, the other sheets, and the three questions.
@@ -586,31 +529,31 @@ fn replay_all(output: &mut impl Write, list: &[u8]) -> io::Result<()> {
         output,
         list,
         |line| check_reading(line, true),
-        b"refusals 1 to 7: ",
+        "refusals 1 to 7: ",
     )?;
     report(
         output,
         list,
         |line| check_reading(line, false),
-        b"other sheets are read: ",
+        "other sheets are read: ",
     )?;
     report(
         output,
         list,
-        |line| check_asked(line, b"clocks", |asked| check_clocks(asked)),
-        b"clock questions: ",
+        |line| check_asked(line, b"clocks", check_clocks),
+        "clock questions: ",
     )?;
     report(
         output,
         list,
-        |line| check_asked(line, b"rewrite", |asked| check_rewrite(asked)),
-        b"rewritings: ",
+        |line| check_asked(line, b"rewrite", check_rewrite),
+        "rewritings: ",
     )?;
     report(
         output,
         list,
-        |line| check_asked(line, b"text", |asked| check_text(asked)),
-        b"texts: ",
+        |line| check_asked(line, b"text", check_text),
+        "texts: ",
     )
 }
 

@@ -12,11 +12,11 @@ check_branch-returns-clause-traversed t c = walks-down c.args.input.now.source.n
 pub check_expr-returns-then-input-at-clause-traversed : goal.check_expr-returns-then-input-at-clause-traversed
 check_expr-returns-then-input-at-clause-traversed t c = λ e q g. absurd (walks-past c.args.input.now.source.names c.args.input.now.source.tags.now c.args.input.now.source.values.now c.args.input.now.env.now c.args.input.now.equation c.args.input.now.source.same_length c.args.at c.if-input-at.true e q g)
 
-pub check_expr-returns-then-tag-eq69-clause-traversed : goal.check_expr-returns-then-tag-eq69-clause-traversed
-check_expr-returns-then-tag-eq69-clause-traversed t c = walks-join c.args.input.now.source.names c.args.input.now.source.tags.now c.args.input.now.source.values.now c.args.input.now.env.now c.args.input.now.equation c.args.input.now.source.same_length _ _ _ _ (value_of c.args.on) _ c.args.at _ c.if-tag-eq69.true c.check_merge.ensures.traversed
+pub check_expr-returns-then-tag-eq-MERGE-clause-traversed : goal.check_expr-returns-then-tag-eq-MERGE-clause-traversed
+check_expr-returns-then-tag-eq-MERGE-clause-traversed t c = walks-join c.args.input.now.source.names c.args.input.now.source.tags.now c.args.input.now.source.values.now c.args.input.now.env.now c.args.input.now.equation c.args.input.now.source.same_length _ _ _ _ (value_of c.args.on) _ c.args.at _ c.if-tag-eq-MERGE.true c.check_merge.ensures.traversed
 
 pub check_expr-returns-then-is_sample-clause-traversed : goal.check_expr-returns-then-is_sample-clause-traversed
-check_expr-returns-then-is_sample-clause-traversed t c = walks-sample c.args.input.now.source.names c.args.input.now.source.tags.now c.args.input.now.source.values.now c.args.input.now.env.now c.args.input.now.equation c.args.input.now.source.same_length _ _ _ _ (value_of c.args.on) _ c.args.at _ _ (sym c.is_sample.ensures ∙ c.if-is_sample.true) c.if-tag-eq69.false c.sampled_by-k.ensures c.check_sample.ensures.traversed
+check_expr-returns-then-is_sample-clause-traversed t c = walks-sample c.args.input.now.source.names c.args.input.now.source.tags.now c.args.input.now.source.values.now c.args.input.now.env.now c.args.input.now.equation c.args.input.now.source.same_length _ _ _ _ (value_of c.args.on) _ c.args.at _ _ (sym c.is_sample.ensures ∙ c.if-is_sample.true) c.if-tag-eq-MERGE.false c.sampled_by-k.ensures c.check_sample.ensures.traversed
 
 pub check_expr-returns-clause-traversed : goal.check_expr-returns-clause-traversed
 check_expr-returns-clause-traversed t c = walks-other c.args.input.now.source.names c.args.input.now.source.tags.now c.args.input.now.source.values.now c.args.input.now.env.now c.args.input.now.equation c.args.input.now.source.same_length _ _ _ _ (value_of c.args.on) _ c.args.at _ (walks-token c.args.input.now.source.names c.args.input.now.source.tags.now c.args.input.now.source.values.now c.args.input.now.env.now c.args.input.now.equation c.args.input.now.source.same_length _ _ _ _ _ _ (value_of c.args.on) _ _ 1 c.args.at _ c.enter.ensures.site_stored c.enter.ensures.held (omega arith) _ (omega (arith, c.follow-many.ensures)) c.check_exprs.ensures.traversed (sym c.is_sample.ensures ∙ c.if-is_sample.false))

@@ -1,31 +1,29 @@
 -- The clock in the count's row, the left names, then the right side.
 use Rattle.clock_tables.specs.Value.{value_of}
-use Rattle.definitions.specs.Bytes.{tokens}
-use Rattle.grammar.proofs.Laws.{told-got, told-refused}
-use Rattle.checking.proofs.Left.{equation-parts, equation-none, equation-whole}
+use Rattle.inference.proofs.PassesLaws.{name-below}
+use Rattle.checking.proofs.Left.{left-laid, equation-whole}
 use Rattle.checking.proofs.Walk.{equation-stored}
 use Rattle.checking.proofs.check_equation.Goals as goal
 
-pub returns-in-Ok-clause-ends : goal.returns-in-Ok-clause-ends
-returns-in-Ok-clause-ends c = λ e q g.
-    let p = equation-parts c.args.input.now.source.names (tokens c.args.input.now.source.tags.now c.args.input.now.source.values.now) c.args.at e q _ _ g (told-got _ _ _ _ c.read_count.ensures c.in-Ok.is) in
-    (c.check_expr.ensures.traversed e.right q (rw (c.check_left-next.ensures.ends e.left p.0 p.1) p.2)).end
+pub returns-clause-ends : goal.returns-clause-ends
+returns-clause-ends c = λ e q g.
+    let s = c.args.input.now.source in
+    let p = left-laid s.names s.tags.now s.values.now s.same_length c.args.at _ c.names_at-left.ensures e q g in
+    (c.check_expr.ensures.traversed e.right q p.1).end
 
-pub returns-in-Ok-clause-held : goal.returns-in-Ok-clause-held
-returns-in-Ok-clause-held c = λ node clocks e q fs a k g h.
-    let p = equation-parts c.args.input.now.source.names (tokens c.args.input.now.source.tags.now c.args.input.now.source.values.now) c.args.at e q _ _ g (told-got _ _ _ _ c.read_count.ensures c.in-Ok.is) in
-    let l = c.check_left-next.ensures.held node clocks e.left p.0 fs a k p.1 (rw c.put_site.ensures.same_findings h) in
-    let w = c.check_expr.ensures.traversed e.right q (rw (c.check_left-next.ensures.ends e.left p.0 p.1) p.2) in
-    equation-whole node clocks c.args.input.now.equation (value_of c.args.on) e _ _ fs (w.holds clocks _ a l)
+pub returns-clause-held : goal.returns-clause-held
+returns-clause-held c = λ node clocks e q fs a k g h.
+    let s = c.args.input.now.source in
+    let p = left-laid s.names s.tags.now s.values.now s.same_length c.args.at _ c.names_at-left.ensures e q g in
+    let same = c.names_in-names.ensures.read e.left _ p.0 in
+    let below = name-below s.names s.tags.now s.values.now s.same_length _ _ _ e.left _ same p.0 in
+    let l = c.check_left.ensures.held node clocks fs a k below (rw c.put_site.ensures.same_findings h) in
+    let w = c.check_expr.ensures.traversed e.right q p.1 in
+    equation-whole node clocks c.args.input.now.equation (value_of c.args.on) e _ _ fs (w.holds clocks _ a (rw same at l))
 
-pub returns-in-Ok-clause-stored : goal.returns-in-Ok-clause-stored
-returns-in-Ok-clause-stored c = λ e q g. equation-stored c.args.input.now.source.names c.args.input.now.source.tags.now c.args.input.now.source.values.now c.args.input.now.env.now c.args.input.now.equation c.args.input.now.source.same_length _ _ _ _ _ (value_of c.args.on) _ c.args.at _ _ c.put_site.ensures.stored c.check_expr.ensures.stays.sites_length c.check_expr.ensures.traversed e q _ _ g (told-got _ _ _ _ c.read_count.ensures c.in-Ok.is) (λ u h. c.check_left-next.ensures.ends e.left u h)
-
-pub returns-in-Err-clause-ends : goal.returns-in-Err-clause-ends
-returns-in-Err-clause-ends c = λ e q g. absurd (equation-none c.args.input.now.source.names (tokens c.args.input.now.source.tags.now c.args.input.now.source.values.now) c.args.at e q _ g (told-refused _ _ _ c.read_count.ensures c.in-Err.is))
-
-pub returns-in-Err-clause-held : goal.returns-in-Err-clause-held
-returns-in-Err-clause-held c = λ node clocks e q fs a k g h. absurd (equation-none c.args.input.now.source.names (tokens c.args.input.now.source.tags.now c.args.input.now.source.values.now) c.args.at e q _ g (told-refused _ _ _ c.read_count.ensures c.in-Err.is))
-
-pub returns-in-Err-clause-stored : goal.returns-in-Err-clause-stored
-returns-in-Err-clause-stored c = λ e q g. absurd (equation-none c.args.input.now.source.names (tokens c.args.input.now.source.tags.now c.args.input.now.source.values.now) c.args.at e q _ g (told-refused _ _ _ c.read_count.ensures c.in-Err.is))
+pub returns-clause-stored : goal.returns-clause-stored
+returns-clause-stored c = λ e q g.
+    let i = c.args.input.now in
+    let s = i.source in
+    let p = left-laid s.names s.tags.now s.values.now s.same_length c.args.at _ c.names_at-left.ensures e q g in
+    equation-stored s.names s.tags.now s.values.now i.env.now i.equation s.same_length _ _ _ _ _ (value_of c.args.on) _ c.args.at _ _ c.put_site.ensures.stored c.check_expr.ensures.stays.sites_length c.check_expr.ensures.traversed e q g p.1 p.2 p.3

@@ -1,12 +1,7 @@
-use Prim.Native.Nat.{◌≤◌, ◌*◌}
-use mathlib.Core.Path.{sym, ◌∙◌}
-use native.Mathlib.Omega.{arith}
-use lib.ListN.{length}
-use Rattle.clock_tables.proofs.FlatLaws.{clock-past}
+use mathlib.Core.Path.{◌∙◌}
+use borrow.Author.Rules.{rules}
+use Rattle.clock_tables.proofs.FlatLaws.{row-far}
 use Rattle.clock_tables.proofs.get.Goals as goal
 
-pub returns-then-rows-i : goal.returns-then-rows-i
-returns-then-rows-i c = let l : length c.args.rows.now ≤ 17 * c.args.i = omega (arith, c.if-rows-i.true) in c.base.ensures ∙ sym (clock-past c.args.rows.now (17 * c.args.i) l)
-
 pub returns : goal.returns
-returns c = c.load.ensures
+returns c = c.load.ensures ∙ row-far c.args.rows.now c.args.i _ (search rules) c.saturating_mul.ensures

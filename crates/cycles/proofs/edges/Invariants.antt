@@ -10,4 +10,4 @@ use Rattle.cycles.proofs.edges.Given as goal
 
 abbrev pub invariant-loop-i : goal.invariant-loop-i
 invariant-loop-i l =
-    (length l.rows ≡ 32) × ((types : List TypeDef) → Table l.source.names (tokens l.source.tags.now l.source.values.now) l.places.at l.places.count types → (k : ℕ) → k < l.i → TargetsAre types (get_or l.rows k (record { set = []; own = false })) (goes_on types (name_at types k)) (own_name types (name_at types k)))
+    (length l.rows ≡ 32) × ((types : List TypeDef) → Table l.table.source.names (tokens l.table.source.tags.now l.table.source.values.now) l.table.places.now.at l.table.places.now.count types → (k : ℕ) → k < l.i → TargetsAre types (get_or l.rows k (record { set = []; own = false })) (goes_on types (name_at types k)) (own_name types (name_at types k)))

@@ -2,7 +2,7 @@
 -- Assumes nothing.
 use native.Mathlib.Omega.{arith}
 use Rattle.cycles.proofs.Laws.{fields-begin, fields-next, fields-end}
-use Rattle.layout.proofs.TypedefsLaws.{declared-read, declared-not-refused}
+use Rattle.layout.proofs.TypedefsLaws.{declared-first, declared-there}
 use Rattle.cycles.proofs.field_targets.Goals as goal
 
 pub loop-init : goal.loop-init
@@ -10,11 +10,11 @@ loop-init c = λ types fs q k g. fields-begin types _ _ _ _ 0 _ fs q g (c.no_tar
 
 pub returns-in_default : goal.returns-in_default
 returns-in_default c = λ types fs q k g. let a = c.loop.invariant types fs q k g in
-    absurd (declared-not-refused _ _ _ c.args.table.now.source.same_length _ _ a.rest q (omega (arith, c.loop-test.true)) a.reads _ c.read_declaration.ensures _ c.in_default.is)
+    absurd (declared-there _ _ _ _ a.rest q (omega (arith, c.loop-test.true)) a.reads c.in_default.ensures.read)
 
 pub loop-preserved : goal.loop-preserved
 loop-preserved c = λ types fs q k g. let a = c.loop.invariant types fs q k g in
-    let f = declared-read _ _ _ c.args.table.now.source.same_length _ _ a.rest q (omega (arith, c.loop-test.true)) a.reads _ c.read_declaration.ensures _ c.in-Ok.is _ c.behind-first.ensures in
+    let f = declared-first _ _ _ _ a.rest q (omega (arith, c.loop-test.true)) a.reads _ c.in-Some.ensures.read in
     fields-next types _ _ _ _ _ _ fs q a _ f.0 _ f.1 _ (c.add_type-targets.ensures types f.0.type f.0.next a.names k f.0.typed a.marked)
 
 pub returns : goal.returns

@@ -10,7 +10,7 @@ use Rattle.cycles.proofs.first_cycle.Goals as goal
 
 pub returns : goal.returns
 returns c = λ types t.
-    let T = λ (ts : List TypeDef). Table c.args.source.now.names (tokens_of c.args.source.now) c.args.places.now.at c.args.places.now.count ts in
+    let T = λ (ts : List TypeDef). Table c.args.table.now.source.names (tokens_of c.args.table.now.source) c.args.table.now.places.now.at c.args.table.now.places.now.count ts in
     let E = λ (ts : List TypeDef). Edges ts c.edges-graph.result in
     first-found types T E t (c.edges-graph.ensures.edges types t) _ c.find.result t.count
     (first_from_Range _ _ _ _ (Told T E true) (Told T E false) c.find.ensures.ran (λ x q k. search rules) (λ x q k. search rules))

@@ -5,4 +5,4 @@ use Rattle.cycles.proofs.with_name.Given as goal
 
 abbrev pub invariant-loop-j : goal.invariant-loop-j
 invariant-loop-j l =
-    (length l.more ≡ 32) × ((k : ℕ) → k < l.j → get_or l.more k false ≡ (get_or l.set k false || eqb (get_or l.values (get_or l.places.at k 0) 0) l.x))
+    (length l.more ≡ 32) × ((k : ℕ) → k < l.j → get_or l.more k false ≡ (get_or l.set k false || eqb (get_or l.table.source.values.now (get_or l.table.places.now.at k 0) 0) l.x))

@@ -26,5 +26,5 @@ invariant-loop-k l =
     × (l.faulty ≤ l.k)
     × ((i : Input) → Indexed l.index i → RoomToWrite l.index l.initial.working l.initial.holds → Ahead l.k (drop l.k i.sheet.nodes) (clockings 0 i.sheet.nodes))
     × ((i : Input) (ns : List ClockedNode) → Indexed l.index i → clockings 0 i.sheet.nodes ≡ accepted ns → RoomToWrite l.index l.initial.working l.initial.holds → Recorded l.initial.list (first_faults_from i 0 (take l.k ns)) l.faulty l.list)
-    × ((bytes : List ℕ) (i : Input) (ns : List ClockedNode) (f : Faultless l.spelling bytes i ns) → Indexed l.index i → RoomToWrite l.index l.initial.working l.initial.holds → NamesHeld l.initial.names i.names → NamesHeld l.names (names-to f l.k))
-    × ((bytes : List ℕ) (i : Input) (ns : List ClockedNode) (f : Faultless l.spelling bytes i ns) → Indexed l.index i → RoomToWrite l.index l.initial.working l.initial.holds → NamesHeld l.initial.names i.names → l.names.full ≡ false → l.output ≡ tokens-to f l.k l.initial.output)
+    × ((bytes : List ℕ) (i : Input) (ns : List ClockedNode) (f : Faultless l.spelling bytes i ns) → Indexed l.index i → RoomToWrite l.index l.initial.working l.initial.holds → NamesHeld l.initial.sheet.names i.names → NamesHeld l.sheet.names (names-to f l.k))
+    × ((bytes : List ℕ) (i : Input) (ns : List ClockedNode) (f : Faultless l.spelling bytes i ns) → Indexed l.index i → RoomToWrite l.index l.initial.working l.initial.holds → NamesHeld l.initial.sheet.names i.names → l.sheet.names.full ≡ false → l.sheet.tokens ≡ tokens-to f l.k l.initial.sheet.tokens)

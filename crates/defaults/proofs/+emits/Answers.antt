@@ -5,7 +5,7 @@ use mathlib.Core.Path.{sym, ◌∙◌}
 use native.Mathlib.Omega.{arith}
 use Rattle.definitions.specs.Types.{default_named}
 use Rattle.layout.specs.Table.{def_at}
-use Rattle.layout.proofs.TypedefsLaws.{named, name-value, type-not-refused, type-is-basic, type-is-named, type-is-array, declared-read, declared-not-refused}
+use Rattle.layout.proofs.TypedefsLaws.{named, type-not-refused, type-is-basic, type-is-named, type-is-array, declared-first, declared-there}
 use Rattle.emit.proofs.Laws.{emits-stuck}
 use Rattle.defaults.proofs.Written.{wrote-basic, element-default, wrote-array, wrote-plain, wrote-same, plain-default, copies-begin, copies-more, copies-none, named-default, not-unnamed, definition-default, wrote-variant, fields-default, alias-default, field-default, wrote-record, fields-begin, fields-next, fields-end}
 use Rattle.defaults.proofs.+emits.Goals as goal
@@ -45,15 +45,15 @@ emit_fields-returns-then-is_full t c = λ types f fs q es s h g d. sym ((c.loop.
 
 pub emit_fields-returns-in_default : goal.emit_fields-returns-in_default
 emit_fields-returns-in_default t c = λ types f fs q es s h g d. let a = c.loop.invariant types f fs q es s h g d in
-    absurd (declared-not-refused _ _ _ c.args.table.now.source.same_length _ _ a.rest q (omega (arith, c.loop-test.true)) a.reads _ c.read_declaration.ensures _ c.in_default.is)
+    absurd (declared-there _ _ _ _ a.rest q (omega (arith, c.loop-test.true)) a.reads c.in_default.ensures.read)
 
 pub emit_fields-loop-preserved : goal.emit_fields-loop-preserved
 emit_fields-loop-preserved t c = λ types f fs q es s h g d. let a = c.loop.invariant types f fs q es s h g d in
-    let n = declared-read _ _ _ c.args.table.now.source.same_length _ _ a.rest q (omega (arith, c.loop-test.true)) a.reads _ c.read_declaration.ensures _ c.in-Ok.is _ c.behind-first.ensures in
+    let n = declared-first _ _ _ _ a.rest q (omega (arith, c.loop-test.true)) a.reads _ c.in-Some.ensures.read in
     let r = n.0 in
     let b = field-default (default_named types f) a.rest _ r.rest a.values r.whole a.by in
     fields-next (default_named types f) _ _ _ _ _ q _ _ a _ r _ n.1 b.0 b.1 b.3 b.4
-    _ _ _ (c.value_at-x.ensures ∙ sym (name-value _ _ _ c.args.table.now.source.same_length _ r.id _ r.label)) c.emit.ensures (c.emit_type.ensures types f 8 r.type r.next b.0 s h r.typed b.2)
+    _ _ _ n.2 c.emit.ensures (c.emit_type.ensures types f 8 r.type r.next b.0 s h r.typed b.2)
 
 pub emit_fields-returns : goal.emit_fields-returns
 emit_fields-returns t c = λ types f fs q es s h g d. fields-end (default_named types f) _ _ _ _ _ q _ _ (c.loop.invariant types f fs q es s h g d) c.loop-test.false

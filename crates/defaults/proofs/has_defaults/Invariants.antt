@@ -9,4 +9,4 @@ use Rattle.defaults.proofs.has_defaults.Given as goal
 
 abbrev pub invariant-loop : goal.invariant-loop
 invariant-loop l =
-    (types : List TypeDef) → Table l.source.names (tokens l.source.tags.now l.source.values.now) l.places.at l.places.count types → DefaultsKnown types l.places.count l.counter l.has
+    (types : List TypeDef) → Table l.table.source.names (tokens l.table.source.tags.now l.table.source.values.now) l.table.places.now.at l.table.places.now.count types → DefaultsKnown types l.table.places.now.count l.counter l.has

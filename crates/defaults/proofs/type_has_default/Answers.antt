@@ -10,9 +10,9 @@ returns-in_default c = λ types y q s h g. whole-default types _ s.count _ y (ha
 
 pub returns-in-Some-find_definition : goal.returns-in-Some-find_definition
 returns-in-Some-find_definition c = λ types y q s h g.
-    let k = c.in-Some-find_definition.ensures.first types (named _ _ _ c.args.source.now.same_length _ _ types s) in
+    let k = c.in-Some-find_definition.ensures.first types (named _ _ _ c.args.table.now.source.same_length _ _ types s) in
     whole-default types _ s.count _ y (has-one (default_named types _) y _ _ (c.in-Some.ensures y q g) (has-at types _ s.count c.args.has.now h _ _ k.0 k.1))
 
 pub returns-in-None : goal.returns-in-None
 returns-in-None c = λ types y q s h g.
-    whole-default types _ s.count _ y (has-one (default_named types _) y _ _ (c.in-Some.ensures y q g) (has-unnamed types _ s.count c.args.has.now h _ (c.in-None.ensures.first types (named _ _ _ c.args.source.now.same_length _ _ types s))))
+    whole-default types _ s.count _ y (has-one (default_named types _) y _ _ (c.in-Some.ensures y q g) (has-unnamed types _ s.count c.args.has.now h _ (c.in-None.ensures.first types (named _ _ _ c.args.table.now.source.same_length _ _ types s))))

@@ -1,14 +1,17 @@
 -- `fault_text::lines_in` meets its contract. Assumes nothing.
-use mathlib.Core.Path.{sym, ◌∙◌, ap}
-use native.Mathlib.Omega.{arith}
+use mathlib.Core.Path.{sym, ap, ◌∙◌}
+use Rattle.std.proofs.Common.{rules}
 use Rattle.definitions.specs.Output.{condact_id}
-use Rattle.spelling.proofs.Table.{condact-few}
+use Rattle.definitions.specs.Answer.{clockings, first_lines}
+use Rattle.workspace.proofs.Kept.{plan-kept}
+use Rattle.listings.proofs.All.{lent-each}
+use Rattle.listings.proofs.Given.{listing-same}
+use Rattle.fault_text.specs.Lines.{lines_text}
 use Rattle.fault_text.proofs.Texts.{room-of}
 use Rattle.fault_text.proofs.lines_in.Goals as goal
 
-pub overflow_cast-condact : goal.overflow_cast-condact
-overflow_cast-condact c = omega (arith, condact-few c.args.given.now c.args.spelling.letters.now c.find_new-condact.result c.find_new-condact.ensures c.requires.given_value.1)
-
 pub returns-clause-given : goal.returns-clause-given
-returns-clause-given c =
-    λ i s named room. c.lines_lent.ensures.given i (c.index_of-index.ensures.indexed i _ s.tree (c.find_new-condact.ensures ∙ ap condact_id (sym named))) s.named (room-of c.index_of-index.ensures.source_value room)
+returns-clause-given c = λ i s named room.
+    let h = c.index_of-index.ensures.indexed i _ s.tree (c.condact.ensures ∙ ap condact_id (sym named)) in
+    listing-same _ _ _ _ _ (sym (lent-each (clockings 0 i.sheet.nodes) (first_lines i) _))
+    (c.lend_put.ensures.given (lines_text i) (λ o w a o' w' kept p. search (rules, p, h, s.named, plan-kept kept (room-of c.index_of-index.ensures.source_value room))))

@@ -7,7 +7,7 @@ use Rattle.fault_text.proofs.put_found.Goals as goal
 pub returns-in-Some : goal.returns-in-Some
 returns-in-Some c =
     record {
-      upper_bound = line-short c.args.spelling.starts.now c.args.spelling.letters.now _ _ c.in-Some.found.fault c.requires c.put_fault_line.ensures;
+      upper_bound = line-short c.args.names.spelling.starts.now c.args.names.spelling.letters.now _ _ c.in-Some.found.fault c.args.names.short c.put_fault_line.ensures;
       wrote = rw c.in-Some.is c.put_fault_line.ensures;
     }
 

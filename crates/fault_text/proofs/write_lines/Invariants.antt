@@ -20,4 +20,4 @@ invariant-loop-k l =
     × (l.text.at ≤ 278998 * l.k)
     × (l.text.out.ghost_name ≡ l.initial.text.out.ghost_name)
     × ((i : Input) → Indexed l.index i → RoomToPlan l.index.source.names (length l.index.source.tags.now) l.initial.working → Ahead l.k (drop l.k i.sheet.nodes) (clockings 0 i.sheet.nodes))
-    × ((i : Input) (ns : List ClockedNode) → Indexed l.index i → clockings 0 i.sheet.nodes ≡ accepted ns → letters_in l.spelling ≡ letters_of i.names → RoomToPlan l.index.source.names (length l.index.source.tags.now) l.initial.working → Wrote (first_lines i (take l.k ns)) l.initial.text l.text)
+    × ((i : Input) (ns : List ClockedNode) → Indexed l.index i → clockings 0 i.sheet.nodes ≡ accepted ns → letters_in l.names.spelling ≡ letters_of i.names → RoomToPlan l.index.source.names (length l.index.source.tags.now) l.initial.working → Wrote (first_lines i (take l.k ns)) l.initial.text l.text)

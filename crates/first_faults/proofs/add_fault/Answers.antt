@@ -2,15 +2,12 @@
 use native.Mathlib.Omega.{arith}
 use mathlib.Core.Path.{sym, ◌∙◌, ap}
 use Rattle.findings.specs.Value.{found_of}
-use Rattle.first_faults.proofs.Records.{record-none, record-past, record-more}
+use Rattle.first_faults.proofs.Records.{record-past, record-more}
 use Rattle.first_faults.proofs.add_fault.Goals as goal
 use Rattle.first_faults.proofs.add_fault.Goals.{then-m-list, else-m-list}
 
-pub returns-in-None-clause-by_index : goal.returns-in-None-clause-by_index
-returns-in-None-clause-by_index c = λ lent l fs h e. record-none lent l _ _ h _ fs (sym (ap found_of c.in-None.is) ∙ e)
-
-pub returns-after-m-list-clause-by_index : goal.returns-after-m-list-clause-by_index
-returns-after-m-list-clause-by_index c = elim c.if-m-list.branch [
-  | then-m-list w ↦ rw w.list-is (λ lent l fs h e. record-more lent l _ _ h _ fs _ (sym (ap found_of c.in-Some.is) ∙ e) (omega (arith, w.if-m-list.true)) _ _ w.fault_number-number.ensures w.put_record.ensures)
+pub returns-clause-by_index : goal.returns-clause-by_index
+returns-clause-by_index c = elim c.if-m-list.branch [
+  | then-m-list w ↦ rw w.list-is (λ lent l fs h e. record-more lent l _ _ h _ fs _ (sym (ap found_of c.in-Some.is) ∙ e) (omega (arith, w.if-m-list.true)) _ w.fault_number.ensures)
   | else-m-list w ↦ rw w.list-is (λ lent l fs h e. record-past lent l _ _ h _ fs _ (sym (ap found_of c.in-Some.is) ∙ e) (omega (arith, w.if-m-list.false)))
 ]

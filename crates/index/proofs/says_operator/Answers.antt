@@ -6,8 +6,8 @@ use Rattle.definitions.specs.Declock.{is_operator_kind}
 use Rattle.index.proofs.CalleesLaws.{says-kind}
 use Rattle.index.proofs.says_operator.Goals as goal
 
-pub returns-in-Some-Operator : goal.returns-in-Some-Operator
-returns-in-Some-Operator c =
-    let e = says-kind _ _ c.in-Some-Operator.field-0 c.node_kind.ensures c.in-Some-Operator.is in
+pub returns-in-Ok-Operator : goal.returns-in-Ok-Operator
+returns-in-Ok-Operator c =
+    let e = says-kind _ _ c.in-Ok-Operator.field-0 c.try_from.ensures c.in-Ok-Operator.is in
     let k : is_operator_kind NodeKind.Operator ≡ true = refl in
     cc (e, k)

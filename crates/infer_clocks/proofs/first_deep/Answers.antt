@@ -4,18 +4,18 @@ use native.Mathlib.Omega.{arith}
 use Rattle.infer_clocks.proofs.Laws.{nodes-start, nodes-end, nodes-step, nodes-deep, still}
 use Rattle.infer_clocks.proofs.first_deep.Goals as goal
 
-pub loop-i-init : goal.loop-i-init
-loop-i-init c = (refl, refl, refl, refl, λ ns q g u v y. nodes-start _ _ _ _ q ns g)
+pub loop-k-init : goal.loop-k-init
+loop-k-init c = (refl, refl, refl, refl, λ ns q g u v y. nodes-start _ _ _ _ _ q ns g)
 
 pub returns-then-deep_laid : goal.returns-then-deep_laid
 returns-then-deep_laid c =
-    let l = c.loop-i in
-    λ ns q g u v y. nodes-deep _ _ _ _ _ q _ _ _ c.loop-i-test.true c.node_at-l.ensures (λ n p e. c.deep_laid.ensures n p e (still _ _ _ u l.invariant.0) (still _ _ _ v l.invariant.1) (still _ _ _ y l.invariant.2)) (l.invariant.4 ns q g u v y) c.if-deep_laid.true
+    let l = c.loop-k in
+    λ ns q g u v y. nodes-deep _ _ _ _ _ q _ _ _ c.loop-k-test.true c.node_at-l.ensures (λ n p e. c.deep_laid.ensures n p e (still _ _ _ u l.invariant.0) (still _ _ _ v l.invariant.1) (still _ _ _ y l.invariant.2)) (l.invariant.4 ns q g u v y) c.if-deep_laid.true
 
-pub loop-i-preserved : goal.loop-i-preserved
-loop-i-preserved c =
-    let l = c.loop-i in
-    (c.deep_laid.auto.env ∙ l.invariant.0, c.deep_laid.auto.marks ∙ l.invariant.1, c.deep_laid.auto.table ∙ l.invariant.2, c.deep_laid.auto.sites ∙ l.invariant.3, λ ns q g u v y. nodes-step _ _ _ _ _ q _ _ _ c.loop-i-test.true c.node_at-l.ensures (λ n p e. c.deep_laid.ensures n p e (still _ _ _ u l.invariant.0) (still _ _ _ v l.invariant.1) (still _ _ _ y l.invariant.2)) (l.invariant.4 ns q g u v y) c.if-deep_laid.false)
+pub loop-k-preserved : goal.loop-k-preserved
+loop-k-preserved c =
+    let l = c.loop-k in
+    (c.deep_laid.auto.env ∙ l.invariant.0, c.deep_laid.auto.marks ∙ l.invariant.1, c.deep_laid.auto.table ∙ l.invariant.2, c.deep_laid.auto.sites ∙ l.invariant.3, λ ns q g u v y. nodes-step _ _ _ _ _ q _ _ _ c.loop-k-test.true c.node_at-l.ensures (λ n p e. c.deep_laid.ensures n p e (still _ _ _ u l.invariant.0) (still _ _ _ v l.invariant.1) (still _ _ _ y l.invariant.2)) (l.invariant.4 ns q g u v y) c.if-deep_laid.false)
 
 pub returns : goal.returns
-returns c = λ ns q g u v y. nodes-end _ _ _ _ _ q _ (omega (arith, c.loop-i-test.false)) (c.loop-i.invariant.4 ns q g u v y)
+returns c = λ ns q g u v y. nodes-end _ _ _ _ _ q _ (omega (arith, c.loop-k-test.false)) (c.loop-k.invariant.4 ns q g u v y)

@@ -1,7 +1,7 @@
 -- The nodes left tell what is answered.
 use mathlib.Core.Path.{◌≡◌}
 use mathlib.Core.List.{List}
-use Prim.Native.Nat.{ℕ, ◌-◌, ◌*◌, ◌≤◌}
+use Prim.Native.Nat.{ℕ, ◌+◌, ◌-◌, ◌*◌, ◌≤◌}
 use lib.ListN.{length}
 use Rattle.definitions.specs.Bytes.{tokens}
 use Rattle.definitions.specs.Tree.{Node}
@@ -11,6 +11,6 @@ use Rattle.definitions.specs.Answer.{clockings}
 use Rattle.infer_clocks.proofs.Laws.{Nodes}
 use Rattle.infer_clocks.proofs.first_deep.Given as goal
 
-abbrev pub invariant-loop-i : goal.invariant-loop-i
-invariant-loop-i l =
-    (length l.env ≡ length l.initial.env) × (length l.marks ≡ length l.initial.marks) × (length l.table ≡ length l.initial.table) × (length l.sites ≡ length l.initial.sites) × ((ns : List Node) (q : ℕ) → times l.count (node l.source.names) (tokens l.source.tags.now l.source.values.now) l.at ≡ got ns q → 17 * l.source.names ≤ length l.initial.env → l.source.names ≤ length l.initial.marks → 38 * length l.source.tags.now ≤ length l.initial.table → Nodes l.source.names (tokens l.source.tags.now l.source.values.now) (l.count - l.i) l.i l.place q (clockings 0 ns))
+abbrev pub invariant-loop-k : goal.invariant-loop-k
+invariant-loop-k l =
+    (length l.env ≡ length l.initial.env) × (length l.marks ≡ length l.initial.marks) × (length l.table ≡ length l.initial.table) × (length l.sites ≡ length l.initial.sites) × ((ns : List Node) (q : ℕ) → times l.count (node l.source.names) (tokens l.source.tags.now l.source.values.now) l.at ≡ got ns q → 17 * l.source.names ≤ length l.initial.env → l.source.names ≤ length l.initial.marks → 38 * length l.source.tags.now ≤ length l.initial.table → Nodes l.source.names (tokens l.source.tags.now l.source.values.now) (l.number + l.count - l.k) l.k l.place q (clockings l.number ns))

@@ -1,13 +1,35 @@
--- `inference::give_names` meets its contract: what is left to do makes the whole. The measure is the number left.
--- Assumes nothing.
-use mathlib.Core.Path.{◌∙◌}
-use native.Mathlib.Omega.{arith}
+-- `inference::give_names` meets its contract: what is left to do makes the whole. Assumes nothing.
+use mathlib.Core.Path.{refl, ap}
+use mathlib.Core.Bool.{◌||◌}
+use Rattle.definitions.specs.InferClocks.{give}
 use Rattle.clock_tables.specs.Value.{value_of}
-use Rattle.inference.proofs.PassesLaws.{giving-step, giving-end}
+use Rattle.inference.specs.Settled.{dates}
+use Rattle.inference.proofs.PassesLaws.{kept-all, kept-then, name-below, giving-step, giving-end}
 use Rattle.inference.proofs.give_names.Goals as goal
 
-pub loop-preserved : goal.loop-preserved
-loop-preserved c = (c.give_name-changed.auto.env ∙ c.loop.invariant.0, c.give_name-changed.auto.since ∙ c.loop.invariant.1, λ n p xs q b m g s. giving-step c.args.round.now.source.now.names c.args.round.now.source.now.tags.now c.args.round.now.source.now.values.now c.args.round.now.source.now.same_length n (value_of c.args.c) c.args.round.now.present c.loop.env _ c.loop.since _ c.args.round.now.marks.now c.loop.changed _ b c.args.left.count c.loop.counter c.loop.place _ q _ _ _ c.loop-test.true c.behind-place.ensures m c.word_at-x.ensures c.give_name-changed.ensures (c.loop.invariant.2 n p xs q b m g s))
+pub loop-x-init : goal.loop-x-init
+loop-x-init c = (
+  kept-all _,
+  λ n p xs q b m g s.
+      let e = c.names_in-names.ensures.read xs q g in
+      record { pass = p; stands = s; final = ap (λ l. give n (value_of c.args.c) l p) e; changes = ap (λ l. dates n (value_of c.args.c) c.args.round.now.present l p c.args.tables.now.since.now) e },
+)
 
-pub returns : goal.returns
-returns c = λ n p xs q b m g s. giving-end _ _ n _ _ _ _ _ _ _ q _ _ (omega (arith, c.loop-test.false)) (c.loop.invariant.2 n p xs q b m g s)
+pub loop-x-preserved : goal.loop-x-preserved
+loop-x-preserved c = (
+  kept-then _ _ _ c.loop-x.invariant.0 c.give_name-changed.ensures.kept,
+  λ n p xs q b m g s.
+      let r = c.args.round.now in
+      let l = c.loop-x in
+      let below = name-below r.source.now.names r.source.now.tags.now r.source.now.values.now r.source.now.same_length c.args.left.count c.args.left.at c.names_in-names.result.now xs q (c.names_in-names.ensures.read xs q g) g l.x-index c.loop-x-test.true in
+      giving-step r.source.now.names n (value_of c.args.c) r.present l.tables.env.now l.tables.since.now c.names_in-names.result.now _ _ _ _ r.marks.now l.changed c.give_name-changed.result b l.x-index _ c.loop-x-test.true refl below m c.give_name-changed.ensures.held (l.invariant.1 n p xs q b m g s),
+)
+
+pub returns-clause-held : goal.returns-clause-held
+returns-clause-held c = λ n p xs q b m g s.
+    let r = c.args.round.now in
+    let l = c.loop-x in
+    giving-end r.source.now.names n (value_of c.args.c) r.present l.tables.env.now l.tables.since.now c.names_in-names.result.now _ _ (l.changed || b) l.x-index c.loop-x-test.false (l.invariant.1 n p xs q b m g s)
+
+pub returns-clause-kept : goal.returns-clause-kept
+returns-clause-kept c = c.loop-x.invariant.0

@@ -10,11 +10,12 @@ use Rattle.definitions.specs.Reading.{got, times}
 use Rattle.definitions.specs.Grammar.{equation}
 use Rattle.definitions.specs.InferClocks.{Clocks, ports, pass}
 use Rattle.clock_tables.specs.Environment.{Agrees}
-use Rattle.inference.specs.Passes.{Marked}
+use Rattle.inference.specs.Passes.{Marked, Kept}
 use Rattle.inference.specs.Settled.{Ended, Calms}
 use Rattle.inference.proofs.PassesLaws.{Going}
 use Rattle.inference.proofs.one_pass.Given as goal
 
 abbrev pub invariant-loop-i : goal.invariant-loop-i
 invariant-loop-i l =
-    (n : Node) (es : List Equation) (q : ℕ) (clocks : Clocks) → Marked l.round.marks.now l.round.source.now.names (ports n) → Ended l.round.source.now.names (tokens_of l.round.source.now) l.fn.equations.at l.fn.equations.count l.ends → times l.fn.equations.count (equation l.round.source.now.names) (tokens_of l.round.source.now) l.fn.equations.at ≡ got es q → Agrees l.initial.env l.round.source.now.names clocks → Calms n l.initial.since (l.round.present - 1) clocks es → Going l.round.source.now.names (tokens_of l.round.source.now) n es l.round.present l.fn.equations.at l.env l.since l.changed l.fn.equations.count l.i l.place q (pass n es (record { changed = false; clocks = clocks }))
+    Kept l.initial.tables l.tables
+    × ((n : Node) (es : List Equation) (q : ℕ) (clocks : Clocks) → Marked l.round.marks.now l.round.source.now.names (ports n) → Ended l.round.source.now.names (tokens_of l.round.source.now) l.fn.equations.at l.fn.equations.count l.ends → times l.fn.equations.count (equation l.round.source.now.names) (tokens_of l.round.source.now) l.fn.equations.at ≡ got es q → Agrees l.initial.tables.env.now l.round.source.now.names clocks → Calms n l.initial.tables.since.now (l.round.present - 1) clocks es → Going l.round.source.now.names (tokens_of l.round.source.now) n es l.round.present l.fn.equations.at l.tables.env.now l.tables.since.now l.changed l.fn.equations.count l.i l.place q (pass n es (record { changed = false; clocks = clocks })))

@@ -8,10 +8,11 @@ use Rattle.definitions.specs.Reading.{got, times}
 use Rattle.definitions.specs.Grammar.{equation}
 use Rattle.definitions.specs.InferClocks.{Clocks, ports, passes_from}
 use Rattle.clock_tables.specs.Environment.{Agrees}
-use Rattle.inference.specs.Passes.{Marked}
+use Rattle.inference.specs.Passes.{Marked, Kept}
 use Rattle.inference.proofs.PassesLaws.{Repeating}
 use Rattle.inference.proofs.repeat_passes.Given as goal
 
 abbrev pub invariant-loop-made : goal.invariant-loop-made
 invariant-loop-made l =
-    (n : Node) (q : ℕ) (clocks : Clocks) → Marked l.marks l.source.names (ports n) → times l.fn.equations.count (equation l.source.names) (tokens l.source.tags.now l.source.values.now) l.fn.equations.at ≡ got n.equations q → Agrees l.initial.env l.source.names clocks → Repeating l.source.names n l.env l.since (l.most - l.made) l.made (passes_from n (suc l.fn.equations.count) 0 clocks)
+    Kept l.initial.tables l.tables
+    × ((n : Node) (q : ℕ) (clocks : Clocks) → Marked l.marks l.source.names (ports n) → times l.fn.equations.count (equation l.source.names) (tokens l.source.tags.now l.source.values.now) l.fn.equations.at ≡ got n.equations q → Agrees l.initial.tables.env.now l.source.names clocks → Repeating l.source.names n l.tables.env.now l.tables.since.now (l.most - l.made) l.made (passes_from n (suc l.fn.equations.count) 0 clocks))

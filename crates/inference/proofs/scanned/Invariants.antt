@@ -1,4 +1,4 @@
--- `inference::scanned` meets its contract: what is owed from here ends where the expression does, and no token that was passed gives a clock.
+-- `inference::scanned` meets its contract: what is owed from here ends where the expression does, and no token passed gives a clock.
 -- Assumes nothing.
 use Prim.Native.Nat.{◌<◌}
 use Rattle.inference.proofs.Scan.{Left}

@@ -1,7 +1,6 @@
 -- `listings::clocks_in` meets its contract. Assumes nothing.
 use Rattle.std.proofs.lemmas.Result.{err_from_is_err_and}
 use Rattle.workspace.proofs.Kept.{list-kept}
-use Rattle.query.proofs.Listings.{told-own}
 use Rattle.listings.proofs.Given.{clocks-turned, node-there, clocks-given, same-below}
 use Rattle.listings.proofs.clocks_in.Goals as goal
 
@@ -10,4 +9,4 @@ returns-in_err-told-clause-given c = λ i s r. let e = err_from_is_err_and c.fro
     rw (e.1, e.2) (clocks-turned _ _ _ _ _ i _ _ _ _ _ (c.in_err-told.ensures.node_told i _ s.tree r.clocks))
 
 pub returns-clause-given : goal.returns-clause-given
-returns-clause-given c = λ i s r. let z = node-there _ _ _ _ _ i _ _ (c.in_ok-told.ensures.node_told i _ s.tree r.clocks) in clocks-given _ i _ _ z.0 _ _ _ _ _ _ _ s.named z.2.number z.1 (c.write_clocked.ensures z.0 (told-own _ _ _ _ _ _ _ _ z.2) (list-kept c.clock_at.ensures.same_room r).chains (same-below _ _ _ z.2.number z.3))
+returns-clause-given c = λ i s r. let z = node-there _ _ _ _ _ i _ _ (c.in_ok-told.ensures.node_told i _ s.tree r.clocks) in clocks-given _ i _ _ z.0 _ _ _ _ _ _ _ s.named z.3 z.1 (c.write_clocked.ensures z.0 z.2 (list-kept c.clock_at.ensures.same_room r).chains (same-below _ _ _ z.3 z.4))

@@ -5,4 +5,4 @@ use Rattle.new_names.proofs.Added.{id-fits}
 use Rattle.new_names.proofs.id_of.Goals as goal
 
 pub overflow_cast-result : goal.overflow_cast-result
-overflow_cast-result g c = omega (arith, id-fits c.args.table.now c.requires (new_letters c.args.name) c.find_new.ensures)
+overflow_cast-result c = omega (arith, id-fits c.args.table.now (omega arith) (new_letters c.args.name) c.find_new.ensures)

@@ -10,4 +10,4 @@ use Rattle.node_plan.proofs.equations.Given as goal
 abbrev pub invariant-loop-i : goal.invariant-loop-i
 invariant-loop-i l =
     StillLent l.initial.notes l.notes ×
-    ((s'' : Tables) (r : Result ℕ Found) → WalksEquations (arrays_of l.planning) l.planning.index.now.condact (tables_of l.notes) s'' (l.fn.span.count - l.i) l.place l.i r → WalksEquations (arrays_of l.planning) l.planning.index.now.condact (tables_of l.initial.notes) s'' l.fn.span.count l.fn.span.at 0 r)
+    ((s'' : Tables) (r : Result ℕ Found) → WalksEquations (arrays_of l.planning) l.planning.index.now.condact (tables_of l.notes) s'' (l.fn.span.count - l.i-counter) l.place l.i-counter r → WalksEquations (arrays_of l.planning) l.planning.index.now.condact (tables_of l.initial.notes) s'' l.fn.span.count l.fn.span.at 0 r)

@@ -1,14 +1,30 @@
 -- `node_plan::lefts_fault` meets its contract: one left name after another.
 -- Assumes nothing.
-use native.Mathlib.Omega.{arith}
-use Rattle.node_plan.proofs.Lefts.{meeting-none, meeting-first, meeting-more}
+use mathlib.Core.Path.{refl, sym, ◌∙◌, ap, subst}
+use mathlib.Core.List.{List}
+use Prim.Native.Nat.{ℕ, ◌<◌}
+use lib.ListN.{length, get_or}
+use Rattle.stateless.specs.Faults.{lefts_fault}
+use Rattle.planned.proofs.LeftDefaultsLaws.{names-below}
+use Rattle.node_plan.specs.Noted.{told_of}
+use Rattle.node_plan.proofs.Lefts.{lefts-stop, lefts-next, lefts-end, fails}
 use Rattle.node_plan.proofs.lefts_fault.Goals as goal
 
-pub returns-in-Some : goal.returns-in-Some
-returns-in-Some c = λ xs q types l node g k. (c.loop.invariant types l node k _ (meeting-first types l node _ _ _ c.args.planning.now.index.now.source.same_length _ _ (omega arith) _ c.value_at-x.ensures _ (c.left_fault.ensures types l node k) _ c.in-Some.is)).all xs q g
+pub loop-x-init : goal.loop-x-init
+loop-x-init c = λ types l node k b. refl
 
-pub loop-preserved : goal.loop-preserved
-loop-preserved c = λ types l node k r h. c.loop.invariant types l node k r (meeting-more types l node _ _ _ c.args.planning.now.index.now.source.same_length _ _ (omega arith) _ c.value_at-x.ensures _ (c.left_fault.ensures types l node k) c.in_default.is _ c.behind-place.ensures _ (omega arith) r h)
+pub loop-x-preserved : goal.loop-x-preserved
+loop-x-preserved c = λ types l node k b. c.loop-x.invariant types l node k b ∙ lefts-next types l node _ _ c.loop-x-test.true (sym (ap told_of c.in_ok-left_fault.was) ∙ c.left_fault.ensures types l node k (b _ c.loop-x-test.true))
+
+pub returns-in_err-left_fault : goal.returns-in_err-left_fault
+returns-in_err-left_fault c = λ xs types l node s k.
+    let e = c.names_in-names.ensures.spanned xs s in
+    let b = subst (λ (ys : List ℕ). (i : ℕ) → i < length ys → get_or ys i 0 < c.args.planning.now.index.now.source.names) (sym e) (names-below _ _ _ c.args.planning.now.index.now.source.same_length _ _ xs _ s.items) in
+    ap told_of (fails _ _ c.from_residual.ensures)
+    ∙ (lefts-stop types l node _ _ c.loop-x-test.true _ (sym (ap told_of c.in_err-left_fault.was) ∙ c.left_fault.ensures types l node k (b _ c.loop-x-test.true)) ∙ (sym (c.loop-x.invariant types l node k b) ∙ ap (lefts_fault types l node) e))
 
 pub returns : goal.returns
-returns c = λ xs q types l node g k. (c.loop.invariant types l node k _ (meeting-none types l node _ _ _ _ (omega (arith, c.loop-test.false)))).all xs q g
+returns c = λ xs types l node s k.
+    let e = c.names_in-names.ensures.spanned xs s in
+    let b = subst (λ (ys : List ℕ). (i : ℕ) → i < length ys → get_or ys i 0 < c.args.planning.now.index.now.source.names) (sym e) (names-below _ _ _ c.args.planning.now.index.now.source.same_length _ _ xs _ s.items) in
+    lefts-end types l node _ _ c.loop-x-test.false ∙ (sym (c.loop-x.invariant types l node k b) ∙ ap (lefts_fault types l node) e)

@@ -23,11 +23,11 @@ returns-in_err-sizes-clause-tags c = tags-kept c.args.sheet.now _ c.in_err-sizes
 pub returns-in_err-sizes-clause-values : goal.returns-in_err-sizes-clause-values
 returns-in_err-sizes-clause-values c = values-kept c.args.sheet.now _ c.in_err-sizes.ensures c.args.values.now
 
-pub slice_bounds-copy_from_slice-end : goal.slice_bounds-copy_from_slice-end
-slice_bounds-copy_from_slice-end c = omega (arith, fits (goal.at.slice_bounds-copy_from_slice-end c).In_ok-sizes)
+pub slice_bounds-copy_items-end : goal.slice_bounds-copy_items-end
+slice_bounds-copy_items-end c = omega (arith, fits (goal.at.slice_bounds-copy_items-end c).In_ok-sizes)
 
-pub slice_bounds-copy_from_slice-end-3 : goal.slice_bounds-copy_from_slice-end-3
-slice_bounds-copy_from_slice-end-3 c = omega (arith, fits (goal.at.slice_bounds-copy_from_slice-end-3 c).In_ok-sizes)
+pub slice_bounds-copy_items-end-3 : goal.slice_bounds-copy_items-end-3
+slice_bounds-copy_items-end-3 c = omega (arith, fits (goal.at.slice_bounds-copy_items-end-3 c).In_ok-sizes)
 
 pub overflow_add-at-3 : goal.overflow_add-at-3
 overflow_add-at-3 c = omega (arith, fits (goal.at.overflow_add-at-3 c).In_ok-sizes)

@@ -16,4 +16,4 @@ pub returns-clause-value : goal.returns-clause-value
 returns-clause-value c = enough c.args.bytes.now c.args.out.now _ refl (omega (arith, c.if-out-n.false))
 
 pub returns-clause-out_after : goal.returns-clause-out_after
-returns-clause-out_after c = rw c.copy_bytes.ensures (bytes_over c.args.out.now c.args.bytes.now (omega (arith, c.if-out-n.false)) ∙ filled c.args.bytes.now c.args.out.now _ refl (omega (arith, c.if-out-n.false)))
+returns-clause-out_after c = rw c.copy_items.ensures (bytes_over c.args.out.now c.args.bytes.now (omega (arith, c.if-out-n.false)) ∙ filled c.args.bytes.now c.args.out.now _ refl (omega (arith, c.if-out-n.false)))

@@ -2,7 +2,7 @@
 -- Assumes nothing.
 use native.Mathlib.Omega.{arith}
 use Rattle.plan.proofs.Walk.{passes, sized, still-then, walks-sample, walks-join, walks-plain, follow-stops, call-stops, previous-stops, walks-follow, walks-call, walks-previous, both-stops, both-past, item-stops, item-past, walks-both, walks-item, walks-none, walks-sign, parts-past, parts-over}
-use Rattle.plan.proofs.+walk.Goals.{expr-then-tag-eq67-via-then-tag-eq67, expr-then-tag-eq67-via-else-tag-eq67+then-tag-eq68}
+use Rattle.plan.proofs.+walk.Goals.{expr-then-tag-eq-WHEN-via-then-tag-eq-WHEN, expr-then-tag-eq-WHEN-via-else-tag-eq-WHEN+then-tag-eq-WHEN_NOT}
 use Rattle.plan.proofs.+walk.Goals.{exprs-then-source-from-via-then-source-from, exprs-then-source-from-via-else-source-from+then-source-left}
 use Rattle.plan.proofs.+walk.Goals as goal
 
@@ -36,16 +36,16 @@ expr-returns-in_ok-end-in-60-clause-walks t c = walks-call _ _ _ _ _ _ _ c.in_ok
 pub expr-returns-in-69-clause-walks : goal.expr-returns-in-69-clause-walks
 expr-returns-in-69-clause-walks t c = walks-join _ _ _ _ _ c.in-69.is c.both-in-69.ensures.walks_both
 
-pub expr-returns-then-tag-eq67-clause-walks : goal.expr-returns-then-tag-eq67-clause-walks
-expr-returns-then-tag-eq67-clause-walks t c =
-    elim c.then-tag-eq67.branch [
-      | expr-then-tag-eq67-via-then-tag-eq67 w ↦ walks-sample _ _ _ _ _ (omega (arith, w.if-tag-eq67.true)) (omega (arith, w.if-tag-eq67.true)) c.expr.ensures.walks
-      | expr-then-tag-eq67-via-else-tag-eq67+then-tag-eq68 w ↦ walks-sample _ _ _ _ _ (omega (arith, w.if-tag-eq68.true)) (omega (arith, w.if-tag-eq68.true)) c.expr.ensures.walks
+pub expr-returns-then-tag-eq-WHEN-clause-walks : goal.expr-returns-then-tag-eq-WHEN-clause-walks
+expr-returns-then-tag-eq-WHEN-clause-walks t c =
+    elim c.then-tag-eq-WHEN.branch [
+      | expr-then-tag-eq-WHEN-via-then-tag-eq-WHEN w ↦ walks-sample _ _ _ _ _ (omega (arith, w.if-tag-eq-WHEN.true)) (omega (arith, w.if-tag-eq-WHEN.true)) c.expr.ensures.walks
+      | expr-then-tag-eq-WHEN-via-else-tag-eq-WHEN+then-tag-eq-WHEN_NOT w ↦ walks-sample _ _ _ _ _ (omega (arith, w.if-tag-eq-WHEN_NOT.true)) (omega (arith, w.if-tag-eq-WHEN_NOT.true)) c.expr.ensures.walks
     ]
 
 pub expr-returns-in_default-clause-walks : goal.expr-returns-in_default-clause-walks
 expr-returns-in_default-clause-walks t c = let u = c.in_default.in_default-own.rest in
-    walks-plain _ _ _ _ _ u.0.0.0.1 u.0.0.1 u.0.1 c.if-tag-eq67.false c.if-tag-eq68.false u.1 _ _ c.value_at-value.ensures c.follow-many.ensures c.exprs-in_default.ensures.walks_all
+    walks-plain _ _ _ _ _ u.0.0.0.1 u.0.0.1 u.0.1 c.if-tag-eq-WHEN.false c.if-tag-eq-WHEN_NOT.false u.1 _ _ c.value_at-value.ensures c.follow-many.ensures c.exprs-in_default.ensures.walks_all
 
 pub exprs-returns-then-source-from-clause-walks_all : goal.exprs-returns-then-source-from-clause-walks_all
 exprs-returns-then-source-from-clause-walks_all t c =
@@ -55,17 +55,17 @@ exprs-returns-then-source-from-clause-walks_all t c =
       | exprs-then-source-from-via-else-source-from+then-source-left w ↦ parts-over _ _ _ _ _ w.if-source-left.true
     ]
 
-pub exprs-loop-left-preserved-then-tag-lt50 : goal.exprs-loop-left-preserved-then-tag-lt50
-exprs-loop-left-preserved-then-tag-lt50 t c = (omega (arith, c.loop-left.invariant.0), c.loop-left.invariant.1, λ s'' r h. c.loop-left.invariant.2 s'' r (walks-sign _ _ s'' _ _ r c.if-tag-lt50.true c.loop-left-test.true _ (omega (arith, c.follow-more.ensures)) h))
+pub exprs-loop-left-preserved-then-tag-lt-BOOL : goal.exprs-loop-left-preserved-then-tag-lt-BOOL
+exprs-loop-left-preserved-then-tag-lt-BOOL t c = (omega (arith, c.loop-left.invariant.0), c.loop-left.invariant.1, λ s'' r h. c.loop-left.invariant.2 s'' r (walks-sign _ _ s'' _ _ r c.if-tag-lt-BOOL.true c.loop-left-test.true _ (omega (arith, c.follow-more.ensures)) h))
 
 pub exprs-returns-in_err-next-clause-walks_all : goal.exprs-returns-in_err-next-clause-walks_all
-exprs-returns-in_err-next-clause-walks_all t c = c.loop-left.invariant.2 _ _ (item-stops _ _ _ _ _ c.expr.ensures.walks _ _ c.in_err-next.was (passes _ _ _ c.from_residual.ensures c.in_err-next.was) c.if-tag-lt50.false _ c.loop-left-test.true)
+exprs-returns-in_err-next-clause-walks_all t c = c.loop-left.invariant.2 _ _ (item-stops _ _ _ _ _ c.expr.ensures.walks _ _ c.in_err-next.was (passes _ _ _ c.from_residual.ensures c.in_err-next.was) c.if-tag-lt-BOOL.false _ c.loop-left-test.true)
 
 pub exprs-returns-then-next-from-clause-walks_all : goal.exprs-returns-then-next-from-clause-walks_all
-exprs-returns-then-next-from-clause-walks_all t c = c.loop-left.invariant.2 _ _ (item-past _ _ _ _ _ c.expr.ensures.walks _ c.in_ok-next.was _ c.if-next-from.true c.if-tag-lt50.false _ c.loop-left-test.true)
+exprs-returns-then-next-from-clause-walks_all t c = c.loop-left.invariant.2 _ _ (item-past _ _ _ _ _ c.expr.ensures.walks _ c.in_ok-next.was _ c.if-next-from.true c.if-tag-lt-BOOL.false _ c.loop-left-test.true)
 
 pub exprs-loop-left-preserved : goal.exprs-loop-left-preserved
-exprs-loop-left-preserved t c = (omega (arith, c.loop-left.invariant.0, c.if-next-from.false), still-then c.loop-left.invariant.1 c.expr.ensures.still_lent, λ s'' r h. c.loop-left.invariant.2 s'' r (walks-item _ _ _ _ _ c.expr.ensures.walks _ c.in_ok-next.was s'' r (sized c.expr.ensures.still_lent) c.if-tag-lt50.false _ c.loop-left-test.true h))
+exprs-loop-left-preserved t c = (omega (arith, c.loop-left.invariant.0, c.if-next-from.false), still-then c.loop-left.invariant.1 c.expr.ensures.still_lent, λ s'' r h. c.loop-left.invariant.2 s'' r (walks-item _ _ _ _ _ c.expr.ensures.walks _ c.in_ok-next.was s'' r (sized c.expr.ensures.still_lent) c.if-tag-lt-BOOL.false _ c.loop-left-test.true h))
 
 pub exprs-returns-clause-walks_all : goal.exprs-returns-clause-walks_all
 exprs-returns-clause-walks_all t c = c.loop-left.invariant.2 _ _ (walks-none _ _ _ _ (omega (arith, c.loop-left-test.false)))

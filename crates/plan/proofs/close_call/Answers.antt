@@ -11,7 +11,7 @@ pub returns-in_default-clause-closes_call : goal.returns-in_default-clause-close
 returns-in_default-clause-closes_call c = record { close = λ types l node y N K D B. close-function types l node _ _ _ _ _ _ c.value_at-node.ensures _ c.put_word-in_default.ensures.words_after (sym c.on_base.ensures ∙ c.if-on_base.false) _ _ _ (c.operator_of.ensures l N) c.in_default.is y B }
 
 pub returns-in-None-clause-closes_call : goal.returns-in-None-clause-closes_call
-returns-in-None-clause-closes_call c = record { close = λ types l node y N K D B. close-gated types l node _ _ _ _ _ _ c.value_at-node.ensures (sym c.on_base.ensures ∙ c.if-on_base.false) _ _ _ (c.operator_of.ensures l N) _ _ c.in-Some.is _ (λ ds q g. c.output_lack.ensures ds q _ types l node g K D) _ c.in-None.is y (c.gate.ensures.gated y (sym c.on_base.ensures ∙ c.if-on_base.false) B) }
+returns-in-None-clause-closes_call c = record { close = λ types l node y N K D B. close-gated types l node _ _ _ _ _ _ c.value_at-node.ensures (sym c.on_base.ensures ∙ c.if-on_base.false) _ _ _ (c.operator_of.ensures l N) _ c.in-Some.is _ (λ ds g. c.output_lack.ensures ds _ types l node g K D) _ c.in-None.is y (c.gate.ensures.gated y (sym c.on_base.ensures ∙ c.if-on_base.false) B) }
 
 pub returns-in-Some-output_lack-clause-closes_call : goal.returns-in-Some-output_lack-clause-closes_call
-returns-in-Some-output_lack-clause-closes_call c = record { close = λ types l node y N K D B. close-lacks types l node _ _ _ _ c.value_at-node.ensures (sym c.on_base.ensures ∙ c.if-on_base.false) _ _ _ (c.operator_of.ensures l N) _ _ c.in-Some.is _ (λ ds q g. c.output_lack.ensures ds q _ types l node g K D) _ c.in-Some-output_lack.is _ }
+returns-in-Some-output_lack-clause-closes_call c = record { close = λ types l node y N K D B. close-lacks types l node _ _ _ _ c.value_at-node.ensures (sym c.on_base.ensures ∙ c.if-on_base.false) _ _ _ (c.operator_of.ensures l N) _ c.in-Some.is _ (λ ds g. c.output_lack.ensures ds _ types l node g K D) _ c.in-Some-output_lack.is _ }

@@ -13,4 +13,4 @@ use Rattle.plan.proofs.output_lack.Given as goal
 abbrev pub invariant-loop : goal.invariant-loop
 invariant-loop l =
     (types : List TypeDef) (ns : List Node) (node : Node) → Table l.index.source.names (tokens_of l.index.source) l.index.types.at l.index.types.count types → DefaultsKnown types l.index.types.count l.index.types.count l.index.has → (r : code.Option ℕ) →
-    Lacking types ns node l.index.source.names l.index.source.tags.now l.index.source.values.now (l.count - l.counter) l.place r → Lacking types ns node l.index.source.names l.index.source.tags.now l.index.source.values.now l.count l.at r
+    Lacking types ns node l.index.source.names (tokens_of l.index.source) (l.end - l.counter) l.place r → Lacking types ns node l.index.source.names (tokens_of l.index.source) l.end l.initial.place r

@@ -1,5 +1,6 @@
 -- `planned::put_type_at` meets its contract: the first token is written, and an element's tokens follow an array's.
 -- Assumes nothing.
+use mathlib.Core.Logic.{⊎_elim}
 use native.Mathlib.Omega.{arith}
 use Rattle.layout.proofs.TypedefsLaws.{type-not-refused, type-is-basic, type-is-named, type-is-array}
 use Rattle.planned.proofs.HoldsLaws.{wrote-basic, wrote-named, wrote-array, array-past, type-there}
@@ -15,10 +16,9 @@ pub returns-in_default : goal.returns-in_default
 returns-in_default t c = λ d y q g. absurd (type-not-refused _ _ _ _ c.type_head.ensures d y q g _ c.in_default.is)
 
 pub returns-in-Basic : goal.returns-in-Basic
-returns-in-Basic t c = λ d y q g. wrote-basic _ _ _ c.emit.ensures y _ c.in-Basic.is (type-is-basic _ _ _ _ c.type_head.ensures d y q g _ _ c.in-Ok.is _ c.in-Basic.is)
-
-pub returns-in-Named : goal.returns-in-Named
-returns-in-Named t c = λ d y q g. wrote-named _ _ _ c.emit.ensures y _ c.in-Named.is (type-is-named _ _ _ _ c.type_head.ensures d y q g _ _ c.in-Ok.is _ c.in-Named.is)
+returns-in-Basic t c = λ d y q g.
+    ⊎_elim (λ s. wrote-basic _ _ _ c.emit.ensures y _ s.1 (type-is-basic _ _ _ _ c.type_head.ensures d y q g _ _ c.in-Ok.is _ s.1))
+    (λ s. wrote-named _ _ _ c.emit.ensures y _ s.1 (type-is-named _ _ _ _ c.type_head.ensures d y q g _ _ c.in-Ok.is _ s.1)) c.in-Basic.is
 
 pub returns-else-next-at : goal.returns-else-next-at
 returns-else-next-at t c = λ d y q g. let b = type-is-array _ _ _ _ c.type_head.ensures d y q g _ _ c.in-Ok.is _ c.in-Array.is in wrote-array _ _ _ c.emit.ensures y _ b.0 _ c.in-Array.is b.4 (c.put_type_at.ensures _ b.0 q b.3)

@@ -10,4 +10,4 @@ pub returns-in-Choose : goal.returns-in-Choose
 returns-in-Choose c = λ ts l n xs ks t s k. c.put_kept.ensures ts l n xs ks t s (behind-choice ts l n xs ks _ k _ c.in-Choose.is)
 
 pub returns-in-Gate : goal.returns-in-Gate
-returns-in-Gate c = λ ts l n xs ks t s k. behind-gate ts l n xs ks _ k _ c.in-Gate.is _ _ λ f. c.put_left_defaults.ensures ts l n xs _ t s.items f
+returns-in-Gate c = λ ts l n xs ks t s k. behind-gate ts l n xs ks _ k _ c.in-Gate.is _ _ λ f. c.put_left_defaults.ensures ts l n xs t s f

@@ -11,5 +11,5 @@ use Rattle.planned.proofs.put_defaults.Given as goal
 
 abbrev pub invariant-loop : goal.invariant-loop
 invariant-loop l =
-    (ts : List TypeDef) (ns : List Node) (n : Node) → Table l.source.names (tokens_of l.source) l.types.at l.types.count ts → (o : Output) →
-    Defaulting ts ns n l.source.names (tokens_of l.source) (l.count - l.counter) l.place l.output o → Defaulting ts ns n l.source.names (tokens_of l.source) l.count l.at l.initial.output o
+    (ts : List TypeDef) (ns : List Node) (n : Node) → Table l.index.source.names (tokens_of l.index.source) l.index.types.at l.index.types.count ts → (o : Output) →
+    Defaulting ts ns n l.index.source.names (tokens_of l.index.source) (l.end - l.counter) l.place l.output o → Defaulting ts ns n l.index.source.names (tokens_of l.index.source) l.end l.initial.place l.initial.output o

@@ -3,7 +3,6 @@ use mathlib.Core.Path.{refl}
 use Rattle.std.proofs.lemmas.Result.{err_from_is_err_and}
 use Rattle.workspace.proofs.Kept.{roomy-kept}
 use Rattle.query.proofs.Nodes.{told-deep, told-behind, told-node}
-use borrow.Author.Rules.{rules}
 use Rattle.query.proofs.clock_before.Goals as goal
 
 pub returns-in_err-told-clause-node_told : goal.returns-in_err-told-clause-node_told
@@ -11,16 +10,11 @@ returns-in_err-told-clause-node_told c =
     λ n p ns q g h r few. let e = err_from_is_err_and c.from_residual.result c.from_residual.ensures.1 in
     rw (e.1, e.2) (told-deep _ _ _ _ _ _ n ns _ (c.in_err-told.ensures.clocked_as n p (c.node_at-layout.ensures n p g) (roomy-kept c.deep_among-deep.ensures.same_room r)))
 
-pub overflow_add-result : goal.overflow_add-result
-overflow_add-result c = search (rules, c.requires.k_bound)
-
-pub overflow_add-result-in-Err : goal.overflow_add-result-in-Err
-overflow_add-result-in-Err c = search (rules, c.requires.k_bound, c.ranges)
-
-pub returns-in-Err-clause-node_told : goal.returns-in-Err-clause-node_told
-returns-in-Err-clause-node_told c =
-    λ n p ns q g h r few. told-behind _ _ _ _ _ _ n ns _ (c.in_ok-told.ensures.clocked_as n p (c.node_at-layout.ensures n p g) (roomy-kept c.deep_among-deep.ensures.same_room r)) q _ (c.deep_among-deep.ensures.deeply ns q (rw (c.node_at-layout.ensures n p g).ends h) r) _ _ c.in-Err.is refl
+pub returns-in_err-deep-clause-node_told : goal.returns-in_err-deep-clause-node_told
+returns-in_err-deep-clause-node_told c =
+    λ n p ns q g h r few. let e = err_from_is_err_and c.from_residual-in_err-deep.result c.from_residual-in_err-deep.ensures.1 in
+    rw (e.1, e.2) (told-behind _ _ _ _ _ _ n ns _ (c.in_ok-told.ensures.clocked_as n p (c.node_at-layout.ensures n p g) (roomy-kept c.deep_among-deep.ensures.same_room r)) q _ (c.in_err-deep.ensures.deeply ns q (rw (c.node_at-layout.ensures n p g).ends h) r) _ refl)
 
 pub returns-clause-node_told : goal.returns-clause-node_told
 returns-clause-node_told c =
-    λ n p ns q g h r few. told-node _ _ _ _ _ _ n ns _ (c.in_ok-told.ensures.clocked_as n p (c.node_at-layout.ensures n p g) (roomy-kept c.deep_among-deep.ensures.same_room r)) q _ (c.deep_among-deep.ensures.deeply ns q (rw (c.node_at-layout.ensures n p g).ends h) r) _ c.in_default.is few
+    λ n p ns q g h r few. told-node _ _ _ _ _ _ n ns _ (c.in_ok-told.ensures.clocked_as n p (c.node_at-layout.ensures n p g) (roomy-kept c.deep_among-deep.ensures.same_room r)) q _ (c.in_ok-deep.ensures.deeply ns q (rw (c.node_at-layout.ensures n p g).ends h) r) _ refl few

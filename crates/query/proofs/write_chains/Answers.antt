@@ -5,6 +5,6 @@ use Rattle.query.proofs.write_chains.Goals as goal
 pub returns : goal.returns
 returns c =
     record {
-      value = λ u v w. chains-many _ _ _ _ (c.chain_rows-count.ensures u v w);
-      list_after = λ u v w. chains-written _ _ _ _ (c.chain_rows-count.ensures u v w) _ _ c.write_rows.ensures;
+      value = λ u v w. chains-many _ _ _ _ (c.chain_rows-ordered.ensures u v w);
+      list_after = λ u v w. chains-written _ _ _ _ (c.chain_rows-ordered.ensures u v w) _ _ c.write_rows.ensures;
     }

@@ -10,4 +10,4 @@ use Rattle.query.proofs.write_equations.Given as goal
 
 abbrev pub invariant-loop-i : goal.invariant-loop-i
 invariant-loop-i l =
-    (length l.list ≡ length l.initial.list) × ((M : ℕ) (cs : List Clocked) (q : ℕ) → EquationsOn M l.source.tags.now l.source.values.now l.sites cs l.initial.place q → length cs ≡ l.fn.s.count → Equations M l.source.tags.now l.source.values.now l.sites cs q l.place l.initial.list l.i l.list)
+    (M : ℕ) (cs : List Clocked) (q : ℕ) → EquationsOn M l.source.tags.now l.source.values.now l.sites cs l.initial.place q → length cs ≡ l.fn.s.count → Equations M l.source.tags.now l.source.values.now l.sites cs q l.place l.initial.list l.i l.list

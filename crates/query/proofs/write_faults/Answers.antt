@@ -11,6 +11,6 @@ loop-i-init c = (omega arith, faults-none _ _ _)
 
 pub loop-i-preserved : goal.loop-i-preserved
 loop-i-preserved c = elim c.match-finding_at.branch [
-  | in-Fault w ↦ rw (w.m-is, w.list-is) (omega (arith, c.loop-i.invariant.0), fault-written _ _ _ _ _ _ c.loop-i.invariant.1 _ w.in-Fault.ensures _ _ _ refl w.fault_number-number.ensures w.put_fault.ensures)
+  | in-Fault w ↦ rw (w.m-is, w.list-is) (omega (arith, c.loop-i.invariant.0), fault-written _ _ _ _ _ _ c.loop-i.invariant.1 _ w.in-Fault.ensures _ _ _ refl w.fault_number-fault.ensures w.put_fault.ensures)
   | in_default w ↦ rw (w.m-is, w.list-is) (omega (arith, c.loop-i.invariant.0), fault-passed _ _ _ _ _ _ c.loop-i.invariant.1 _ c.finding_at.ensures (not-fault _ w.in_default.not-Fault))
 ]

@@ -1,7 +1,12 @@
 -- `questions::fault_lines` meets its contract. Assumes nothing.
-use mathlib.Core.Path.{subst⁻¹}
-use Rattle.listings.specs.Answers.{ListingGiven}
+use mathlib.Core.Logic.{⊎_elim}
+use Rattle.std.proofs.Common.{rules, of_calls}
+use Rattle.questions.proofs.Asked.{lines-down, lines-called}
+use Rattle.workspace.proofs.Kept.{to-plan}
 use Rattle.questions.proofs.fault_lines.Goals as goal
 
 pub returns : goal.returns
-returns c = subst⁻¹ (ListingGiven _ _ _) c.bytes_answer.ensures c.ask.ensures
+returns c = ⊎_elim
+    (λ d. lines-down _ _ _ _ d.told d.answer (search rules))
+    (λ u. lines-called _ _ _ _ u.call.read.reading (search (rules, of_calls, u.call.called, u.call.read.standing, u.call.read.lengths, to-plan u.call.room u.call.read.standing.few-tokens)))
+    c.ask.ensures

@@ -1,7 +1,11 @@
 -- `questions::listing` meets its contract. Assumes nothing.
-use mathlib.Core.Path.{subst⁻¹}
-use Rattle.listings.specs.Answers.{ListingGiven}
+use mathlib.Core.Logic.{⊎_elim}
+use Rattle.std.proofs.Common.{rules, of_calls}
+use Rattle.questions.proofs.Asked.{listing-down, listing-called}
 use Rattle.questions.proofs.listing.Goals as goal
 
 pub returns : goal.returns
-returns c = subst⁻¹ (ListingGiven _ _ _) c.bytes_answer.ensures c.ask.ensures
+returns c = ⊎_elim
+    (λ d. listing-down _ _ _ _ d.told d.answer (search rules) _)
+    (λ u. listing-called _ _ _ _ u.call.read.reading _ (search (rules, of_calls, u.call.called, u.call.read.standing, u.call.room.listed)))
+    c.ask.ensures

@@ -1,7 +1,11 @@
 -- `questions::listings` meets its contract. Assumes nothing.
-use mathlib.Core.Path.{subst⁻¹}
-use Rattle.listings.specs.Answers.{ListingGiven}
+use mathlib.Core.Logic.{⊎_elim}
+use Rattle.std.proofs.Common.{rules, of_calls}
+use Rattle.questions.proofs.Asked.{listings-down, listings-called}
 use Rattle.questions.proofs.listings.Goals as goal
 
 pub returns : goal.returns
-returns c = subst⁻¹ (ListingGiven _ _ _) c.bytes_answer.ensures c.ask.ensures
+returns c = ⊎_elim
+    (λ d. listings-down _ _ _ _ d.told d.answer (search rules))
+    (λ u. listings-called _ _ _ _ u.call.read.reading (search (rules, of_calls, u.call.called, u.call.read.standing, u.call.room.listed)))
+    c.ask.ensures

@@ -1,7 +1,12 @@
 -- `questions::text` meets its contract. Assumes nothing.
-use mathlib.Core.Path.{subst⁻¹}
-use Rattle.listings.specs.Answers.{ListingGiven}
+use mathlib.Core.Logic.{⊎_elim}
+use Rattle.std.proofs.Common.{rules, of_calls}
+use Rattle.questions.proofs.Asked.{text-down, text-called}
+use Rattle.workspace.proofs.Kept.{to-plan}
 use Rattle.questions.proofs.text.Goals as goal
 
 pub returns : goal.returns
-returns c = subst⁻¹ (ListingGiven _ _ _) c.bytes_answer.ensures c.ask.ensures
+returns c = ⊎_elim
+    (λ d. text-down _ _ _ _ d.told d.answer (search rules) _ _)
+    (λ u. text-called _ _ _ _ u.call.read.reading _ _ (search (rules, of_calls, u.call.called, u.call.read.standing, u.call.read.lengths, to-plan u.call.room u.call.read.standing.few-tokens)))
+    c.ask.ensures

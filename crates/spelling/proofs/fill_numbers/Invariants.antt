@@ -1,4 +1,4 @@
--- `spelling::fill_numbers` meets its contract. The first i numbers are written, and i numbers below the next to be tried are free. Assumes nothing.
+-- `spelling::fill_numbers` meets its contract: so many are written, and as many below the next to be tried are free. Assumes nothing.
 use Prim.Native.Nat.{◌≤◌, ◌+◌}
 use mathlib.Core.Path.{◌≡◌}
 use mathlib.Core.List.{map}
@@ -8,6 +8,6 @@ use Rattle.spelling.specs.Places.{letters_in}
 use Rattle.spelling.specs.Free.{free_below, new_numbers}
 use Rattle.spelling.proofs.fill_numbers.Given as goal
 
-abbrev pub invariant-loop-i : goal.invariant-loop-i
-invariant-loop-i l =
-    (length l.out ≡ length l.initial.out) × (l.from ≤ l.i + length l.ids) × (free_below (map (letters_in l.spelling) l.ids) (stem_of l.stem) l.from ≡ l.i) × (take l.i l.out ≡ new_numbers (map (letters_in l.spelling) l.ids) (stem_of l.stem) l.i)
+abbrev pub invariant-loop-number : goal.invariant-loop-number
+invariant-loop-number l =
+    (l.from ≤ l.number-index + length l.ids) × (free_below (map (letters_in l.spelling) l.ids) (stem_of l.stem) l.from ≡ l.number-index) × (take l.number-index l.out ≡ new_numbers (map (letters_in l.spelling) l.ids) (stem_of l.stem) l.number-index)

@@ -1,6 +1,7 @@
 -- `typing::type_of` meets its contract.
 -- Assumes nothing.
 use mathlib.Core.Path.{refl, sym, ◌∙◌, ap}
+use mathlib.Core.Logic.{⊎_elim}
 use native.Mathlib.Omega.{arith}
 use lib.ListN.{length}
 use Rattle.definitions.specs.Tree.{Expr, Exprs}
@@ -13,9 +14,6 @@ use Rattle.typing.proofs.+type_of.Goals as goal
 
 pub type_of-requires : goal.type_of-requires
 type_of-requires t c = omega (arith, c.decreases, left_there _ _ _ c.args.source.now.same_length _ _ c.view_at-v.ensures c.if-v-at.false, c.if-o-at.false)
-
-pub type_of-requires-in-Previous : goal.type_of-requires-in-Previous
-type_of-requires-in-Previous t c = omega (arith, c.decreases, left_there _ _ _ c.args.source.now.same_length _ _ c.view_at-v.ensures c.if-v-at.false, c.if-o-at.false)
 
 pub type_of-a-requires : goal.type_of-a-requires
 type_of-a-requires t c = omega (arith, c.decreases, left_there _ _ _ c.args.source.now.same_length _ _ c.view_at-v.ensures c.if-v-at.false, c.if-o-at.false)
@@ -39,10 +37,11 @@ pub returns-in-Name : goal.returns-in-Name
 returns-in-Name t c = λ e q ds g d. let i = arm e _ _ (c.view_at-v.ensures.role e q g) c.in-Name.is in name-found _ _ _ e _ _ i (declared-name _ _ _ _ ds e q _ _ g i d _ c.last_type.ensures _ c.map.ensures.cases)
 
 pub returns-in-Sample : goal.returns-in-Sample
-returns-in-Sample t c = λ e q ds g d. let i = arm e _ _ (c.view_at-v.ensures.role e q g) c.in-Sample.is in let x = split-of _ _ _ _ _ _ c.first_operand-o.ensures _ q (c.view_at-v.ensures.operands e q g) i.0 Exprs.end (ops-when e i.0 _ i.1) in sample-found _ _ _ e _ _ i.0 i.1 (c.type_of.ensures i.0 x.0 ds x.1 d)
-
-pub returns-in-Previous : goal.returns-in-Previous
-returns-in-Previous t c = λ e q ds g d. let i = arm e _ _ (c.view_at-v.ensures.role e q g) c.in-Previous.is in let x = split-of _ _ _ _ _ _ c.first_operand-o.ensures _ q (c.view_at-v.ensures.operands e q g) i.0 Exprs.end (ops-one e i.0 i.1) in pre-found _ _ _ e _ i.0 i.1 (c.type_of-in-Previous.ensures i.0 x.0 ds x.1 d)
+returns-in-Sample t c = λ e q ds g d.
+    let h = c.view_at-v.ensures.role e q g in
+    let split = split-of _ _ _ _ _ _ c.first_operand-o.ensures _ q (c.view_at-v.ensures.operands e q g) in
+    ⊎_elim (λ s. let i = arm e _ _ h s.1 in let x = split i.0 Exprs.end (ops-when e i.0 _ i.1) in sample-found _ _ _ e _ _ i.0 i.1 (c.type_of.ensures i.0 x.0 ds x.1 d))
+    (λ s. let i = arm e _ _ h s in let x = split i.0 Exprs.end (ops-one e i.0 i.1) in pre-found _ _ _ e _ i.0 i.1 (c.type_of.ensures i.0 x.0 ds x.1 d)) c.in-Sample.is
 
 pub returns-else-p-at : goal.returns-else-p-at
 returns-else-p-at t c = λ e q ds g d. let i = arm e _ _ (c.view_at-v.ensures.role e q g) c.in-Follow.is in let x = split-of _ _ _ _ _ _ c.first_operand-o.ensures _ q (c.view_at-v.ensures.operands e q g) i.0 (Exprs.and i.1 Exprs.end) (ops-two e i.0 i.1 i.2) in let y = first_of _ c.args.source.now.tags.now c.args.source.now.values.now c.args.source.now.same_length _ _ _ _ c.operand_at-p.ensures _ q x.2 i.1 Exprs.end refl in arrow-found _ _ _ e _ i.0 i.1 _ _ i.2 c.or.ensures (c.type_of-b.ensures i.1 y.0 ds y.1 d) (c.type_of-a.ensures i.0 x.0 ds x.1 d)

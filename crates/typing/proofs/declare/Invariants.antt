@@ -10,4 +10,4 @@ use Rattle.typing.proofs.declare.Given as goal
 abbrev pub invariant-loop : goal.invariant-loop
 invariant-loop l =
     (length l.types ≡ length l.initial.types) ×
-    ((t : List ℕ) → Declaring l.source.names l.source.tags.now l.source.values.now (l.count - l.counter) l.place l.types t → Declaring l.source.names l.source.tags.now l.source.values.now l.count l.at l.initial.types t)
+    ((t : List ℕ) → Declaring l.source.names l.source.tags.now l.source.values.now (l.end - l.counter) l.place l.types t → Declaring l.source.names l.source.tags.now l.source.values.now l.end l.initial.place l.initial.types t)

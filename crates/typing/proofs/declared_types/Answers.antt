@@ -7,6 +7,6 @@ use Rattle.typing.proofs.declared_types.Goals as goal
 pub returns-clause-declares : goal.returns-clause-declares
 returns-clause-declares c = λ n u d room few.
     let z = declares-start _ _ _ (c.clear.ensures.x_after room) in
-    let x = c.declare.ensures.declares n.inputs _ _ d.inputs.items (omega (arith, room, c.clear.ensures.types_len_unchanged)) few z in
-    let y = c.declare-2.ensures.declares n.outputs _ _ d.outputs.items (omega (arith, room, c.clear.ensures.types_len_unchanged, c.declare.ensures.types_len_unchanged)) few x in
-    declares-lists _ _ _ n (c.declare-3.ensures.declares n.locals _ _ d.locals.items (omega (arith, room, c.clear.ensures.types_len_unchanged, c.declare.ensures.types_len_unchanged, c.declare-2.ensures.types_len_unchanged)) few y)
+    let x = c.declare.ensures.declares n.inputs _ d.inputs (omega (arith, room, c.clear.ensures.types_len_unchanged)) few z in
+    let y = c.declare-2.ensures.declares n.outputs _ d.outputs (omega (arith, room, c.clear.ensures.types_len_unchanged, c.declare.ensures.types_len_unchanged)) few x in
+    declares-lists _ _ _ n (c.declare-3.ensures.declares n.locals _ d.locals (omega (arith, room, c.clear.ensures.types_len_unchanged, c.declare.ensures.types_len_unchanged, c.declare-2.ensures.types_len_unchanged)) few y)

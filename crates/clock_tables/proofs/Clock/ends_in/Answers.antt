@@ -1,11 +1,12 @@
-use Prim.Native.Nat.{◌-◌}
-use mathlib.Core.Path.{◌≡◌, ◌∙◌}
-use native.Mathlib.Omega.{arith}
-use Rattle.clock_tables.specs.Value.{at, capped}
-use Rattle.clock_tables.proofs.ClockLaws.{condition-eq, last-at}
+-- `Clock::ends_in` meets its contract: base has no last condition; else the last is over the others. Assumes nothing.
+use mathlib.Core.Path.{sym, ◌∙◌, ap}
+use Rattle.definitions.specs.Clock.{ends_in}
+use Rattle.clock_tables.specs.Value.{value_of}
+use Rattle.clock_tables.proofs.ClockLaws.{condition-eq, none-last, last-over}
 use Rattle.clock_tables.proofs.Clock.ends_in.Goals as goal
 
-pub returns-then-d-gt0 : goal.returns-then-d-gt0
-returns-then-d-gt0 c =
-    let z : capped c.args.self.depth ≡ 0 → ⊥ = omega (arith, c.depth-d.ensures.value, c.if-d-gt0.true) in
-    c.eq.ensures ∙ (condition-eq c.args.k (at c.args.self.conditions (c.depth-d.result - 1)) ∙ rw (c.depth-d.ensures.value, last-at _ _ z))
+pub returns-in_default : goal.returns-in_default
+returns-in_default c = ap (ends_in c.args.k) (sym (none-last _ c.in_default.ensures.value) ∙ c.conditions.ensures.clock)
+
+pub returns : goal.returns
+returns c = c.eq.ensures ∙ (condition-eq c.args.k _ ∙ ap (ends_in c.args.k) (sym (last-over _ _ (value_of c.args.self) c.in-Some.ensures.value c.conditions.ensures.clock)))

@@ -1,27 +1,41 @@
+use Prim.Native.Nat.{◌*◌, ◌≤◌}
 use native.Mathlib.Omega.{arith}
-use mathlib.Core.Path.{◌≡◌, refl, ◌∙◌}
-use Rattle.std.specs.Prelude.{false, is_some}
+use mathlib.Core.Path.{refl, ◌∙◌}
+use lib.ListN.{length}
 use Rattle.clock_tables.specs.Value.{value_of}
 use Rattle.clock_tables.proofs.RowsLaws.{there, absent, has-over, has-found, has_absent}
+use Rattle.clock_tables.proofs.Distinct.{row-found, row-behind}
 use Rattle.clock_tables.proofs.ClockTable.add.Goals as goal
-use Rattle.clock_tables.proofs.ClockTable.add.Goals.{else-self-room-via-then-self-room+else-is_none, else-self-room-via-else-self-room}
 
-pub returns-then-is_none : goal.returns-then-is_none
-returns-then-is_none c =
-    let t = c.args.self.now.words.now in
-    let n = c.args.self.now.count in
-    let none : is_some c.place.result ≡ false = rw c.if-is_none.true at c.is_none.ensures in
+pub returns-then-self-behind-clause-grown : goal.returns-then-self-behind-clause-grown
+returns-then-self-behind-clause-grown c =
+    let t = c.args.self.now in
+    record { same_reference = refl; same_length = refl; held = λ cs h. has-over t.words.now t.count (value_of c.args.c) cs (omega (arith, c.if-self-behind.true)) h }
+
+pub returns-in-Some-clause-grown : goal.returns-in-Some-clause-grown
+returns-in-Some-clause-grown c =
+    let t = c.args.self.now in
+    let room : 17 * t.count ≤ length t.words.now = omega (arith, c.if-self-behind.false) in
+    let found = c.in-Some.ensures ∙ rw (c.list.ensures.words_value, c.list.ensures.count_value) refl in
+    record { same_reference = refl; same_length = refl; held = λ cs h. has-found t.words.now t.count (value_of c.args.c) cs room (there t.words.now t.count (value_of c.args.c) _ found refl) h }
+
+pub returns-in-Some-clause-row : goal.returns-in-Some-clause-row
+returns-in-Some-clause-row c =
+    let t = c.args.self.now in
+    λ cs. row-found t.words.now t.count (value_of c.args.c) cs c.in-Some.row (c.in-Some.ensures ∙ rw (c.list.ensures.words_value, c.list.ensures.count_value) refl)
+
+pub returns-in-None-clause-grown : goal.returns-in-None-clause-grown
+returns-in-None-clause-grown c =
+    let t = c.args.self.now in
+    let gone = absent t.words.now t.count (value_of c.args.c) _ (c.in-None.ensures ∙ rw (c.list.ensures.words_value, c.list.ensures.count_value) refl) refl in
     record {
       same_reference = c.push.ensures.same_reference;
       same_length = c.push.ensures.same_length;
-      held = λ cs h. has_absent t n (value_of c.args.c) cs _ _ (omega (arith, c.if-self-room.true)) (absent t n (value_of c.args.c) c.place.result (c.place.ensures ∙ rw (c.list.ensures.words_value, c.list.ensures.count_value) refl) none) h (c.push.ensures.held cs h);
+      held = λ cs h. has_absent t.words.now t.count (value_of c.args.c) cs _ _ (omega (arith, c.if-self-behind.false)) gone h (c.push.ensures.held cs h);
     }
 
-pub returns-else-self-room : goal.returns-else-self-room
-returns-else-self-room c =
-    let t = c.args.self.now.words.now in
-    let n = c.args.self.now.count in
-    elim c.else-self-room.branch [
-      | else-self-room-via-then-self-room+else-is_none w ↦ (record { same_reference = refl; same_length = refl; held = λ cs h. has-found t n (value_of c.args.c) cs (omega (arith, w.if-self-room.true)) (there t n (value_of c.args.c) w.place.result (w.place.ensures ∙ rw (w.list.ensures.words_value, w.list.ensures.count_value) refl) (rw w.if-is_none.false at w.is_none.ensures)) h })
-      | else-self-room-via-else-self-room w ↦ (record { same_reference = refl; same_length = refl; held = λ cs h. has-over t n (value_of c.args.c) cs (omega (arith, w.if-self-room.false)) h })
-    ]
+pub returns-in-None-clause-row : goal.returns-in-None-clause-row
+returns-in-None-clause-row c =
+    let t = c.args.self.now in
+    let gone = absent t.words.now t.count (value_of c.args.c) _ (c.in-None.ensures ∙ rw (c.list.ensures.words_value, c.list.ensures.count_value) refl) refl in
+    λ cs. row-behind t.words.now t.count (value_of c.args.c) cs _ _ (omega (arith, c.if-self-behind.false)) gone (c.push.ensures.held _)

@@ -9,4 +9,4 @@ returns-in_err-second c = λ l s.
     let n : c.from_residual.result ≡ None = c.from_residual.ensures in rw n (none-called c.args.self.now l s c.args.f c.operator_named.result (c.operator_named.ensures l s) c.in_err-second.was)
 
 pub returns : goal.returns
-returns c = λ l s. operator-called c.args.self.now l s c.args.f c.operator_named.result c.in_ok-second.second (c.operator_named.ensures l s) c.in_ok-second.was _ _ _ c.behind.ensures c.declared_at-inputs.ensures c.declared_at-outputs.ensures
+returns c = λ l s. operator-called c.args.self.now l s c.args.f c.operator_named.result c.in_ok-second.second (c.operator_named.ensures l s) c.in_ok-second.was _ _ _ c.behind.ensures c.declared_at-inputs.ensures c.declared_at.ensures

@@ -1,13 +1,9 @@
--- `lines::ListedNode::put_into` meets its contract: the chains in their rows, the listing measured, then put. Assumes nothing.
-use Rattle.lines.proofs.ListingLengths.{few, measured-written, measured-lent}
+-- `lines::ListedNode::put_into` meets its contract: the chains in their rows, and the listing. Assumes nothing.
+use Rattle.std.proofs.Common.{rules}
+use Rattle.lines.proofs.ListingLengths.{few, node-fits}
 use Rattle.lines.proofs.ListedNode.put_into.Goals as goal
-
-pub returns-then-size-out : goal.returns-then-size-out
-returns-then-size-out c = λ n h u v small.
-    let chained = (rw (c.findings.ensures.count_value, c.findings.ensures.words_value) at c.chain_rows-count.ensures) u v (few _ small.findings) in
-    measured-written _ _ _ c.measure-size.ensures.upper_bound (c.measure-size.ensures.value n h chained small) c.if-size-out.true (c.put.ensures.put n h chained)
 
 pub returns : goal.returns
 returns c = λ n h u v small.
-    let chained = (rw (c.findings.ensures.count_value, c.findings.ensures.words_value) at c.chain_rows-count.ensures) u v (few _ small.findings) in
-    measured-lent _ _ _ c.measure-size.ensures.upper_bound (c.measure-size.ensures.value n h chained small) c.if-size-out.false
+    let chained = (rw (c.findings.ensures.count_value, c.findings.ensures.words_value) at c.chain_rows-ordered.ensures) u v (few _ small.findings) in
+    c.lend_put.ensures _ (node-fits c.args.self.now c.chain_rows-ordered.result n h chained small) (λ o m o' p. search (rules, p, h, chained))

@@ -1,0 +1,9 @@
+-- `lines::put_no_default` meets its contract. Assumes nothing.
+use Rattle.definitions.specs.Lists.{bytes}
+use Rattle.definitions.specs.Texts.{fault_text}
+use Rattle.lines.proofs.Spelled.{spells_then, letters_put}
+use Rattle.lines.proofs.NamedText.put_no_default.Goals as goal
+
+pub returns : goal.returns
+unfolding bytes fault_text
+returns c = spells_then (letters_put c.put_all.ensures) c.put_quoted.ensures

@@ -1,0 +1,9 @@
+-- `lines::put_undeclared` meets its contract. Assumes nothing.
+use Rattle.definitions.specs.Lists.{bytes}
+use Rattle.definitions.specs.Texts.{fault_text}
+use Rattle.lines.proofs.Spelled.{spells_then, letters_put}
+use Rattle.lines.proofs.NamedText.put_undeclared.Goals as goal
+
+pub returns : goal.returns
+unfolding bytes fault_text
+returns c = spells_then c.put_quoted.ensures (letters_put c.put_all.ensures)

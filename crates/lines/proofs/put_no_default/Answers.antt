@@ -1,9 +1,0 @@
--- `lines::put_no_default` meets its contract. Assumes nothing.
-use Rattle.definitions.specs.Lists.{bytes}
-use Rattle.definitions.specs.Texts.{fault_text}
-use Rattle.spelling.proofs.Writers.{wrote_then}
-use Rattle.lines.proofs.put_no_default.Goals as goal
-
-pub returns : goal.returns
-unfolding bytes fault_text
-returns c = wrote_then c.put_all.ensures c.put_quoted.ensures

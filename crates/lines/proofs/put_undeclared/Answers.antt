@@ -1,9 +1,0 @@
--- `lines::put_undeclared` meets its contract. Assumes nothing.
-use Rattle.definitions.specs.Lists.{bytes}
-use Rattle.definitions.specs.Texts.{fault_text}
-use Rattle.spelling.proofs.Writers.{wrote_then}
-use Rattle.lines.proofs.put_undeclared.Goals as goal
-
-pub returns : goal.returns
-unfolding bytes fault_text
-returns c = wrote_then c.put_quoted.ensures c.put_all.ensures

@@ -1,0 +1,19 @@
+-- `listings::lend_put` meets its contract: what was put aside is lent, and what is put again was measured. Assumes nothing.
+use native.Mathlib.Omega.{arith}
+use Rattle.std.proofs.lemmas.Result.{err_from_is_err_and}
+use Rattle.workspace.proofs.Kept.{same-first}
+use Rattle.listings.proofs.All.{aside-refused, aside-lent, aside-few, put-again}
+use Rattle.listings.proofs.lend_put.Goals as goal
+
+pub returns-in_err-m-clause-given : goal.returns-in_err-m-clause-given
+returns-in_err-m-clause-given g c = λ v P. let e = err_from_is_err_and c.from_residual.result c.from_residual.ensures.1 in
+    rw (e.1, e.2) (aside-refused v c.args.aside.now c.put.new.arg2 c.args.out.now _ (P _ _ _ _ _ (same-first _) c.in_err-m.ensures))
+
+pub returns-then-m-aside-clause-given : goal.returns-then-m-aside-clause-given
+returns-then-m-aside-clause-given g c = λ v P. aside-lent v _ _ _ _ (P _ _ _ _ _ (same-first _) c.in_ok-m.ensures) (omega (arith, c.if-m-aside.true, c.put.auto.arg2)) _ _ c.lend.ensures
+
+pub returns-then-out-m-clause-given : goal.returns-then-out-m-clause-given
+returns-then-out-m-clause-given g c = λ v P. aside-few v _ _ _ _ (P _ _ _ _ _ (same-first _) c.in_ok-m.ensures) c.if-out-m.true
+
+pub returns-clause-given : goal.returns-clause-given
+returns-clause-given g c = λ v P. put-again v _ _ _ _ (P _ _ _ _ _ (same-first _) c.in_ok-m.ensures) _ _ c.if-out-m.false (P _ _ _ _ _ (c.requires.keeps _ _ _ _ _ c.put.ensures) c.put-2.ensures)

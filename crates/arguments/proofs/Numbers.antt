@@ -10,7 +10,7 @@ use lib.ListN.{length, get_or, drop, drop_of_length-le}
 use lib.Seq.{drop-cons}
 use Rattle.definitions.specs.Lists.{all, Letters}
 use Rattle.definitions.specs.Bytes.{is_digit}
-use Rattle.arguments.specs.declared.Word.{Word}
+use Rattle.std.specs.Prelude.{None, Some}
 use Rattle.arguments.specs.Words.{most, written, number_of}
 
 -- a number beyond `most` is as good as `most`
@@ -40,24 +40,24 @@ module _ {w : Letters} {n i : ℕ} (r : Read w n i) where
       }
 
   -- no digit
-  pub read-other : i < length w → is_digit (get_or w i 0) ≡ false → Word.Other ≡ number_of w
+  pub read-other : i < length w → is_digit (get_or w i 0) ≡ false → None ≡ number_of w
   read-other h e = other w (r.digits ∙ rw (drop-cons w i 0 h, e))
     where
-      other : (v : Letters) → all is_digit v ≡ false → Word.Other ≡ number_of v
+      other : (v : Letters) → all is_digit v ≡ false → None ≡ number_of v
       other [] f = refl
       other (d ∷ v) f = rw f
 
   -- all digits
-  pub read_all : length w ≤ i → (length w ≡ 0 → ⊥) → Word.Number n ≡ number_of w
+  pub read_all : length w ≤ i → (length w ≡ 0 → ⊥) → Some n ≡ number_of w
   read_all h k =
       number w k (r.digits ∙ rw (drop_of_length-le w h))
       (let e : min (written n (drop i w)) most ≡ n = rw (drop_of_length-le w h) (omega (arith, r.small)) in r.value ∙ e)
     where
-      number : (v : Letters) → (length v ≡ 0 → ⊥) → all is_digit v ≡ true → min (written 0 v) most ≡ n → Word.Number n ≡ number_of v
+      number : (v : Letters) → (length v ≡ 0 → ⊥) → all is_digit v ≡ true → min (written 0 v) most ≡ n → Some n ≡ number_of v
       number [] l f g = absurd (l refl)
       number (d ∷ v) l f g = rw (f, g)
 
 -- nothing is no number
-pub read-nothing : (w : Letters) → length w ≡ 0 → Word.Other ≡ number_of w
+pub read-nothing : (w : Letters) → length w ≡ 0 → None ≡ number_of w
 read-nothing [] e = refl
 read-nothing (d ∷ w) e = absurd (omega arith)

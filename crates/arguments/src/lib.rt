@@ -1,5 +1,5 @@
-// What the programs share: what a word of a command line says, the front of lent bytes, a refusal's line, bytes read until a buffer is
-// full.
+// What the programs share: what the words of a command line ask for, the front of lent bytes, a refusal's line, bytes read until a buffer
+// is full.
 #![tactic(auto)]
 
 ghost use Rattle.std.specs.Prelude.{◌≡◌, ◌+◌, ◌*◌, ◌-◌, ◌≤◌, ◌<◌, ℕ, min, length, take, drop, replicate, IfOk, OnOk, IfSome};
@@ -9,7 +9,7 @@ ghost use Rattle.definitions.specs.Lists.{Letters};
 ghost use Rattle.definitions.specs.Bytes.{is_digit};
 ghost use Rattle.spelling.specs.Writing.{Put};
 ghost use Rattle.refusals.specs.Reasons.{reason_line};
-ghost use Rattle.arguments.specs.Words.{most, number_of, meaning_of};
+ghost use Rattle.arguments.specs.Words.{most, number_of, meaning_of, optional_number};
 
 use definitions::Refusal;
 use spelling::TextWriter;
@@ -17,13 +17,16 @@ use std::env::{Env, FillError};
 use std::io;
 use std::io::{Read, Write};
 
-// What a word of a command line says: it asks for help, or is a number in decimal, or is neither.
+// What is asked for: help, or something, or nothing that is understood.
 #[derive(Clone, Copy)]
-pub enum Word {
+pub enum Asked<T> {
     Help,
-    Number(usize),
+    For(T),
     Other,
 }
+
+// What a word of a command line says: it asks for help, or is a number in decimal, or is neither.
+pub type Word = Asked<usize>;
 
 // Larger numbers are told as this one: no sheet, node or fault list is as long.
 const MOST: usize = 1000000000000000000;
@@ -51,30 +54,33 @@ fn extended(n: usize, b: u8) -> usize
 
 // The number that a word writes in decimal, if it does.
 // Stays (no plainer): str::parse takes a sign before the digits, and turns down numbers that are to be told as the largest.
-fn number(word: &[u8]) -> Word
+pub fn number(word: &[u8]) -> Option<usize>
     ensures { result ≡ number_of word.now }
 {
     if word.is_empty() {
-        return Word::Other;
+        return None;
     }
     let mut n: usize = 0;
     for b in word {
         if !is_digit(*b) {
-            return Word::Other;
+            return None;
         }
         n = extended(n, *b);
     }
-    Word::Number(n)
+    Some(n)
 }
 
 // What a word says.
-pub fn meaning(word: &[u8]) -> Word
+fn meaning(word: &[u8]) -> Word
     ensures { result ≡ meaning_of word.now }
 {
     if word == b"--help".as_slice() {
-        return Word::Help;
+        return Asked::Help;
     }
-    number(word)
+    match number(word) {
+        Some(n) => Asked::For(n),
+        None => Asked::Other,
+    }
 }
 
 // What argument i of the command line says, where it is given. One that is longer than 4,096 bytes is neither help nor a number.
@@ -84,8 +90,20 @@ pub fn argument(env: &impl Env, i: usize) -> Option<Word>
     let mut word = [0u8; 4096];
     match env.arg(i, &mut word) {
         Ok(n) => Some(meaning(&word[..n])),
-        Err(FillError::TooLong) => Some(Word::Other),
+        Err(FillError::TooLong) => Some(Asked::Other),
         Err(FillError::NotPresent) => None,
+    }
+}
+
+// What the words of a program ask for that takes one number, or none.
+pub fn optional_number(first: Option<Word>, second: Option<Word>) -> Asked<Option<usize>>
+    ensures { result ≡ optional_number first second }
+{
+    match (first, second) {
+        (None, None) => Asked::For(None),
+        (Some(Asked::Help), None) => Asked::Help,
+        (Some(Asked::For(n)), None) => Asked::For(Some(n)),
+        _ => Asked::Other,
     }
 }
 
@@ -94,13 +112,6 @@ pub fn front(bytes: &[u8], n: usize) -> &[u8]
     ensures { result.now ≡ take n bytes.now }
 {
     &bytes[..n.min(bytes.len())]
-}
-
-// Writes the first n bytes, or all where there are fewer.
-pub fn show<W: Write>(writer: &mut W, bytes: &[u8], n: usize) -> io::Result<()>
-    ensures { OnOk result (Appends (W.contents writer.old) (W.contents writer.new) (take n bytes.now)) }
-{
-    writer.write_all(front(bytes, n))
 }
 
 // Writes a refusal's line, `refused NUMBER PLACE: REASON`.
@@ -114,7 +125,7 @@ pub fn refuse<W: Write>(errors: &mut W, r: Refusal) -> io::Result<()>
     };
     refusals::put_reason(&mut text, r);
     let n = text.place();
-    show(errors, &line, n)
+    errors.write_all(front(&line, n))
 }
 
 // Reads until these bytes are full or the input ends: how many were read.

@@ -3,7 +3,7 @@
 use mathlib.Core.Path.{◌≡◌, refl, sym, ◌∙◌, ap}
 use mathlib.Core.List.{List}
 use mathlib.Core.Bool.{Bool, true, false}
-use Prim.Native.Nat.{ℕ, zero, suc, ◌≤◌, ◌<◌, Ordering}
+use Prim.Native.Nat.{ℕ, zero, suc, ◌+◌, ◌≤◌, ◌<◌, Ordering}
 use native.Mathlib.Omega.{arith}
 use native.Mathlib.Numerals.{add-one}
 use lib.ListN.{length, get_or, take}
@@ -21,7 +21,7 @@ use Rattle.definitions.specs.Lists.{Letters}
 use Rattle.definitions.specs.Clock.{Clock, chain_order}
 use Rattle.chain_order.specs.Order.{answer_of, row_of, InOrder, Sought}
 use Rattle.chain_order.proofs.Laws.{Gone, gone-none, gone-more, sought-end, sought-less, sought-same}
-use Rattle.chain_order.proofs.Total.{chain-total, swap}
+use Rattle.chain_order.proofs.Total.{chain-total, swap, rising-at}
 
 -- what an answer says
 answered-less : (o : Ordering) → answer_of o ≡ Less → o ≡ Ordering.lt
@@ -58,6 +58,12 @@ module _ (letters : ℕ → Letters) (rows o : List ℕ) (k : ℕ) (c : Clock) w
   turned i e = (chain-total letters).swapped (row_of rows (get_or o i 0)) c ∙ ap swap e
 
   module _ (s : InOrder letters rows o k) (h : k ≤ length o) where
+    apart : (i j : ℕ) → i < j → j < k → chain_order letters (row_of rows (get_or o j 0)) (row_of rows (get_or o i 0)) ≡ Ordering.gt
+    apart i j l m =
+        let z : 0 + j ≡ j = omega arith in
+        let y : 0 + i ≡ i = omega arith in
+        rw (z, y) at (rising-at letters rows o 0 k s i j l m)
+
     -- the answers rise
     rises-at : (i j : ℕ) → i ≤ j → j < k → ordering_index (asked (get_or o i 0)) ≤ ordering_index (asked (get_or o j 0))
     rises-at i j l m = go (eqb i j) refl (chain_order letters (row_of rows (get_or o i 0)) c) refl
@@ -67,14 +73,14 @@ module _ (letters : ℕ → Letters) (rows o : List ℕ) (k : ℕ) (c : Clock) w
         go false t Ordering.lt e = rw e (omega arith)
         go false t Ordering.eq e =
             let n : i ≡ j → ⊥ = eqb-false i j t in
-            let q : chain_order letters (row_of rows (get_or o j 0)) (row_of rows (get_or o i 0)) ≡ Ordering.gt = s i j (omega arith) m in
+            let q : chain_order letters (row_of rows (get_or o j 0)) (row_of rows (get_or o i 0)) ≡ Ordering.gt = apart i j (omega arith) m in
             let a : chain_order letters c (row_of rows (get_or o j 0)) ≡ chain_order letters (row_of rows (get_or o i 0)) (row_of rows (get_or o j 0)) = sym ((chain-total letters).alike (row_of rows (get_or o i 0)) c (row_of rows (get_or o j 0)) e) in
             let b : chain_order letters (row_of rows (get_or o i 0)) (row_of rows (get_or o j 0)) ≡ Ordering.lt = (chain-total letters).swapped (row_of rows (get_or o j 0)) (row_of rows (get_or o i 0)) ∙ ap swap q in
             let f : chain_order letters (row_of rows (get_or o j 0)) c ≡ Ordering.gt = (chain-total letters).swapped c (row_of rows (get_or o j 0)) ∙ ap swap (a ∙ b) in
             rw (e, f) (omega arith)
         go false t Ordering.gt e =
             let n : i ≡ j → ⊥ = eqb-false i j t in
-            let q : chain_order letters (row_of rows (get_or o j 0)) (row_of rows (get_or o i 0)) ≡ Ordering.gt = s i j (omega arith) m in
+            let q : chain_order letters (row_of rows (get_or o j 0)) (row_of rows (get_or o i 0)) ≡ Ordering.gt = apart i j (omega arith) m in
             let f : chain_order letters (row_of rows (get_or o j 0)) c ≡ Ordering.gt = (chain-total letters).after (row_of rows (get_or o j 0)) (row_of rows (get_or o i 0)) c q e in
             rw (e, f) (omega arith)
 
@@ -88,7 +94,7 @@ module _ (letters : ℕ → Letters) (rows o : List ℕ) (k : ℕ) (c : Clock) w
 
     -- rows before one that is alike are before the clock
     past-alike : (i : ℕ) → i < k → against i ≡ Ordering.eq → (m : ℕ) → m < i → against m ≡ Ordering.gt
-    past-alike i l e m n = (chain-total letters).alike c (row_of rows (get_or o i 0)) (row_of rows (get_or o m 0)) e ∙ s m i n l
+    past-alike i l e m n = (chain-total letters).alike c (row_of rows (get_or o i 0)) (row_of rows (get_or o m 0)) e ∙ apart m i n l
 
     found : (i : ℕ) → i < k → asked (get_or o i 0) ≡ Equal → Sought letters rows o k c (Ok i)
     found i l e =

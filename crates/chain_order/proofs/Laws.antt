@@ -1,13 +1,14 @@
 -- Laws of the order of chains, and of rows put into it.
 -- Assumes nothing.
 use mathlib.Core.Path.{◌≡◌, refl, sym, ◌∙◌, ap, fun_ext}
-use mathlib.Core.List.{List, [], ◌∷◌, ◌++◌, append_assoc}
+use mathlib.Core.List.{List, [], ◌∷◌, ◌++◌, map, append_assoc}
 use mathlib.Core.Bool.{Bool, true, false}
 use Prim.Native.Nat.compare
 use Prim.Native.Nat.{ℕ, zero, suc, ◌+◌, ◌-◌, ◌*◌, ◌≤◌, ◌<◌, compare, Ordering}
 use native.Mathlib.Omega.{arith}
 use native.Mathlib.Numerals.{add-one, sub-one}
-use lib.ListN.{length, get_or}
+use lib.ListN.{length, get_or, take, drop}
+use lib.Seq.{drop-cons}
 use lib.Dec.{eqb, ltb}
 use borrow.Author.Tests.{eqb-true, eqb-false, ltb-true, ltb-false}
 use Rattle.definitions.specs.declared.Condition.{Condition}
@@ -88,6 +89,15 @@ pub conditions-cmp : (letters : ℕ → Letters) (k l : Condition) {x y : Letter
     → p ≡ answer_of (test_order k.test l.test) → r ≡ ordering_then o p → r ≡ answer_of (condition_order letters k l)
 conditions-cmp letters k l {x} {y} a b e f g =
     g ∙ rw (e, f, a, b, letters-cmp (letters k.name) (letters l.name)) (then-answer (lexical compare (letters k.name) (letters l.name)) (test_order k.test l.test))
+
+letters-same : (x : Letters) → lexical compare x x ≡ Ordering.eq
+unfolding lexical
+letters-same [] = refl
+letters-same (a ∷ x) = rw (compare_same a a (omega arith) (omega arith)) (letters-same x)
+
+-- one name: the tests alone
+pub conditions-alike : (letters : ℕ → Letters) (k l : Condition) {p : cmp.Ordering} → k.name ≡ l.name → p ≡ answer_of (test_order k.test l.test) → p ≡ answer_of (condition_order letters k l)
+conditions-alike letters k l e f = f ∙ rw (e, letters-same (letters l.name)) refl
 
 -- an answer is `Equal` where the orders are
 pub answer-eq : (o : Ordering) {r : cmp.Ordering} {t : Bool} → r ≡ answer_of o → t ≡ is_ne r → t ≡ false → o ≡ Ordering.eq
@@ -243,6 +253,12 @@ module _ (f : ℕ → Clock) where
       let e : i + suc m ≡ i + 1 + m = omega arith in
       let z : suc m + n ≡ suc (m + n) = omega arith in
       rw (e, z) (ap (λ (l : List Clock). f (get_or o i 0) ∷ l) (picked-split o (i + 1) m n))
+
+  -- those words as a list
+  pub picked-taken : (o : List ℕ) (i n : ℕ) → i + n ≤ length o → picked f o i n ≡ map f (take n (drop i o))
+  unfolding picked
+  picked-taken o i zero h = refl
+  picked-taken o i (suc n) h = rw (drop-cons o i 0 (omega arith), ← add-one i) (ap (λ (l : List Clock). f (get_or o i 0) ∷ l) (picked-taken o (i + 1) n (omega arith)))
 
 -- ---- where a clock goes
 module _ (letters : ℕ → Letters) (c d : Clock) (ds : List Clock) where

@@ -3,6 +3,7 @@
 -- Assumes nothing.
 use mathlib.Core.Path.{◌≡◌, refl, sym, ◌∙◌, ap}
 use mathlib.Core.List.{List, [], ◌∷◌}
+use mathlib.Core.Bool.{true}
 use mathlib.Core.Logic.{◌⊎◌, inl, inr}
 use Prim.Native.Nat.compare
 use Prim.Native.Nat.{ℕ, zero, suc, ◌+◌, ◌<◌, compare, Ordering}
@@ -11,8 +12,8 @@ use lib.ListN.{get_or}
 use Rattle.definitions.specs.declared.Condition.{Condition}
 use Rattle.definitions.specs.declared.Test.{Test}
 use Rattle.definitions.specs.Lists.{Letters}
-use Rattle.definitions.specs.Clock.{Clock, conditions, and_then, lexical, condition_order, test_order, chain_order, insert, in_chain_order}
-use Rattle.chain_order.specs.Order.{row_of, picked, InOrder}
+use Rattle.definitions.specs.Clock.{Clock, conditions, and_then, lexical, condition_order, test_order, chain_order, insert}
+use Rattle.chain_order.specs.Order.{row_of, picked, is_after, Before, Rising}
 use Rattle.chain_order.proofs.Laws.{compare-more}
 
 -- the order of the two the other way round
@@ -173,52 +174,44 @@ module _ (letters : ℕ → Letters) where
       }
 
   -- ---- clocks that stand each after those before it
-  After : Clock → List Clock → Type 0
-  After c [] = Unit {0}
-  After c (d ∷ ds) = (chain_order letters d c ≡ Ordering.gt) × After c ds
+  is_gt : (o : Ordering) → is_after o ≡ true → o ≡ Ordering.gt
+  is_gt Ordering.lt e = absurd (let z : ◌≡◌ {A = ℕ} 0 1 = cc in omega arith)
+  is_gt Ordering.eq e = absurd (let z : ◌≡◌ {A = ℕ} 0 1 = cc in omega arith)
+  is_gt Ordering.gt e = refl
 
-  Rising : List Clock → Type 0
-  Rising [] = Unit {0}
-  Rising (c ∷ cs) = After c cs × Rising cs
-
-  after-all : (c d : Clock) (ds : List Clock) → chain_order letters d c ≡ Ordering.gt → After d ds → After c ds
-  unfolding After
+  after-all : (c d : Clock) (ds : List Clock) → chain_order letters d c ≡ Ordering.gt → Before letters d ds → Before letters c ds
+  unfolding Before
   after-all c d [] h a = tt
-  after-all c d (e ∷ es) h (p, a) = (chain-total.after e d c p h, after-all c d es h a)
+  after-all c d (e ∷ es) h (p, a) = (ap is_after (chain-total.after e d c (is_gt (chain_order letters e d) p) h), after-all c d es h a)
 
-  after-insert : (b c : Clock) (ds : List Clock) → chain_order letters c b ≡ Ordering.gt → After b ds → After b (insert letters c ds)
-  unfolding After insert
-  after-insert b c [] h a = (h, tt)
+  after-insert : (b c : Clock) (ds : List Clock) → chain_order letters c b ≡ Ordering.gt → Before letters b ds → Before letters b (insert letters c ds)
+  unfolding Before insert
+  after-insert b c [] h a = (ap is_after h, tt)
   after-insert b c (d ∷ ds) h (p, a) = go (chain_order letters c d) (after-insert b c ds h a)
     where
-      go : (o : Ordering) → After b (insert letters c ds) → After b (elim o [ Ordering.lt ↦ c ∷ d ∷ ds | Ordering.eq ↦ d ∷ ds | Ordering.gt ↦ d ∷ insert letters c ds ])
-      go Ordering.lt r = (h, (p, a))
+      go : (o : Ordering) → Before letters b (insert letters c ds) → Before letters b (elim o [ Ordering.lt ↦ c ∷ d ∷ ds | Ordering.eq ↦ d ∷ ds | Ordering.gt ↦ d ∷ insert letters c ds ])
+      go Ordering.lt r = (ap is_after h, (p, a))
       go Ordering.eq r = (p, a)
       go Ordering.gt r = (p, r)
 
-  rising-insert : (c : Clock) (ds : List Clock) → Rising ds → Rising (insert letters c ds)
-  unfolding Rising After insert
+  pub rising-insert : (c : Clock) (ds : List Clock) → Rising letters ds → Rising letters (insert letters c ds)
+  unfolding Rising Before insert
   rising-insert c [] r = (tt, tt)
   rising-insert c (d ∷ ds) (a, r) = go (chain_order letters c d) refl (rising-insert c ds r)
     where
-      go : (o : Ordering) → chain_order letters c d ≡ o → Rising (insert letters c ds) → Rising (elim o [ Ordering.lt ↦ c ∷ d ∷ ds | Ordering.eq ↦ d ∷ ds | Ordering.gt ↦ d ∷ insert letters c ds ])
-      go Ordering.lt q s = let e : chain_order letters d c ≡ Ordering.gt = chain-total.swapped c d ∙ rw q in ((e, after-all c d ds e a), (a, r))
+      go : (o : Ordering) → chain_order letters c d ≡ o → Rising letters (insert letters c ds) → Rising letters (elim o [ Ordering.lt ↦ c ∷ d ∷ ds | Ordering.eq ↦ d ∷ ds | Ordering.gt ↦ d ∷ insert letters c ds ])
+      go Ordering.lt q s = let e : chain_order letters d c ≡ Ordering.gt = chain-total.swapped c d ∙ rw q in ((ap is_after e, after-all c d ds e a), (a, r))
       go Ordering.eq q s = (a, r)
       go Ordering.gt q s = (after-insert d c ds q a, s)
 
-  rising : (cs : List Clock) → Rising (in_chain_order letters cs)
-  unfolding Rising in_chain_order
-  rising [] = tt
-  rising (c ∷ cs) = rising-insert c (in_chain_order letters cs) (rising cs)
-
   module _ (rows o : List ℕ) where
-    after-at : (c : Clock) (s n : ℕ) → After c (picked (row_of rows) o s n) → (j : ℕ) → j < n → chain_order letters (row_of rows (get_or o (s + j) 0)) c ≡ Ordering.gt
-    unfolding After picked
+    after-at : (c : Clock) (s n : ℕ) → Before letters c (picked (row_of rows) o s n) → (j : ℕ) → j < n → chain_order letters (row_of rows (get_or o (s + j) 0)) c ≡ Ordering.gt
+    unfolding Before picked
     after-at c s zero a j l = absurd (omega arith)
-    after-at c s (suc n) (p, a) zero l = let e : s + 0 ≡ s = omega arith in rw e p
+    after-at c s (suc n) (p, a) zero l = let e : s + 0 ≡ s = omega arith in rw e (is_gt (chain_order letters (row_of rows (get_or o s 0)) c) p)
     after-at c s (suc n) (p, a) (suc j) l = let e : s + suc j ≡ s + 1 + j = omega arith in rw e (after-at c (s + 1) n a j (omega arith))
 
-    rising-at : (s n : ℕ) → Rising (picked (row_of rows) o s n) → (i j : ℕ) → i < j → j < n → chain_order letters (row_of rows (get_or o (s + j) 0)) (row_of rows (get_or o (s + i) 0)) ≡ Ordering.gt
+    pub rising-at : (s n : ℕ) → Rising letters (picked (row_of rows) o s n) → (i j : ℕ) → i < j → j < n → chain_order letters (row_of rows (get_or o (s + j) 0)) (row_of rows (get_or o (s + i) 0)) ≡ Ordering.gt
     unfolding Rising picked
     rising-at s zero r i j l m = absurd (omega arith)
     rising-at s (suc n) r i zero l m = absurd (omega arith)
@@ -230,10 +223,3 @@ module _ (letters : ℕ → Letters) where
         let e : s + suc j ≡ s + 1 + j = omega arith in
         let z : s + suc i ≡ s + 1 + i = omega arith in
         rw (e, z) (rising-at (s + 1) n r i j (omega arith) (omega arith))
-
-    -- rows in chain order are ordered
-    pub ordered : (k : ℕ) (cs : List Clock) → picked (row_of rows) o 0 k ≡ in_chain_order letters cs → InOrder letters rows o k
-    ordered k cs e i j l m =
-        let z : 0 + j ≡ j = omega arith in
-        let y : 0 + i ≡ i = omega arith in
-        rw (z, y) at (rising-at 0 k (rw e (rising cs)) i j l m)

@@ -1,6 +1,8 @@
 -- The order of chains over tables.
+use mathlib.Core.HLevel.{×_prop, Unit-prop}
+use mathlib.Core.Bool.{Bool-set}
 use Prim.Native.Nat.{ℕ, zero, suc, ◌+◌, ◌-◌, ◌*◌, ◌≤◌, ◌<◌, Ordering}
-use Rattle.std.specs.Prelude.{◌≡◌, Result, Ok, Err, List, [], ◌∷◌, ◌++◌, length, get_or}
+use Rattle.std.specs.Prelude.{◌≡◌, Bool, true, false, Result, Ok, Err, List, [], ◌∷◌, ◌++◌, map, length, get_or}
 use Rattle.definitions.specs.Lists.{Letters}
 use Rattle.definitions.specs.Clock.{Clock, chain_order, insert}
 use Rattle.clock_tables.specs.Flat.{clock_in}
@@ -25,7 +27,7 @@ picked f o i (suc n) = f (get_or o i 0) ∷ picked f o (i + 1) n
 
 -- the clocks of ordered rows
 abbrev pub ordered_clocks : OrderedClocks → List Clock
-ordered_clocks o = picked (row_of o.rows.now) o.order.now 0 o.count
+ordered_clocks o = map (row_of o.rows.now) o.order.now
 
 -- the first k words are below m
 abbrev pub FirstBelow : List ℕ → ℕ → ℕ → Type 0
@@ -38,9 +40,37 @@ pub record Shifted (o o' : List ℕ) (j k x : ℕ) : Type 0 where
   pub here : get_or o' j 0 ≡ x
   pub after : (i : ℕ) → j ≤ i → i < k → get_or o' (i + 1) 0 ≡ get_or o i 0
 
+-- does the first stand behind the second?
+abbrev pub is_after : Ordering → Bool
+is_after Ordering.lt = false
+is_after Ordering.eq = false
+is_after Ordering.gt = true
+
+module _ (letters : ℕ → Letters) where
+  -- a clock stands before all of these
+  unfoldable pub Before : Clock → List Clock → Type 0
+  Before c [] = Unit {0}
+  Before c (d ∷ ds) = (is_after (chain_order letters d c) ≡ true) × Before c ds
+
+  -- each stands before those behind it
+  unfoldable pub Rising : List Clock → Type 0
+  unfolding Before
+  Rising [] = Unit {0}
+  Rising (c ∷ cs) = Before c cs × Rising cs
+
+  Before-prop : (c : Clock) (ds : List Clock) → IsProp (Before c ds)
+  unfolding Before
+  Before-prop c [] = Unit-prop
+  Before-prop c (d ∷ ds) = ×_prop (Bool-set _ _) (Before-prop c ds)
+
+  pub Rising-prop : (cs : List Clock) → IsProp (Rising cs)
+  unfolding Rising
+  Rising-prop [] = Unit-prop
+  Rising-prop (c ∷ cs) = ×_prop (Before-prop c cs) (Rising-prop cs)
+
 -- of k rows, each is after those before it
 abbrev pub InOrder : (ℕ → Letters) → List ℕ → List ℕ → ℕ → Type 0
-InOrder letters rows o k = (i j : ℕ) → i < j → j < k → chain_order letters (row_of rows (get_or o j 0)) (row_of rows (get_or o i 0)) ≡ Ordering.gt
+InOrder letters rows o k = Rising letters (picked (row_of rows) o 0 k)
 
 -- a clock is there among k rows, or goes before the j-th of them
 unfoldable pub Sought : (ℕ → Letters) → List ℕ → List ℕ → ℕ → Clock → Result ℕ ℕ → Type 0

@@ -15,16 +15,25 @@ use Rattle.definitions.specs.Tree.{Expr}
 use Rattle.definitions.specs.Clock.{Clock, ◌↓◌, depth, deepest, parent, same_clock, ends_in}
 use Rattle.definitions.specs.InferClocks as rules
 use Rattle.definitions.specs.InferClocks.{Clocks, clock_of, deep, formed, condition_over, natural, Fault, used_elsewhere, when_elsewhere, clock_name_elsewhere, Finding, found, site, too_deep, one_down, on_natural, must_be_on, check}
-use Rattle.std.specs.Prelude.{Result, Ok, Err}
+use Rattle.std.specs.Prelude.{Result, Ok, Err, IsOkAnd}
+use Rattle.std.specs.Result.{MatchResult}
 use Rattle.std.specs.Prelude as maybe
-use Rattle.clock_tables.specs.declared.Clock as struct
-use Rattle.clock_tables.specs.Value.{value_of, option_of}
+use Rattle.clock_tables.specs.declared.clock.Clock as struct
+use Rattle.clock_tables.specs.declared.TooDeep.{TooDeep}
+use Rattle.clock_tables.specs.Value.{value_of, option_of, reached_of, natural_of}
 use Rattle.clock_tables.specs.Flat.{clock_in}
 use Rattle.clock_tables.proofs.FlatLaws.{Within, clock-same}
 use Rattle.clock_tables.specs.Environment.{env_at}
 use Rattle.findings.specs.Findings.{FindingsHeld}
 use Rattle.checking.specs.Walk.{other_than, meets, SiteStored, Stays}
 use Rattle.checking.specs.declared.CheckOutput.{CheckOutput}
+
+-- ---- a clock unless it is too deep, as what may be a clock
+pub some-clock : (r : Result struct.Clock TooDeep) (n : Result (maybe.Option struct.Clock) TooDeep) (Q : struct.Clock → maybe.Option struct.Clock → Type 0)
+    → ((d : struct.Clock) (o : maybe.Option struct.Clock) → Q d o → o ≡ maybe.Some d) → MatchResult r (λ d. IsOkAnd n (Q d)) (λ e. n ≡ Err e) → natural_of n ≡ reached_of r
+some-clock (Ok d) (Ok o) Q f h = ap (λ (u : maybe.Option struct.Clock). formed (option_of u)) (f d o h)
+some-clock (Ok d) (Err e) Q f h = absurd h
+some-clock (Err e) n Q f h = ap natural_of h
 
 -- ---- tables and lists
 pub stays-then : (o o' o'' : CheckOutput) → Stays o o' → Stays o' o'' → Stays o o''

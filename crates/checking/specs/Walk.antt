@@ -5,7 +5,7 @@ use Rattle.definitions.specs.Lists.{choose, all}
 use Rattle.definitions.specs.Tree.{Expr, Equation, Node}
 use Rattle.definitions.specs.Clock.{Clock, same_clock}
 use Rattle.definitions.specs.InferClocks.{Clocks, is_port, used_elsewhere, Fault, Finding, found, site, too_deep, must_be_on, check}
-use Rattle.clock_tables.specs.declared.Clock as struct
+use Rattle.clock_tables.specs.declared.clock.Clock as struct
 use Rattle.clock_tables.specs.Value.{value_of}
 use Rattle.clock_tables.specs.Flat.{clock_in}
 use Rattle.clock_tables.specs.Environment.{Agrees}

@@ -15,6 +15,7 @@ ghost use Rattle.definitions.specs.InferClocks as rules;
 ghost use Rattle.definitions.specs.InferClocks.{Clocks, clock_of, formed, left_elsewhere, clock_name_elsewhere, one_down, on_natural, must_be_on, check, checks, check_left, check_equation};
 ghost use Rattle.clock_tables.specs.Value.{value_of, option_of, natural_of};
 ghost use Rattle.clock_tables.specs.Environment.{env_at, Agrees};
+ghost use Rattle.findings.specs.Met.{StillLent};
 ghost use Rattle.findings.specs.Findings.{FindingsHeld};
 ghost use Rattle.operands.specs.Spread.{tree};
 ghost use Rattle.skeleton.specs.Lies.{Frame, Lies};
@@ -23,7 +24,7 @@ ghost use Rattle.checking.specs.Walk.{other_than, Makes, is_site_tag, meets, Sit
 
 use clock_tables::{Clock, Natural};
 use definitions::{Condition, Test};
-use findings::{ClockFault, Finding, Findings};
+use findings::{ClockFault, Elsewhere, Finding, Findings};
 use grammar::{Source, tags};
 use layout::PartsTable;
 
@@ -59,14 +60,11 @@ impl CheckOutput<'_, '_> {
 fn elsewhere(env: &[u32], x: u32, on: Clock) -> Option<Clock>
     ensures { option_of result ≡ other_than (value_of on) (env_at env.now x) }
 {
-    match clock_tables::lookup(env, x) {
-        Some(own) if own != on => Some(own),
-        _ => None,
-    }
+    clock_tables::lookup(env, x).filter(|own| *own != on)
 }
 
-// A name must be on that clock; else the fault that is made of its own.
-fn must_be_on<F: Fn(Clock) -> ClockFault>(
+// A name must be on that clock; else a fault, made of the name and both clocks.
+fn must_be_on<F: Fn(Elsewhere) -> ClockFault>(
     input: &CheckInput<'_>,
     findings: &mut Findings<'_>,
     x: u32,
@@ -74,21 +72,23 @@ fn must_be_on<F: Fn(Clock) -> ClockFault>(
     fault: F,
 )
     requires { F.IsAlwaysCallable fault }
-    ensures same_reference { findings.new.words.ghost_name ≡ findings.old.words.ghost_name }
-    ensures same_length { length findings.new.words.now ≡ length findings.old.words.now }
-    ensures held { (make : clocked.Clock → rules.Fault) (clocks : Clocks) (fs : List rules.Finding) → Makes (F.post fault) make → env_at input.now.env.now x ≡ clock_of clocks x → FindingsHeld findings.old.words.now findings.old.count fs → FindingsHeld findings.new.words.now findings.new.count (fs ++ must_be_on clocks input.now.equation (value_of on) x make) }
+    ensures still_lent { StillLent findings.old findings.new }
+    ensures held { (make : clocked.Clock → rules.Fault) (clocks : Clocks) (fs : List rules.Finding) → Makes (λ d f. F.post fault (record { name = x; on = d; expected = on }) f) make → env_at input.now.env.now x ≡ clock_of clocks x → FindingsHeld findings.old.words.now findings.old.count fs → FindingsHeld findings.new.words.now findings.new.count (fs ++ must_be_on clocks input.now.equation (value_of on) x make) }
 {
     if let Some(own) = elsewhere(input.env, x, on) {
         let equation = input.equation;
-        let fault = fault(own);
+        let fault = fault(Elsewhere {
+            name: x,
+            on: own,
+            expected: on,
+        });
         findings.push(Finding::Fault { equation, fault });
     }
 }
 
 // A clock name must be on the clock that it samples.
 fn samples_on(input: &CheckInput<'_>, findings: &mut Findings<'_>, x: u32, on: Clock)
-    ensures same_reference { findings.new.words.ghost_name ≡ findings.old.words.ghost_name }
-    ensures same_length { length findings.new.words.now ≡ length findings.old.words.now }
+    ensures still_lent { StillLent findings.old findings.new }
     ensures held { (clocks : Clocks) (fs : List rules.Finding) → env_at input.now.env.now x ≡ clock_of clocks x → FindingsHeld findings.old.words.now findings.old.count fs → FindingsHeld findings.new.words.now findings.new.count (fs ++ must_be_on clocks input.now.equation (value_of on) x (λ d. clock_name_elsewhere x d (value_of on))) }
 {
     must_be_on(
@@ -96,16 +96,12 @@ fn samples_on(input: &CheckInput<'_>, findings: &mut Findings<'_>, x: u32, on: C
         findings,
         x,
         on,
-        |own| ClockFault::ClockNameElsewhere {
-            name: x,
-            on: own,
-            expected: on,
-        },
+        |elsewhere| ClockFault::ClockNameElsewhere(elsewhere),
     );
 }
 
 // What is met at a token of an expression, which is that of no when and no merge.
-// Stays (speed): by tags, here and below; by whole tokens 32 counters take 3 instructions in 100 more.
+// Stays (speed): by tags, here and below: `clocks` of 32 counters takes 3.31 million instructions unproved, by whole tokens 3.49.
 fn enter(
     input: &CheckInput<'_>,
     output: &mut CheckOutput<'_, '_>,
@@ -119,13 +115,13 @@ fn enter(
     ensures held { (clocks : Clocks) (fs : List rules.Finding) → (tag ≡ 54 → env_at input.now.env.now value ≡ clock_of clocks value) → FindingsHeld output.old.findings.now.words.now output.old.findings.now.count fs → FindingsHeld output.new.findings.now.words.now output.new.findings.now.count (fs ++ meets clocks input.now.equation (value_of on) tag value) }
 {
     match tag {
-        tags::VAR => must_be_on(input, output.findings, value, on, |own| {
-            ClockFault::UsedElsewhere {
-                name: value,
-                on: own,
-                expected: on,
-            }
-        }),
+        tags::VAR => must_be_on(
+            input,
+            output.findings,
+            value,
+            on,
+            |elsewhere| ClockFault::UsedElsewhere(elsewhere),
+        ),
         tags::PRE | tags::ARROW => {
             output.put_site(at, on);
             output.findings.push(Finding::Site(on));
@@ -229,11 +225,7 @@ fn check_over(
     ensures traversed { (e : Expr) (q : ℕ) → tree input.now.source.names (tokens_of input.now.source) at ≡ got e q → Walked input.now output.old output.new (λ clocks. on_natural (natural_of over) (λ d. check clocks input.now.equation d e)) (λ later. (d : clocked.Clock) → natural_of over ≡ formed (some d) → Stands input.now later d e at q) at q result }
 {
     match over {
-        Ok(None) => {
-            let b = Clock::base();
-            check_expr(input, output, b, at)
-        }
-        Ok(Some(c)) => check_expr(input, output, c, at),
+        Ok(own) => check_expr(input, output, own.unwrap_or(Clock::base()), at),
         Err(_) => {
             let end = layout::expr_end(&input.source, at);
             output.findings.push(Finding::Deep);
@@ -281,7 +273,7 @@ fn check_branch(
     ensures stays { Stays output.old output.new }
     ensures traversed { (e : Expr) (q : ℕ) → tree input.now.source.names (tokens_of input.now.source) at ≡ got e q → Walked input.now output.old output.new (λ clocks. one_down (value_of on) k (λ d. check clocks input.now.equation d e)) (λ later. Stands input.now later (value_of on ↓ k) e at q) at q result }
 {
-    let down = on.push(k);
+    let down = on.push(k).map(Some);
     check_over(input, output, down, at)
 }
 
@@ -315,8 +307,7 @@ fn check_merge(
 
 // A left name must be on its equation's clock.
 fn left_on(input: &CheckInput<'_>, findings: &mut Findings<'_>, x: u32, on: Clock)
-    ensures same_reference { findings.new.words.ghost_name ≡ findings.old.words.ghost_name }
-    ensures same_length { length findings.new.words.now ≡ length findings.old.words.now }
+    ensures still_lent { StillLent findings.old findings.new }
     ensures held { (clocks : Clocks) (fs : List rules.Finding) → env_at input.now.env.now x ≡ clock_of clocks x → FindingsHeld findings.old.words.now findings.old.count fs → FindingsHeld findings.new.words.now findings.new.count (fs ++ must_be_on clocks input.now.equation (value_of on) x (λ d. left_elsewhere x d (value_of on) (get_or input.now.ports.now x false))) }
 {
     let port = inference::is_port(input.ports, x);
@@ -325,19 +316,13 @@ fn left_on(input: &CheckInput<'_>, findings: &mut Findings<'_>, x: u32, on: Cloc
         findings,
         x,
         on,
-        |own| ClockFault::LeftElsewhere {
-            name: x,
-            on: own,
-            expected: on,
-            port,
-        },
+        |elsewhere| ClockFault::LeftElsewhere { elsewhere, port },
     );
 }
 
 // The left names of an equation on that clock.
 fn check_left(input: &CheckInput<'_>, findings: &mut Findings<'_>, on: Clock, names: &[u32])
-    ensures same_reference { findings.new.words.ghost_name ≡ findings.old.words.ghost_name }
-    ensures same_length { length findings.new.words.now ≡ length findings.old.words.now }
+    ensures still_lent { StillLent findings.old findings.new }
     ensures held { (node : Node) (clocks : Clocks) (fs : List rules.Finding) → Agrees input.now.env.now input.now.source.names clocks → PortMarks input.now.ports.now input.now.source.names node → ((i : ℕ) → i < length names.now → get_or names.now i 0 < input.now.source.names) → FindingsHeld findings.old.words.now findings.old.count fs → FindingsHeld findings.new.words.now findings.new.count (fs ++ check_left clocks input.now.equation node (value_of on) names.now) }
 {
     for &x in names {

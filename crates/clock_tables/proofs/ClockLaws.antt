@@ -21,7 +21,7 @@ use Rattle.definitions.specs.declared.Condition.{Condition}
 use Rattle.definitions.specs.contracts.ConditionPartialEq.TheImpl as derived
 use Rattle.definitions.specs.Clock.{Clock, base, ◌↓◌, depth, parent, same_test, same_condition, same_clock, is_base}
 use Rattle.definitions.specs.InferClocks.{formed, condition_over, parent_of}
-use Rattle.clock_tables.specs.declared.Clock as struct
+use Rattle.clock_tables.specs.declared.clock.Clock as struct
 use Rattle.clock_tables.specs.Value.{at, clock_at, capped, value_of}
 
 -- ---- the first conditions of a list

@@ -2,20 +2,20 @@
 -- Assumes nothing.
 use mathlib.Core.Path.{◌≡◌, refl, sym, ◌∙◌, ap}
 use mathlib.Core.List.{List, ◌∷◌, ◌++◌}
-use mathlib.Core.Bool.{Bool, true, false}
+use mathlib.Core.Bool.{Bool, true, false, not, true≢false}
 use mathlib.Core.Option.{none, some}
 use mathlib.Core.Logic.{inl, inr}
 use Prim.Native.Nat.{ℕ, ◌+◌, ◌*◌, ◌≤◌, ◌<◌}
 use native.Mathlib.Omega.{arith}
-use lib.ListN.{length, get_or, take, drop, replicate, length-append, length-drop, get_or-append}
-use Rattle.std.proofs.lemmas.List.{length-take-le, length-replicate, get_or-replicate}
+use lib.ListN.{length, get_or, drop, replicate}
 use lib.Dec.{eqb, ltb}
-use borrow.Author.Tests.{ne_eqb, eqb-true, eqb-false, ltb-true, ltb-false}
+use borrow.Author.Tests.{ne_eqb, eq-eqb, eqb-true, eqb-false, ltb-true, ltb-false}
 use Rattle.definitions.specs.Lists.{choose}
 use Rattle.definitions.specs.Clock.{Clock}
 use Rattle.definitions.specs.InferClocks.{Clocks, clock_of}
 use Rattle.clock_tables.specs.Flat.{clock_in}
 use Rattle.clock_tables.proofs.FlatLaws.{Within, clock-same}
+use Rattle.clock_tables.proofs.FrontLaws.{front-filled}
 use Rattle.clock_tables.specs.Environment.{env_at, Agrees, Assigned, Cleared}
 
 -- ---- one name
@@ -26,6 +26,17 @@ env-none t x z = rw z
 pub env-some : (t : List ℕ) (x : ℕ) → (get_or t (17 * x) 0 ≡ 0 → ⊥) → env_at t x ≡ some (clock_in t (17 * x))
 unfolding env_at
 env-some t x z = rw (ne_eqb _ _ z)
+
+-- what the test of a name's first word tells
+pub env-unassigned : (t : List ℕ) (x : ℕ) {b : Bool} → b ≡ not (eqb (get_or t (17 * x) 0) 0) → b ≡ false → env_at t x ≡ none
+env-unassigned t x e f = env-none t x (go (eqb (get_or t (17 * x) 0) 0) refl (sym e ∙ f))
+  where
+    go : (a : Bool) → eqb (get_or t (17 * x) 0) 0 ≡ a → not a ≡ false → get_or t (17 * x) 0 ≡ 0
+    go true q h = eqb-true _ _ q
+    go false q h = absurd (true≢false h)
+
+pub env-assigned : (t : List ℕ) (x : ℕ) {b : Bool} → b ≡ not (eqb (get_or t (17 * x) 0) 0) → b ≡ true → env_at t x ≡ some (clock_in t (17 * x))
+env-assigned t x e f = env-some t x (λ z. true≢false (sym f ∙ e ∙ ap not (eq-eqb _ _ z)))
 
 -- a name's clock is its seventeen words
 env-same : (t t' : List ℕ) (x : ℕ) → ((i : ℕ) → 17 * x ≤ i → i < 17 * x + 17 → get_or t' i 0 ≡ get_or t i 0) → env_at t' x ≡ env_at t x
@@ -49,14 +60,9 @@ assign-in t t' x c n z e w =
 
 -- ---- clearing
 -- the words of the names below m are 0
-pub cleared-in : (t zeros : List ℕ) (m : ℕ) → 17 * m ≤ length t → zeros ≡ replicate (length (take (17 * m) t)) 0 → Cleared t (zeros ++ drop (17 * m) t) m
-cleared-in t zeros m room z =
-    let n : length (take (17 * m) t) ≡ 17 * m = length-take-le (17 * m) t room in
-    let l : length zeros ≡ 17 * m = ap length z ∙ (length-replicate _ 0 ∙ n) in
-    record {
-      same_length = length-append zeros (drop (17 * m) t) ∙ omega (arith, l, length-drop (17 * m) t);
-      nowhere = λ _ x u. env-none (zeros ++ drop (17 * m) t) x (get_or-append zeros (drop (17 * m) t) 0 (17 * x) (omega arith) ∙ (ap (λ y. get_or y (17 * x) 0) z ∙ get_or-replicate _ (17 * x) 0 0 (omega arith)));
-    }
+pub cleared-in : (t t' : List ℕ) (m : ℕ) → length t' ≡ length t → (17 * m ≤ length t → t' ≡ replicate (17 * m) 0 ++ drop (17 * m) t) → Cleared t t' m
+cleared-in t t' m n z =
+    record { same_length = n; nowhere = λ room x u. env-none t' x (front-filled t t' (17 * m) (17 * x) 0 0 (z room) (omega arith)) }
 
 -- ---- agreeing with the definitions' list of clocks
 pub agrees-assign : (t t' : List ℕ) (m x : ℕ) (c : Clock) (clocks : Clocks) → x < m → Assigned t t' x c → Agrees t m clocks → Agrees t' m (record { name = x; clock = c } ∷ clocks)

@@ -27,13 +27,13 @@ test_word Test.Not = refl
 pub clock-past : (t : List ℕ) (b : ℕ) → length t ≤ b → clock_in t b ≡ base
 clock-past t b h = base-at (conditions_from t (b + 1) 8) (depth_in t b) (rw (get_or-eq_default t 0 h))
 
--- a row's place as far as there are places
-pub row-far : (t : List ℕ) (i r : ℕ) → length t ≤ 18446744073709551615 → r ≡ min (17 * i) 18446744073709551615 → clock_in t r ≡ clock_in t (17 * i)
-row-far t i r l e = go (ltb (17 * i) 18446744073709551615) refl
+-- a place as far as there are places
+pub place-far : (t : List ℕ) (p r : ℕ) → length t ≤ 18446744073709551615 → r ≡ min p 18446744073709551615 → clock_in t r ≡ clock_in t p
+place-far t p r l e = go (ltb p 18446744073709551615) refl
   where
-    go : (b : Bool) → ltb (17 * i) 18446744073709551615 ≡ b → clock_in t r ≡ clock_in t (17 * i)
-    go true q = let u : 17 * i < 18446744073709551615 = ltb-true _ _ q in let f : r ≡ 17 * i = omega arith in ap (clock_in t) f
-    go false q = let u : 18446744073709551615 ≤ 17 * i = ltb-false _ _ q in clock-past t r (omega arith) ∙ sym (clock-past t (17 * i) (omega arith))
+    go : (b : Bool) → ltb p 18446744073709551615 ≡ b → clock_in t r ≡ clock_in t p
+    go true q = let u : p < 18446744073709551615 = ltb-true _ _ q in let f : r ≡ p = omega arith in ap (clock_in t) f
+    go false q = let u : 18446744073709551615 ≤ p = ltb-false _ _ q in clock-past t r (omega arith) ∙ sym (clock-past t p (omega arith))
 
 -- the condition at i of those from p on
 pub at_from : (t : List ℕ) (p n i : ℕ) → i < n → at (conditions_from t p n) i ≡ condition_at t (p + 2 * i)

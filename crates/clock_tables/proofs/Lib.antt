@@ -2,5 +2,6 @@
 pub mod ClockLaws
 pub mod FlatLaws
 pub mod EnvironmentLaws
+pub mod FrontLaws
 pub mod RowsLaws
 pub mod Distinct

@@ -6,7 +6,7 @@ use Rattle.std.proofs.lemmas.Cmp.{on_equiv, and_equiv, nat_eq_equiv}
 use Rattle.definitions.specs.declared.Test.{Test}
 use Rattle.definitions.specs.declared.Condition.{Condition}
 use Rattle.definitions.specs.Clock.{Clock, base, ◌↓◌, same_test, same_condition, same_clock}
-use Rattle.clock_tables.specs.declared.Clock as struct
+use Rattle.clock_tables.specs.declared.clock.Clock as struct
 use Rattle.clock_tables.specs.Value.{value_of}
 
 first : (a b : Bool) → (a && b) ≡ true → a ≡ true

@@ -8,7 +8,7 @@ use Rattle.definitions.specs.Clock as clock
 use Rattle.definitions.specs.Clock.{base, ◌↓◌}
 use Rattle.definitions.specs.InferClocks as rules
 use Rattle.definitions.specs.InferClocks.{deep, formed}
-use Rattle.clock_tables.specs.declared.Clock.{Clock}
+use Rattle.clock_tables.specs.declared.clock.Clock.{Clock}
 use Rattle.clock_tables.specs.declared.TooDeep.{TooDeep}
 
 -- the condition at i
@@ -32,6 +32,11 @@ value_of c = clock_at c.conditions (capped c.depth)
 abbrev pub option_of : Option Clock → maybe.Option clock.Clock
 option_of None = none
 option_of (Some c) = some (value_of c)
+
+-- a struct's clock, unless it is too deep
+abbrev pub reached_of : Result Clock TooDeep → rules.Natural
+reached_of (Ok c) = formed (some (value_of c))
+reached_of (Err e) = deep
 
 -- a struct's clock or none, unless it is too deep
 abbrev pub natural_of : Result (Option Clock) TooDeep → rules.Natural

@@ -1,35 +1,27 @@
 // Clocks: by value, as words of a table, and in tables of names' clocks and of distinct clocks.
 #![tactic(auto)]
 
-ghost use Rattle.std.specs.Prelude.{◌≡◌, ◌≤◌, ℕ, suc, ◌+◌, ◌-◌, ◌<◌, ◌*◌, ◌⊎◌, length, get_or, set, take, List, [], ◌∷◌, ◌++◌, true, false, position};
+ghost use Rattle.std.specs.Prelude.{◌≡◌, ◌≤◌, ℕ, suc, ◌+◌, ◌-◌, ◌<◌, ◌*◌, ◌⊎◌, length, get_or, set, take, drop, replicate, List, [], ◌∷◌, ◌++◌, false, not, eqb, position};
 ghost use Rattle.std.specs.List.{range_with_len};
 ghost use Rattle.std.proofs.Math.Option.{some};
 ghost use Rattle.definitions.specs.Clock.{base, depth, parent, same_clock, is_base, ends_in};
-ghost use Rattle.definitions.specs.InferClocks.{formed, ◌or◌, condition_over, parent_of};
-ghost use Rattle.clock_tables.specs.Value.{capped, clock_at, value_of, option_of, natural_of};
+ghost use Rattle.definitions.specs.InferClocks.{formed, ◌or◌, condition_over};
+ghost use Rattle.clock_tables.specs.Value.{capped, clock_at, value_of, option_of, reached_of};
 ghost use Rattle.clock_tables.specs.Flat.{test_of, word_of, words_of, condition_at, clock_in, with_clock};
 ghost use Rattle.clock_tables.specs.Environment.{env_at, Assigned, Cleared};
 ghost use Rattle.definitions.specs.Declock.{clock_place, add, add_with_parents};
-ghost use Rattle.clock_tables.specs.Rows.{clocks_in, RowsHold};
+ghost use Rattle.clock_tables.specs.Rows.{RowsHold};
 ghost use Rattle.clock_tables.specs.Grown.{Grown};
 ghost use Rattle.definitions.specs.Clock as clocks;
 ghost use Rattle.std.specs.Cmp.{partial_equiv_from_equiv};
 ghost use Rattle.clock_tables.specs.Equality.{values};
 
+mod clock;
+
+pub use clock::{Clock, DEEPEST};
 use definitions::{Condition, Test};
 
 // ---- Clocks by value: a depth and eight conditions.
-
-// The most conditions of a clock.
-pub const DEEPEST: usize = 8;
-
-// The first `depth` conditions, from base outward; a depth past eight counts as eight.
-// Stays (fixed memory): a clock is a value, and its array is as long as a clock may be deep.
-#[derive(Clone, Copy)]
-pub struct Clock {
-    pub depth: usize,
-    pub conditions: [Condition; DEEPEST],
-}
 
 // A clock of more than eight conditions was formed.
 #[derive(Clone, Copy, PartialEq, Eq)]
@@ -60,7 +52,7 @@ impl Clock {
     }
 
     // The number of a clock's conditions.
-    pub fn depth(self) -> usize
+    pub(crate) fn depth(self) -> usize
         ensures value { result ≡ capped self.depth }
         ensures value_2 { result ≡ depth (value_of self) }
         ensures upper_bound { result ≤ 8 }
@@ -94,17 +86,19 @@ impl Clock {
     }
 
     // One condition more on a clock, if it has fewer than eight.
-    pub fn push(self, k: Condition) -> Natural
-        ensures { natural_of result ≡ condition_over k (formed (some (value_of self))) }
+    pub fn push(self, k: Condition) -> Result<Clock, TooDeep>
+        ensures { reached_of result ≡ condition_over k (formed (some (value_of self))) }
     {
         let d = self.depth;
         if DEEPEST <= d {
             return Err(TooDeep);
         }
-        let mut out = self;
-        out.conditions[d] = k;
-        out.depth = d + 1;
-        Ok(Some(out))
+        let mut conditions = self.conditions;
+        conditions[d] = k;
+        Ok(Clock {
+            depth: d + 1,
+            conditions,
+        })
     }
 
     // Whether the last condition is this one.
@@ -133,36 +127,6 @@ impl Eq for Clock {
     ghost laws = { values };
 }
 
-// A condition over what may be a clock.
-pub fn condition_over(k: Condition, n: Natural) -> Natural
-    ensures { natural_of result ≡ condition_over k (natural_of n) }
-{
-    match n? {
-        Some(c) => c.push(k),
-        None => Ok(None),
-    }
-}
-
-// The parent of a clock that has a condition, else none.
-pub fn parent_of(n: Natural) -> Natural
-    ensures { natural_of result ≡ parent_of (natural_of n) }
-{
-    match n? {
-        Some(c) if !c.is_base() => Ok(Some(c.parent())),
-        _ => Ok(None),
-    }
-}
-
-// The first that has a clock.
-pub fn first_of(a: Natural, b: Natural) -> Natural
-    ensures { natural_of result ≡ natural_of a or natural_of b }
-{
-    match a? {
-        Some(c) => Ok(Some(c)),
-        None => b,
-    }
-}
-
 // ---- A clock in seventeen words of a table: the number of its conditions and one more, two words a condition, then zeros.
 
 // The words that a clock takes.
@@ -176,13 +140,26 @@ pub fn word_at(t: &[u32], i: usize) -> u32
     t.get(i).copied().unwrap_or(0)
 }
 
-// The word at a place from now on, if there is room for it.
-pub fn put_word(words: &mut [u32], at: usize, word: u32)
-    ensures words_len_unchanged { length words.new ≡ length words.old }
-    ensures words_after { words.new ≡ set words.old at word }
+// The item at place k from now on, if there is such a place.
+pub fn put_at<T: Copy>(list: &mut [T], k: usize, item: T)
+    ensures { list.new ≡ set list.old k item }
 {
-    if at < words.len() {
-        words[at] = word;
+    if k < list.len() {
+        list[k] = item;
+    }
+}
+
+// The first n items are this one from now on, if there are so many.
+// Stays (proof): `fill` asks that no clone fails, and `T: Copy` has no law that its clone can't (`g.T.Clone.is_infallible` stayed open).
+pub fn fill_front<T: Copy>(list: &mut [T], n: usize, item: T)
+    ensures list_len_unchanged { length list.new ≡ length list.old }
+    ensures filled { n ≤ length list.old → list.new ≡ replicate n item ++ drop n list.old }
+    ensures short { length list.old < n → list.new ≡ list.old }
+{
+    if n <= list.len() {
+        for i in 0..n {
+            list[i] = item;
+        }
     }
 }
 
@@ -221,24 +198,24 @@ pub fn condition_at(t: &[u32], p: usize) -> Condition
 pub fn depth_at(t: &[u32], b: usize) -> usize
     ensures { result ≡ capped (get_or t.now b 0 - 1) }
 {
-    capped(word_at(t, b).saturating_sub(1) as usize)
+    DEEPEST.min(word_at(t, b).saturating_sub(1) as usize)
 }
 
 // The clock at b.
 pub fn load(t: &[u32], b: usize) -> Clock
     ensures { value_of result ≡ clock_in t.now b }
 {
-    let mut out = Clock::base();
+    let out = Clock::base();
     if t.len() <= b {
         return out;
     }
-    let d = depth_at(t, b);
-    // Stays (proof): of what a closure of `array::from_fn` looks into nothing is known at its later calls.
-    for i in 0..d {
-        out.conditions[i] = condition_at(t, b + 1 + 2 * i);
+    let depth = depth_at(t, b);
+    let mut conditions = out.conditions;
+    // Stays (proof): by `array::from_fn` the goal `returns` stayed open: what its closure reads at later calls is not tied to `t`.
+    for i in 0..depth {
+        conditions[i] = condition_at(t, b + 1 + 2 * i);
     }
-    out.depth = d;
-    out
+    Clock { depth, conditions }
 }
 
 // The condition in the two words at p, from now on.
@@ -284,15 +261,21 @@ pub fn put_row(rows: &mut [u32], i: usize, c: Clock)
 
 // ---- The clock of each name: seventeen words a name, the first 0 where it has none.
 
+// Has a name a clock?
+pub fn is_assigned(table: &[u32], x: u32) -> bool
+    ensures { result ≡ not (eqb (get_or table.now (17 * x) 0) 0) }
+{
+    word_at(table, WORDS * x as usize) != 0
+}
+
 // A name's clock.
 pub fn lookup(table: &[u32], x: u32) -> Option<Clock>
     ensures { option_of result ≡ env_at table.now x }
 {
-    let b = WORDS * (x as usize);
-    if word_at(table, b) == 0 {
+    if !is_assigned(table, x) {
         return None;
     }
-    Some(load(table, b))
+    Some(load(table, WORDS * x as usize))
 }
 
 // A name is on this clock from now on, if the table has room for it.
@@ -306,10 +289,7 @@ pub fn assign(table: &mut [u32], x: u32, c: Clock)
 pub fn clear(table: &mut [u32], m: u32)
     ensures { Cleared table.old table.new m }
 {
-    let n = WORDS * m as usize;
-    if n <= table.len() {
-        table[..n].fill(0);
-    }
+    fill_front(table, WORDS * m as usize, 0);
 }
 
 // ---- Tables of clocks: seventeen words a clock, and a count.

@@ -3,7 +3,7 @@
 
 ghost use Rattle.std.specs.Prelude.{◌≤◌};
 
-use arguments::Word;
+use arguments::Asked;
 use definitions::Refusal;
 use std::io;
 use std::io::Write;
@@ -53,7 +53,7 @@ fn print<const N: usize>(
     let mut out = [0u8; N];
     match list(sheet, node, &mut out) {
         Ok(n) => {
-            arguments::show(output, &out, n)?;
+            output.write_all(arguments::front(&out, n))?;
             Ok(None)
         }
         Err(r) => Ok(Some(r)),
@@ -95,17 +95,14 @@ fn answer(
 fn main(rt: HostRuntime) -> io::Result<()> {
     let mut output = rt.stdout();
     let mut errors = rt.stderr();
-    if arguments::argument(&rt, 2).is_some() {
-        return errors.write_all(WRONG);
+    let first = arguments::argument(&rt, 1);
+    let second = arguments::argument(&rt, 2);
+    match arguments::optional_number(first, second) {
+        Asked::Help => output.write_all(HELP),
+        Asked::For(node) => arguments::with_sheet(
+            &mut rt.stdin(),
+            |sheet| answer(&mut output, &mut errors, sheet, node),
+        ),
+        Asked::Other => errors.write_all(WRONG),
     }
-    let node = match arguments::argument(&rt, 1) {
-        None => None,
-        Some(Word::Help) => return output.write_all(HELP),
-        Some(Word::Number(node)) => Some(node),
-        Some(Word::Other) => return errors.write_all(WRONG),
-    };
-    arguments::with_sheet(
-        &mut rt.stdin(),
-        |sheet| answer(&mut output, &mut errors, sheet, node),
-    )
 }

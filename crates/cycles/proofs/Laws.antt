@@ -23,10 +23,12 @@ use Rattle.definitions.specs.Reading.{got, times}
 use Rattle.definitions.specs.Grammar.{name, ty, declaration}
 use Rattle.definitions.specs.Types.{target, targets, definition_of, goes_on, one_step, reached, reaches_itself, first_cycle}
 use Rattle.grammar.proofs.Laws.{times-length}
-use Rattle.grammar.proofs.Got.{times-nil}
 use Rattle.layout.specs.declared.Defined.{Defined}
 use Rattle.layout.specs.Table.{nowhere, def_at, name_at, is_named, first_of, FoundFirst, Named, Described}
-use Rattle.layout.proofs.TypedefsLaws.{FirstField, find_none, find-some, place-true, place-before}
+use Rattle.layout.proofs.TypedefsLaws.{find_none, find-some, place-true, place-before}
+use Rattle.layout.specs.declared.DeclarationLayout.{DeclarationLayout}
+use Rattle.layout.specs.Walk.{LaidAll}
+use Rattle.layout.proofs.Walks.{FirstLaid, first-laid, none-laid}
 use Rattle.cycles.specs.declared.graph.Targets.{Targets}
 use Rattle.cycles.specs.declared.graph.Graph.{Graph}
 use Rattle.cycles.specs.Edges.{NamesInSet, is_defined, TargetsAre, Marked, own_body, own_name, row_at, Edges, IsCycle, IsWithin, Joined, Acyclic}
@@ -231,33 +233,34 @@ module _ (P : List ℕ → Type 0) (xs : List ℕ) (t : Ty) where
   target-one x e h = rw e h
 
 -- the names that the types of fields end in: of the fields that are left, and of those before
-pub record FieldsLeft (types : List TypeDef) (M : ℕ) (ts : List TagValue) (marks : Targets) (k p : ℕ) (fs : List Declared) (q : ℕ) : Type 0 where
+pub record FieldsLeft (types : List TypeDef) (M : ℕ) (ts : List TagValue) (marks : Targets) (fs : List Declared) (ls : List DeclarationLayout) : Type 0 where
   pub rest : List Declared
   pub names : List ℕ
-  pub reads : times k (declaration M) ts p ≡ got rest q
+  pub laid : LaidAll M ts rest ls
   pub marked : Marked types marks names
   pub whole : names ++ join (map (λ f. target f.type) rest) ≡ join (map (λ f. target f.type) fs)
 
-module _ (types : List TypeDef) (M : ℕ) (ts : List TagValue) (marks : Targets) (n i p : ℕ) (fs : List Declared) (q : ℕ) where
-  pub fields-begin : times n (declaration M) ts p ≡ got fs q → Marked types marks [] → FieldsLeft types M ts marks (n - 0) p fs q
-  fields-begin g m = let f : n ≡ n - 0 = omega arith in record { rest = fs; names = []; reads = rw f at g; marked = m; whole = refl }
+module _ (types : List TypeDef) (M : ℕ) (ts : List TagValue) (marks : Targets) (fs : List Declared) (ls : List DeclarationLayout) where
+  pub fields-begin : LaidAll M ts fs ls → Marked types marks [] → FieldsLeft types M ts marks fs ls
+  fields-begin h m = record { rest = fs; names = []; laid = h; marked = m; whole = refl }
 
-  module _ (c : FieldsLeft types M ts marks (n - i) p fs q) where
-    pub fields-next : (first : ℕ) (f : FirstField M ts (n - i) p first c.rest q) (next : ℕ) → times (n - i - 1) (declaration M) ts next ≡ got f.rest q → (more : Targets) →
-        Marked types more (c.names ++ target f.type) → FieldsLeft types M ts more (n - (i + 1)) next fs q
-    fields-next first f next g more m = let e : n - i - 1 ≡ n - (i + 1) = omega arith in record {
-      rest = f.rest;
-      names = c.names ++ target f.type;
-      reads = rw e at g;
-      marked = m;
-      whole = append_assoc c.names (target f.type) (join (map (λ g. target g.type) f.rest)) ∙ rw f.whole at c.whole;
-    }
-
-    pub fields-end : n ≤ i → Marked types marks (join (map (λ f. target f.type) fs))
+  module _ (c : FieldsLeft types M ts marks fs ls) where
+    pub fields-end : ls ≡ [] → Marked types marks (join (map (λ f. target f.type) fs))
     fields-end h =
-        let e = times-nil (declaration M) ts (n - i) p c.rest q (omega arith) c.reads in
-        let f : c.names ≡ join (map (λ f. target f.type) fs) = sym (append-nil c.names) ∙ rw e.0 at c.whole in
+        let e = none-laid (rw h at c.laid) in
+        let f : c.names ≡ join (map (λ f. target f.type) fs) = sym (append-nil c.names) ∙ rw e at c.whole in
         rw f at c.marked
+
+module _ (types : List TypeDef) (M : ℕ) (ts : List TagValue) (marks : Targets) (fs : List Declared) (l : DeclarationLayout) (ls : List DeclarationLayout) where
+  -- one field more
+  pub fields-next : (c : FieldsLeft types M ts marks fs (l ∷ ls)) (more : Targets) → ((f : FirstLaid M ts c.rest l ls) → Marked types more (c.names ++ target f.first.type)) → FieldsLeft types M ts more fs ls
+  fields-next c more m = let f = first-laid c.laid in record {
+    rest = f.rest;
+    names = c.names ++ target f.first.type;
+    laid = f.others;
+    marked = m f;
+    whole = append_assoc c.names (target f.first.type) (join (map (λ g. target g.type) f.rest)) ∙ rw f.whole at c.whole;
+  }
 
 -- what a definition goes on to
 module _ (types : List TypeDef) (M : ℕ) (ts : List TagValue) (d : TypeDef) (q : ℕ) (D : Defined) (g : Described M ts d q D) where

@@ -2,14 +2,15 @@
 // it is in the set.
 #![tactic(auto)]
 
-ghost use Rattle.std.specs.Prelude.{◌≡◌, ◌↔◌, IsTrue, List, [], ◌∷◌, ◌++◌, map, ◌||◌, ℕ, ◌<◌, ◌≤◌, eqb, length, get_or, true, false, MatchOption};
+ghost use Rattle.std.specs.Prelude.{◌≡◌, ◌↔◌, IsTrue, List, [], ◌∷◌, ◌++◌, map, ◌||◌, ℕ, ◌<◌, eqb, length, get_or, true, false, MatchOption};
 ghost use Rattle.grammar.specs.Read.{tokens_of};
 ghost use Rattle.definitions.specs.Lists.{all, join};
 ghost use Rattle.definitions.specs.Tree.{Ty, Declared, TypeDef};
 ghost use Rattle.definitions.specs.Reading.{got, times};
 ghost use Rattle.definitions.specs.Grammar.{ty, declaration, type_def};
 ghost use Rattle.definitions.specs.Types.{target, targets, goes_on, first_cycle};
-ghost use Rattle.layout.specs.Table.{Table, Named, name_at};
+ghost use Rattle.layout.specs.Table.{Named, name_at};
+ghost use Rattle.cycles.specs.Defines.{Defines};
 ghost use Rattle.cycles.specs.Edges.{own_body, own_name, TargetsAre, Marked, Edges, IsCycle};
 
 use definitions::{ARRAY_LEVELS, MOST_TYPES, TypeToken};
@@ -30,9 +31,7 @@ pub struct TypeTable<'a, 'b> {
 pub fn target_of(source: &Source<'_>, depth: u32, at: usize) -> Option<u32>
     ensures { (t : Ty) (q : ℕ) → ty source.now.names depth (tokens_of source.now) at ≡ got t q → MatchOption result (target t ≡ []) (λ x. target t ≡ x ∷ []) }
 {
-    let Ok((head, next)) = grammar::type_head(source, at) else {
-        return None;
-    };
+    let (head, next) = grammar::type_head(source, at).ok()?;
     match head {
         TypeToken::Basic(_) => None,
         TypeToken::Named(x) => Some(x),
@@ -98,13 +97,8 @@ fn field_targets(table: &TypeTable<'_, '_>, count: u32, at: usize) -> Targets
     ensures { (types : List TypeDef) (fs : List Declared) (q : ℕ) → Named table.now.source.values.now table.now.places.now.at table.now.places.now.count types → times count (declaration table.now.source.names) (tokens_of table.now.source) at ≡ got fs q → Marked types result (join (map (λ f. target f.type) fs)) }
 {
     let mut targets = no_targets();
-    let mut place = at;
-    for _ in 0..count {
-        let Some(field) = layout::declaration_at(&table.source, place) else {
-            return targets;
-        };
+    for field in layout::declarations_from(&table.source, count, at) {
         targets = add_type(table, targets, field.type_at);
-        place = field.end;
     }
     targets
 }
@@ -127,7 +121,7 @@ fn definition_targets(table: &TypeTable<'_, '_>, at: usize) -> Targets
 // What the name of definition i goes on to.
 fn name_targets(table: &TypeTable<'_, '_>, i: usize) -> Targets
     requires { i < table.now.places.now.count }
-    ensures { (types : List TypeDef) → Table table.now.source.names (tokens_of table.now.source) table.now.places.now.at table.now.places.now.count types → TargetsAre types result (goes_on types (name_at types i)) (own_name types (name_at types i)) }
+    ensures { (types : List TypeDef) → Defines table.now types → TargetsAre types result (goes_on types (name_at types i)) (own_name types (name_at types i)) }
 {
     let x = layout::value_at(table.source.values, table.places.at[i]);
     match layout::find_definition(table.source.values, table.places, x) {
@@ -142,7 +136,7 @@ fn name_targets(table: &TypeTable<'_, '_>, i: usize) -> Targets
 // What the name of each definition goes on to.
 pub fn edges(table: &TypeTable<'_, '_>) -> Graph
     ensures count { result.count ≡ table.now.places.now.count }
-    ensures edges { (types : List TypeDef) → Table table.now.source.names (tokens_of table.now.source) table.now.places.now.at table.now.places.now.count types → Edges types result }
+    ensures edges { (types : List TypeDef) → Defines table.now types → Edges types result }
 {
     let mut rows = [no_targets(); MOST_TYPES];
     for i in 0..table.places.count {
@@ -157,7 +151,7 @@ pub fn edges(table: &TypeTable<'_, '_>) -> Graph
 // Is definition i the first of its name, and does it reach itself?
 fn is_cycle(table: &TypeTable<'_, '_>, graph: &Graph, i: usize) -> bool
     requires { (i < table.now.places.now.count) × (i < graph.now.count) }
-    ensures { (types : List TypeDef) → Table table.now.source.names (tokens_of table.now.source) table.now.places.now.at table.now.places.now.count types → Edges types graph.now → IsTrue result ↔ IsCycle types i }
+    ensures { (types : List TypeDef) → Defines table.now types → Edges types graph.now → IsTrue result ↔ IsCycle types i }
 {
     let x = layout::value_at(table.source.values, table.places.at[i]);
     layout::find_definition(table.source.values, table.places, x) == Some(i)
@@ -166,7 +160,7 @@ fn is_cycle(table: &TypeTable<'_, '_>, graph: &Graph, i: usize) -> bool
 
 // The first definition that reaches itself. One that is not the first of its name is passed over.
 pub fn first_cycle(table: &TypeTable<'_, '_>) -> Option<usize>
-    ensures { (types : List TypeDef) → Table table.now.source.names (tokens_of table.now.source) table.now.places.now.at table.now.places.now.count types → MatchOption result (first_cycle types [] types ≡ length types) (λ i. (i ≡ first_cycle types [] types) × (i < length types)) }
+    ensures { (types : List TypeDef) → Defines table.now types → MatchOption result (first_cycle types [] types ≡ length types) (λ i. (i ≡ first_cycle types [] types) × (i < length types)) }
 {
     let graph = edges(table);
     if graph.settles() {

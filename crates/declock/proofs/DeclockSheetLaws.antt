@@ -52,8 +52,8 @@ use Rattle.new_names.proofs.Many.{too_many}
 use Rattle.new_names.proofs.Written.{output-standing}
 use Rattle.planned.specs.Writes.{Writer}
 use Rattle.plan.specs.Planned.{Whole}
-use Rattle.new_names.specs.declared.NodeNames.{NodeNames}
-use Rattle.new_names.specs.Filled.{Filled, FilledAt, FilledOrNot}
+use Rattle.new_names.specs.declared.node_names.NodeNames.{NodeNames}
+use Rattle.new_names.specs.Filled.{FlagsNamed, Filled, FilledAt, FilledOrNot}
 use Rattle.declock.specs.declared.ReadyNode.{ReadyNode}
 use Rattle.declock.specs.declared.NodePlan.{NodePlan}
 use Rattle.declock.specs.Tabled.{flagged_clocks}
@@ -87,18 +87,15 @@ abbrev pub plan_in : ReadyNode → ℕ → Bool → NodePlan
 plan_in r many gated =
     record { layout = r.layout; needs = record { flags = r.flags.clocks; firsts = r.firsts.clocks; holds = many; condact = gated }; plan = r.written.plan; holds = r.written.holds; types = r.written.types }
 
--- and its names, those of holds having these numbers
-abbrev pub names_in : ReadyNode → List ℕ → Bool → NodeNames
-names_in r hold_numbers gated = record { flags = r.flags.names.now; firsts = r.firsts.names.now; hold_numbers = hold_numbers; holds = r.holds; condact = gated }
-
-module _ (spelling : Spelling) (r : ReadyNode) (k : ℕ) {many : ℕ} {gated gates : Bool} {hold_numbers : List ℕ} {names : List Letters} {sheet : Sheet} {n : ClockedNode} (h : PlannedNode spelling (index_before r k) (plan_in r many gated) names sheet n)
-    (f : Filled names n.node (node_needs names sheet n) (plan_in r many gated).needs (names_in r hold_numbers gates))
+module _ (spelling : Spelling) (r : ReadyNode) (k : ℕ) {many : ℕ} {gated : Bool} {names : List Letters} {sheet : Sheet} {n : ClockedNode} (h : PlannedNode spelling (index_before r k) (plan_in r many gated) names sheet n)
+    (f : Filled names n.node (node_needs names sheet n) (plan_in r many gated).needs r.names.now)
+    (f-flags : FlagsNamed names n.node ck r.flags.clocks.words.now r.flags.names.now (node_needs names sheet n).flags) (f-firsts : FlagsNamed names n.node first r.firsts.clocks.words.now r.firsts.names.now (node_needs names sheet n).firsts)
     {o : NameTable 1024 16384} {before all : List Letters} (held : NamesHeld o (names_with names before sheet n)) (kept : o.full ≡ false) (ahead : NamesAhead names before sheet n all)
     (same-flags : r.flags.ids.now ≡ r.written.flag_ids.now) (same-firsts : r.firsts.ids.now ≡ r.written.first_ids.now)
     (flags₀ firsts₀ holds₀ : List ℕ) (a : length flags₀ ≡ 1024) (b : length firsts₀ ≡ 1024) (d : length holds₀ ≡ 1024)
     (x : r.flags.ids.now ≡ over_at 0 (ids_of (names_of o) ck r.flags.names.now.numbers r.flags.clocks.count) flags₀)
     (y : r.firsts.ids.now ≡ over_at 0 (ids_of (names_of o) first r.firsts.names.now.numbers r.firsts.clocks.count) firsts₀)
-    (z : r.written.hold_ids.now ≡ over_at 0 (ids_of (names_of o) hold hold_numbers r.holds) holds₀)
+    (z : r.written.hold_ids.now ≡ over_at 0 (ids_of (names_of o) hold r.names.now.hold_numbers r.names.now.holds) holds₀)
     (gate : r.written.index.now.condact ≡ condact_id (names_of o)) where
   abbrev w : Needs
   w = node_needs names sheet n
@@ -174,10 +171,10 @@ module _ (spelling : Spelling) (r : ReadyNode) (k : ℕ) {many : ℕ} {gated gat
         few-equations = equations-few S.names (tokens_of S) h.place n.node h.end h.read;
         flags =
             subst (λ (v : Needs). ready.FlagsReady names r.flags v.flags) needs-same
-            (record { fit = flags-fit; flagged = flagged; order = f.flags.order; few = omega (arith, many-flags, f.few.flags) });
+            (record { fit = flags-fit; flagged = flagged; order = f-flags.order; few = omega (arith, many-flags, f.few.flags) });
         firsts =
             subst (λ (v : Needs). ready.FlagsReady names r.firsts v.firsts) needs-same
-            (record { fit = firsts-fit; flagged = first-flagged; order = f.firsts.order; few = omega (arith, many-firsts, f.few.firsts) });
+            (record { fit = firsts-fit; flagged = first-flagged; order = f-firsts.order; few = omega (arith, many-firsts, f.few.firsts) });
         held-many = f.held ∙ ap (λ (v : Needs). v.holds) needs-same;
         few-holds = omega (arith, f.held, few-holds);
         planned = rw (← same-ids) (planned-alike S.names S.tags.now S.values.now writer r.written.plan.now (length names) (condact_id names) K alike ids n.clocking.equations 0 _ _ (shaped h) (h.planned K r.flags.ids.now r.firsts.ids.now r.written.hold_ids.now whole));
@@ -187,12 +184,12 @@ module _ (spelling : Spelling) (r : ReadyNode) (k : ℕ) {many : ℕ} {gated gat
   agree : Agree w.flags w.firsts w.holds (new_id names sofar n.node) K ids
   agree =
       ids-agree (new_id names sofar n.node) w.flags w.firsts w.holds r.flags.ids.now r.firsts.ids.now r.written.hold_ids.now K K
-      (ids-filled names sofar n.node held kept ck r.flags.names.now.numbers (length w.flags) flags₀ r.flags.ids.now f.flags.numbers (omega (arith, a, many-flags, f.few.flags))
+      (ids-filled names sofar n.node held kept ck r.flags.names.now.numbers (length w.flags) flags₀ r.flags.ids.now f-flags.numbers (omega (arith, a, many-flags, f.few.flags))
       (x ∙ ap (λ (i : ℕ). over_at 0 (ids_of (names_of o) ck r.flags.names.now.numbers i) flags₀) (sym many-flags)))
-      (ids-filled names sofar n.node held kept first r.firsts.names.now.numbers (length w.firsts) firsts₀ r.firsts.ids.now f.firsts.numbers (omega (arith, b, many-firsts, f.few.firsts))
+      (ids-filled names sofar n.node held kept first r.firsts.names.now.numbers (length w.firsts) firsts₀ r.firsts.ids.now f-firsts.numbers (omega (arith, b, many-firsts, f.few.firsts))
       (y ∙ ap (λ (i : ℕ). over_at 0 (ids_of (names_of o) first r.firsts.names.now.numbers i) firsts₀) (sym many-firsts)))
-      (ids-filled names sofar n.node held kept hold hold_numbers w.holds holds₀ r.written.hold_ids.now f.hold-numbers (omega (arith, d, few-holds))
-      (z ∙ ap (λ (i : ℕ). over_at 0 (ids_of (names_of o) hold hold_numbers i) holds₀) f.held))
+      (ids-filled names sofar n.node held kept hold r.names.now.hold_numbers w.holds holds₀ r.written.hold_ids.now f.hold-numbers (omega (arith, d, few-holds))
+      (z ∙ ap (λ (i : ℕ). over_at 0 (ids_of (names_of o) hold r.names.now.hold_numbers i) holds₀) f.held))
       refl
 
   -- the node of the output

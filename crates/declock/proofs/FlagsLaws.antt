@@ -5,7 +5,8 @@ use mathlib.Core.List.{List, [], ◌∷◌, ◌++◌, map, append-nil}
 use mathlib.Core.Bool.{Bool, true, false}
 use Prim.Native.Nat.{ℕ, suc, ◌+◌, ◌-◌, ◌*◌, ◌≤◌, ◌<◌}
 use native.Mathlib.Omega.{arith}
-use lib.ListN.{length, get_or}
+use lib.ListN.{length, get_or, take}
+use lib.Seq.{get_or-take}
 use Rattle.std.specs.Prelude.{Some, None}
 use Rattle.std.specs.List.{slice_get}
 use Rattle.std.proofs.lemmas.Option.{none-some, slice_get-get_or, slice_get_within, get_or_from_slice_get}
@@ -20,12 +21,12 @@ use Rattle.definitions.specs.declared.TypeToken.{TypeToken}
 use Rattle.definitions.specs.declared.UnaryOp.{UnaryOp}
 use Rattle.definitions.specs.Lists.{choose, join}
 use Rattle.definitions.specs.Tree.{Ty, Expr}
-use Rattle.definitions.specs.Clock.{Clock, base, ◌↓◌, depth, parent, is_base}
+use Rattle.definitions.specs.Clock.{Clock, ◌↓◌, parent, is_base}
 use Rattle.definitions.specs.Declock.{clock_place, and_of, condition_expr}
 use Rattle.definitions.specs.Output.{ty_tokens, declared_tokens, expr_tokens, form_tokens, equation_tokens}
 use Rattle.clock_tables.specs.Value.{clock_at}
 use Rattle.clock_tables.proofs.ClockLaws.{last-at}
-use Rattle.chain_order.specs.Order.{picked}
+use Rattle.chain_order.specs.Order.{row_of, picked}
 use Rattle.stateless.specs.Yield.{Ids}
 use Rattle.stateless.specs.Locals.{activation_by, first_tick_by, flag_locals, first_locals, local_declared, local_equation}
 use Rattle.emit.specs.declared.output.Output.{Output}
@@ -38,6 +39,13 @@ use Rattle.declock.specs.Tabled.{FlagIds, flagged_clocks}
 -- the id at a clock's place
 pub id-found : (f : Flags) (id : Clock → ℕ) (c : Clock) (x : ℕ) → FlagIds f id → (17 * f.clocks.count ≤ length f.clocks.words.now → x ≡ get_or f.ids.now (clock_place c (flagged_clocks f)) 0) → x ≡ id c
 id-found f id c x t h = h t.room ∙ sym (t.stands c)
+
+-- the id in a row of the order
+pub id-here : (f : Flags) (id : Clock → ℕ) (lent : List ℕ) (i x : ℕ) → FlagIds f id → lent ≡ take f.names.now.ordered f.names.now.order → i < f.names.now.ordered → x ≡ get_or f.ids.now (get_or lent i 0) 0
+    → x ≡ id (row_of f.clocks.words.now (get_or f.names.now.order i 0))
+id-here f id lent i x t e u h =
+    let row : get_or lent i 0 ≡ get_or f.names.now.order i 0 = ap (λ (l : List ℕ). get_or l i 0) e ∙ get_or-take f.names.now.ordered f.names.now.order i 0 u in
+    h ∙ (ap (λ (r : ℕ). get_or f.ids.now r 0) (row ∙ sym (t.own i u)) ∙ sym (t.stands (row_of f.clocks.words.now (get_or f.names.now.order i 0))))
 
 -- ---- a condition
 abbrev variable : ℕ → Token
@@ -56,23 +64,12 @@ module _ (o o₁ : Output) (k : Condition) where
 abbrev parent_tokens : (Clock → ℕ) → Clock → List Token
 parent_tokens id c = choose (is_base c) [] (Token.Expression (ExprToken.Binary BinOp.And) ∷ variable (id c) ∷ [])
 
-top : (c : Clock) → depth c ≤ 1 → is_base (parent c) ≡ true
-top base h = refl
-top (base ↓ k) h = refl
-top (c ↓ l ↓ k) h = absurd (omega arith)
+pub parent-none : (o : Output) (id : Clock → ℕ) (c : Clock) → is_base (parent c) ≡ true → o ≡ emits o (parent_tokens id (parent c))
+parent-none o id c h = sym (emits_none o) ∙ rw h
 
-deeper : (c : Clock) → 1 < depth c → is_base (parent c) ≡ false
-deeper base h = absurd (omega arith)
-deeper (base ↓ k) h = absurd (omega arith)
-deeper (c ↓ l ↓ k) h = refl
-
-pub parent-none : (o : Output) (id : Clock → ℕ) (c : Clock) (d : ℕ) → d ≡ depth c → d ≤ 1 → o ≡ emits o (parent_tokens id (parent c))
-parent-none o id c d q h = sym (emits_none o) ∙ rw (top c (omega arith))
-
-pub parent-flag : (o o₁ : Output) (id : Clock → ℕ) (c p : Clock) (d x : ℕ) → d ≡ depth c → 1 < d → p ≡ parent c → x ≡ id p
+pub parent-flag : (o o₁ : Output) (id : Clock → ℕ) (c : Clock) (x : ℕ) → is_base (parent c) ≡ false → x ≡ id (parent c)
     → o₁ ≡ emits o (Token.Expression (ExprToken.Binary BinOp.And) ∷ variable x ∷ []) → o₁ ≡ emits o (parent_tokens id (parent c))
-parent-flag o o₁ id c p d x y h q i e =
-    e ∙ rw (deeper c (omega arith)) (ap (λ (y : ℕ). emits o (Token.Expression (ExprToken.Binary BinOp.And) ∷ variable y ∷ [])) (i ∙ ap id q))
+parent-flag o o₁ id c x h i e = e ∙ rw (h, i)
 
 -- ---- when a clock is on
 module _ (i : Ids) (o o₁ : Output) (c : Clock) where
@@ -126,6 +123,10 @@ module _ (f : ℕ → Clock) (chain : List ℕ) (T : List Clock → List Token) 
   pub rows_all : T [] ≡ [] → (o : Output) (i : ℕ) → m ≤ i → Left o i → o ≡ whole
   unfolding picked
   rows_all none o i h e = let n : m - i ≡ 0 = omega arith in sym (e ∙ rw n (ap (emits o) none ∙ emits_none o))
+
+-- the clock in a row that is lent
+pub row-here : (f : ℕ → Clock) (chain lent : List ℕ) (m i : ℕ) (c : Clock) → lent ≡ take m chain → i < m → c ≡ f (get_or lent i 0) → c ≡ f (get_or chain i 0)
+row-here f chain lent m i c e u q = q ∙ ap f (ap (λ (l : List ℕ). get_or l i 0) e ∙ get_or-take m chain i 0 u)
 
 pub rows_start : (f : ℕ → Clock) (chain : List ℕ) (T : List Clock → List Token) (m : ℕ) (o : Output) → Left f chain T m (emits o (T (picked f chain 0 m))) o 0
 rows_start f chain T m o = let n : m - 0 ≡ m = omega arith in rw n

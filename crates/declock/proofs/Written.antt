@@ -10,6 +10,7 @@ use Rattle.definitions.specs.declared.Token.{Token}
 use Rattle.definitions.specs.Lists.{join, Letters}
 use Rattle.definitions.specs.Tree.{Equation, Node}
 use Rattle.definitions.specs.Clock.{Clock, in_chain_order}
+use Rattle.definitions.specs.Declock.{clock_place}
 use Rattle.definitions.specs.Output.{letters_of, declared_tokens, counted_tokens, equation_tokens, probe_tokens, node_tokens}
 use Rattle.chain_order.specs.Order.{row_of}
 use Rattle.emit.specs.declared.output.Output.{Output}
@@ -22,11 +23,17 @@ use Rattle.stateless.specs.Rewritten.{locals_by, node_by}
 use Rattle.planned.specs.Held.{HeldFrom}
 use Rattle.planned.specs.Planned.{EquationsPlanned}
 use Rattle.planned.specs.Shown.{hold_declarations, hold_equations}
-use Rattle.declock.specs.Tabled.{FlagIds, ordered_clocks}
+use Rattle.declock.specs.Tabled.{FlagIds, flagged_clocks, ordered_clocks}
+use Rattle.declock.specs.declared.Flags.{Flags}
 use Rattle.declock.specs.Parts.{front_tokens, body_tokens}
 use Rattle.declock.specs.declared.ReadyNode.{ReadyNode}
-use Rattle.declock.specs.Ready.{ids_of, NodeReady, needs_in, yield_in}
+use Rattle.declock.specs.Ready.{ids_of, FlagsReady, NodeReady, needs_in, yield_in}
 use Rattle.declock.proofs.Laws.{front-written, body-written, node-written, ordered-count, new-count, yield-length, holds-made}
+
+-- each row in the order is its clock's place
+rows-own : {names : List Letters} (f : Flags) {clocks : List Clock} → FlagsReady names f clocks → (i : ℕ) → i < f.names.now.ordered
+    → clock_place (row_of f.clocks.words.now (get_or f.names.now.order i 0)) (flagged_clocks f) ≡ get_or f.names.now.order i 0
+rows-own f h i u = ap (clock_place (row_of f.clocks.words.now (get_or f.names.now.order i 0))) h.flagged ∙ h.order.own i u
 
 module _ (names : List Letters) {t : ReadyNode} (h : NodeReady names t) (ids : Ids) (q : ids ≡ ids_of t) where
   abbrev node : Node
@@ -46,10 +53,10 @@ module _ (names : List Letters) {t : ReadyNode} (h : NodeReady names t) (ids : I
   firstly = in_chain_order (letters_of names) w.firsts
 
   pub flags-tabled : FlagIds t.flags ids.flag
-  flags-tabled = record { room = h.flags.fit; stands = λ c. ap (λ (i : Ids). i.flag c) q }
+  flags-tabled = record { room = h.flags.fit; stands = λ c. ap (λ (i : Ids). i.flag c) q; own = rows-own t.flags h.flags }
 
   pub firsts-tabled : FlagIds t.firsts ids.first
-  firsts-tabled = record { room = h.firsts.fit; stands = λ c. ap (λ (i : Ids). i.first c) q }
+  firsts-tabled = record { room = h.firsts.fit; stands = λ c. ap (λ (i : Ids). i.first c) q; own = rows-own t.firsts h.firsts }
 
   -- as many holds as are needed
   made : (length y.holds ≡ w.holds) × (y.after ≡ w.holds)
@@ -78,7 +85,7 @@ module _ (names : List Letters) {t : ReadyNode} (h : NodeReady names t) (ids : I
   ready-faultless = ap (λ (x : ℕ). old_fault h.writer.types h.writer.nodes node x 0 h.equations) h.grounds.stands.condact ∙ h.faultless
 
   -- how many there are
-  counts : (length flagged ≡ t.flags.names.now.ordered) × (length firstly ≡ t.firsts.names.now.ordered) × (length y.holds ≡ t.holds) × (t.flags.names.now.ordered ≤ 1024) × (t.firsts.names.now.ordered ≤ 1024) × (t.holds ≤ 1024)
+  counts : (length flagged ≡ t.flags.names.now.ordered) × (length firstly ≡ t.firsts.names.now.ordered) × (length y.holds ≡ t.names.now.holds) × (t.flags.names.now.ordered ≤ 1024) × (t.firsts.names.now.ordered ≤ 1024) × (t.names.now.holds ≤ 1024)
   counts =
       let a = ordered-count (letters_of names) (row_of t.flags.clocks.words.now) t.flags.names.now.order t.flags.names.now.ordered w.flags h.flags.order.sorted in
       let b = ordered-count (letters_of names) (row_of t.firsts.clocks.words.now) t.firsts.names.now.order t.firsts.names.now.ordered w.firsts h.firsts.order.sorted in
@@ -87,20 +94,20 @@ module _ (names : List Letters) {t : ReadyNode} (h : NodeReady names t) (ids : I
   abbrev new : List Local
   new = locals_by names ids w y.holds
 
-  new-many : length new ≡ t.flags.names.now.ordered + (t.firsts.names.now.ordered + t.holds)
+  new-many : length new ≡ t.flags.names.now.ordered + (t.firsts.names.now.ordered + t.names.now.holds)
   new-many = new-count ids flagged firstly y.holds _ _ _ counts.0 counts.1 counts.2
 
   -- the answer of a count with so many more
   abbrev Counts : ℕ → ℕ → Type 0
-  Counts more r = t.flags.names.now.ordered ≤ 1024 → t.firsts.names.now.ordered ≤ 1024 → t.holds ≤ 1024 → more ≤ 1024 → r ≡ t.flags.names.now.ordered + (t.firsts.names.now.ordered + t.holds) + more
+  Counts more r = more ≤ 1024 → r ≡ t.flags.names.now.ordered + (t.firsts.names.now.ordered + t.names.now.holds) + more
 
   counted : (more r : ℕ) → more ≤ 1024 → Counts more r → r ≡ length new + more
-  counted more r u f = f counts.3 counts.4 counts.5 u ∙ ap (λ (x : ℕ). x + more) (sym new-many)
+  counted more r u f = f u ∙ ap (λ (x : ℕ). x + more) (sym new-many)
 
   few-locals : length node.locals ≤ 128
   few-locals = omega (arith, h.few-declared, length-append node.inputs (node.outputs ++ node.locals), length-append node.outputs node.locals)
 
-  pub holds-many : length y.holds ≡ t.holds
+  pub holds-many : length y.holds ≡ t.names.now.holds
   holds-many = counts.2
 
   -- the front

@@ -21,7 +21,6 @@ ghost use Rattle.new_names.specs.Filled.{Filled};
 ghost use Rattle.declock.specs.Planned.{node_needs, names_with, PlannedNode, NamesAhead};
 ghost use Rattle.definitions.specs.Clock as clocks;
 
-use chain_order::OrderedClocks;
 use clock_tables::{Clock, ClockList};
 use definitions::{
     BinOp, Condition, ExprToken, Literal, MOST_NAMES, Primitive, Test, Token, TypeToken, UnaryOp,
@@ -29,7 +28,7 @@ use definitions::{
 use emit::Output;
 use index::Index;
 use layout::NodeLayout;
-use new_names::{FlagNames, NodeNames, NodeNeeds};
+use new_names::{FlagNames, NewIds, NodeNames, NodeNeeds};
 use planned::{HeldOperand, WriteInput};
 use spelling::{OutputNames, Spelling};
 
@@ -44,16 +43,18 @@ pub struct Flags<'a> {
 }
 
 impl Flags<'_> {
-    // The i-th clock in chain order.
-    fn clock(&self, i: usize) -> Clock
-        ensures { value_of result ≡ row_of self.now.clocks.words.now (get_or self.now.names.now.order i 0) }
+    // The clock in a row.
+    fn clock(&self, row: u32) -> Clock
+        ensures { value_of result ≡ row_of self.now.clocks.words.now row }
     {
-        let ordered = OrderedClocks {
-            rows: self.clocks.words,
-            order: &self.names.order,
-            count: self.names.ordered,
-        };
-        ordered.get(i)
+        self.clocks.get(row as usize)
+    }
+
+    // The id of the flag of the clock in a row.
+    fn id_in(&self, row: u32) -> u32
+        ensures { result ≡ get_or self.now.ids.now row 0 }
+    {
+        clock_tables::word_at(self.ids, row as usize)
     }
 
     // The id of a clock's flag.
@@ -79,9 +80,8 @@ fn put_declarations(output: &mut Output, flags: &Flags<'_>)
     ensures result_after { (i : Ids) → FlagIds flags.now i.flag → output.new ≡ emits output.old (join (map declared_tokens (map local_declared (flag_locals i (ordered_clocks flags.now))))) }
     ensures result_after_2 { (i : Ids) → FlagIds flags.now i.first → output.new ≡ emits output.old (join (map declared_tokens (map local_declared (first_locals i (ordered_clocks flags.now))))) }
 {
-    for i in 0..flags.names.ordered {
-        let x = flags.id(flags.clock(i));
-        put_declaration(output, x);
+    for &row in flags.names.order() {
+        put_declaration(output, flags.id_in(row));
     }
 }
 
@@ -110,11 +110,11 @@ fn put_condition(output: &mut Output, k: Condition)
 fn put_parent(output: &mut Output, flags: &Flags<'_>, c: Clock)
     ensures { (id : clocks.Clock → ℕ) → FlagIds flags.now id → output.new ≡ emits output.old (choose (is_base (parent (value_of c))) [] (Token.Expression (ExprToken.Binary BinOp.And) ∷ Token.Expression (ExprToken.Var (id (parent (value_of c)))) ∷ [])) }
 {
-    let d = c.depth();
-    if d <= 1 {
+    let parent = c.parent();
+    if parent.is_base() {
         return;
     }
-    let x = flags.id(c.parent());
+    let x = flags.id(parent);
     output.emit_all(&[
         Token::Expression(ExprToken::Binary(BinOp::And)),
         Token::Expression(ExprToken::Var(x)),
@@ -136,11 +136,9 @@ fn put_activation(output: &mut Output, flags: &Flags<'_>, c: Clock)
 fn put_flag_equations(output: &mut Output, flags: &Flags<'_>)
     ensures { (i : Ids) → FlagIds flags.now i.flag → output.new ≡ emits output.old (join (map equation_tokens (map local_equation (flag_locals i (ordered_clocks flags.now))))) }
 {
-    for i in 0..flags.names.ordered {
-        let c = flags.clock(i);
-        let x = flags.id(c);
-        put_left(output, x);
-        put_activation(output, flags, c);
+    for &row in flags.names.order() {
+        put_left(output, flags.id_in(row));
+        put_activation(output, flags, flags.clock(row));
     }
 }
 
@@ -164,10 +162,9 @@ fn put_first_tick(output: &mut Output, first: u32, flag: u32)
 fn put_first_equations(output: &mut Output, firsts: &Flags<'_>, flags: &Flags<'_>)
     ensures { (i : Ids) → FlagIds firsts.now i.first → FlagIds flags.now i.flag → output.new ≡ emits output.old (join (map equation_tokens (map local_equation (first_locals i (ordered_clocks firsts.now))))) }
 {
-    for i in 0..firsts.names.ordered {
-        let c = firsts.clock(i);
-        let first = firsts.id(c);
-        let flag = flags.id(c);
+    for &row in firsts.names.order() {
+        let first = firsts.id_in(row);
+        let flag = flags.id(firsts.clock(row));
         put_left(output, first);
         put_first_tick(output, first, flag);
     }
@@ -175,26 +172,25 @@ fn put_first_equations(output: &mut Output, firsts: &Flags<'_>, flags: &Flags<'_
 
 // ---- A rewritten node written into the output's arrays, part by part.
 
-// A node that is to be written: what its equations are written with, its activation flags and its first-tick flags, how many holds it has,
-// and its layout.
+// A node that is to be written: what its equations are written with, its new names, its activation flags and its first-tick flags, and its
+// layout.
 #[derive(Clone, Copy)]
 pub struct ReadyNode<'a> {
     pub written: WriteInput<'a>,
+    pub names: &'a NodeNames,
     pub flags: Flags<'a>,
     pub firsts: Flags<'a>,
-    pub holds: usize,
     pub layout: NodeLayout,
 }
 
 // How many new locals a node has, and so many more.
-// Stays (no plainer): that they are few is a premise of the clause alone, so without the clamps no sum would be known to fit its type.
 fn count_of(node: &ReadyNode<'_>, more: u32) -> u32
-    ensures { node.now.flags.names.now.ordered ≤ 1024 → node.now.firsts.names.now.ordered ≤ 1024 → node.now.holds ≤ 1024 → more ≤ 1024 → result ≡ node.now.flags.names.now.ordered + (node.now.firsts.names.now.ordered + node.now.holds) + more }
+    ensures { more ≤ 1024 → result ≡ node.now.flags.names.now.ordered + (node.now.firsts.names.now.ordered + node.now.names.now.holds) + more }
 {
-    let flags = node.flags.names.ordered.min(MOST_NAMES);
-    let firsts = node.firsts.names.ordered.min(MOST_NAMES);
-    let holds = node.holds.min(MOST_NAMES);
-    (flags + firsts + holds) as u32 + more.min(MOST_NAMES as u32)
+    let flags = node.flags.names.ordered;
+    let firsts = node.firsts.names.ordered;
+    let new = flags + firsts + node.names.holds;
+    (new as u32).saturating_add(more)
 }
 
 // The node up to its equations, with its new locals behind its own.
@@ -207,7 +203,7 @@ fn put_declared(node: &ReadyNode<'_>, output: &mut Output)
     emit::put_locals(output, source, node.layout, more);
     put_declarations(output, &node.flags);
     put_declarations(output, &node.firsts);
-    planned::put_hold_declarations(&node.written, node.holds, output);
+    planned::put_hold_declarations(&node.written, node.names.holds, output);
 }
 
 // The equations of the new locals, then the old ones.
@@ -219,8 +215,8 @@ fn put_body(node: &ReadyNode<'_>, output: &mut Output)
     output.emit(Token::Count(all));
     put_flag_equations(output, &node.flags);
     put_first_equations(output, &node.firsts, &node.flags);
-    planned::put_hold_equations(&node.written, node.holds, output);
-    planned::old_equations(&node.written, old.count, old.at, output);
+    planned::put_hold_equations(&node.written, node.names.holds, output);
+    planned::old_equations(&node.written, old, output);
 }
 
 // The rewritten node.
@@ -261,7 +257,13 @@ fn put_filled(
 )
     ensures { (spelling : Spelling) (input before all : List Letters) (sheet : Sheet) (n : ClockedNode) → PlannedNode spelling index.now node.now input sheet n → Filled input n.node (node_needs input sheet n) node.now.needs names.now → NamesHeld table.now (names_with input before sheet n) → table.now.full ≡ false → NamesAhead input before sheet n all → output.new ≡ emits output.old (node_tokens (output_node input sheet all n)) }
 {
-    let ids = names.ids(&node.needs, table);
+    let mut ids = NewIds {
+        flags: [0; MOST_NAMES],
+        firsts: [0; MOST_NAMES],
+        holds: [0; MOST_NAMES],
+        condact: 0,
+    };
+    names.put_ids(&node.needs, table, &mut ids);
     let index = Index {
         condact: ids.condact,
         ..*index
@@ -278,6 +280,7 @@ fn put_filled(
     };
     let ready = ReadyNode {
         written,
+        names,
         flags: Flags {
             clocks: node.needs.flags,
             names: &names.flags,
@@ -288,7 +291,6 @@ fn put_filled(
             names: &names.firsts,
             ids: &ids.firsts,
         },
-        holds: names.holds,
         layout: node.layout,
     };
     declock_node(&ready, output);

@@ -4,7 +4,6 @@
 #![tactic(auto)]
 
 ghost use Rattle.std.specs.Prelude.{◌≡◌, length, take};
-ghost use Rattle.definitions.specs.Refusals.{fault_count};
 ghost use Rattle.definitions.specs.Answer.{rewrite_answer, clocks_answer, text_answer, listing_answer, listings_answer};
 ghost use Rattle.runs.specs.Demand.{DemandThreeAt};
 ghost use Rattle.declock_library.specs.Numbers.{BytesTold, RewritingTold, ClocksTold, told_number, bytes_place, faulty_count, clocks_place, clocks_counts};
@@ -43,17 +42,10 @@ fn tell_rewriting(a: Result<usize, Refusal>, place: &mut usize, faulty: &mut usi
 fn tell_clocks(a: Result<NodeCounts, Refusal>, counts: &mut [usize; 5], place: &mut usize) -> u32
     ensures { (result ≡ told_number a) × (counts.new ≡ clocks_counts a counts.old) × (place.new ≡ clocks_place a) }
 {
-    match a {
-        Ok(c) => {
-            *counts = [c.name as usize, c.passes, c.equations, c.chains, c.faults];
-            *place = 0;
-            0
-        }
-        Err(r) => {
-            *place = refusals::place(r);
-            refusals::number(r)
-        }
+    if let Ok(c) = a {
+        *counts = [c.name as usize, c.passes, c.equations, c.chains, c.faults];
     }
+    tell_bytes(a.map(|_| 0), place)
 }
 
 // Rewrites a sheet to run on one base tick, over the front of the lent bytes; under 10 each faulty node's first fault goes over the

@@ -1,5 +1,5 @@
 -- What rewriting a sheet answers, by what the working tables say: one law for each outcome, in checking order.
-use Prim.Native.Nat.{ℕ, ◌≤◌, ◌<◌}
+use Prim.Native.Nat.{ℕ, suc, ◌≤◌, ◌<◌}
 use mathlib.Core.Path.{◌≡◌, refl, sym, ap, ap₂, ◌∙◌, subst}
 use mathlib.Core.List.{List, [], ◌∷◌, map}
 use mathlib.Core.Bool.{Bool, true, false, ◌&&◌, not}
@@ -21,11 +21,13 @@ use Rattle.spelling.specs.declared.name_table.NameTable.{NameTable}
 use Rattle.grammar.specs.declared.source.Source.{Source}
 use Rattle.spelling.specs.Table.{names_of, NamesHeld}
 use Rattle.spelling.proofs.Table.{holds-limits}
-use Rattle.emit.specs.Out.{out, emits}
+use Rattle.emit.specs.declared.output.Output.{Output}
+use Rattle.emit.specs.Out.{emits}
 use Rattle.emit.proofs.Laws.{emits-long, emits-whole}
 use Rattle.stateless.specs.Sheets.{first_faults_from}
 use Rattle.stateless.proofs.Nodes.{many-tokens}
 use Rattle.stateless.proofs.Answers.{all_names, out_sheet, rewrite-deep, rewrite-faulty, rewrite-large, rewrite-lent, rewrite-accepted}
+use Rattle.query.specs.declared.fault_list.FaultList.{FaultList}
 use Rattle.first_faults.specs.Faults.{Recorded}
 use Rattle.parts.specs.Bytes.{written_answer, written_bytes}
 use Rattle.declock_project.specs.Walk.{Faultless, Walks}
@@ -60,15 +62,24 @@ no_items [] m e h = refl
 no_items (f ∷ fs) m e h = absurd (omega arith)
 
 -- no clock is too deep: each node has its clocks, and each faulty one's first fault is recorded
-pub none_deep : (r : Input) (m : ℕ) (list list' : List FaultRecord) → Walks r list list' (Ok m) → (ns : List ClockedNode) × (clockings 0 r.sheet.nodes ≡ accepted ns) × Recorded list (first_faults_from r 0 ns) m list'
+pub none_deep : (r : Input) (lent : List FaultRecord) (l : FaultList) (u : Unit) → Walks r lent l (Ok u) → (ns : List ClockedNode) × (clockings 0 r.sheet.nodes ≡ accepted ns) × Recorded lent (first_faults_from r 0 ns) l.count l.records.now
 unfolding Walks
-none_deep r m list list' h = h
+none_deep r lent l u h = h
+
+-- the list is as long as it was
+over-long : (l lent : List FaultRecord) → length (over l lent) ≡ length lent
+over-long [] lent = refl
+over-long (f ∷ l) [] = refl
+over-long (f ∷ l) (g ∷ lent) = ap suc (over-long l lent)
+
+pub recorded-long : {lent fs now : List FaultRecord} {m : ℕ} → Recorded lent fs m now → length now ≡ length lent
+recorded-long {lent} {fs} h = ap length h.written ∙ over-long fs lent
 
 -- where none is counted there is none
-pub none-recorded : (r : Input) (m : ℕ) (list list' : List FaultRecord) → Walks r list list' (Ok m) → m ≤ 0 → (ns : List ClockedNode) × (clockings 0 r.sheet.nodes ≡ accepted ns) × (first_faults_from r 0 ns ≡ [])
-none-recorded r m list list' h z =
-    let n = none_deep r m list list' h in
-    (n.0, n.1, no_items (first_faults_from r 0 n.0) m n.2.counted z)
+pub none-recorded : (r : Input) (lent : List FaultRecord) (l : FaultList) (u : Unit) → Walks r lent l (Ok u) → l.count ≤ 0 → (ns : List ClockedNode) × (clockings 0 r.sheet.nodes ≡ accepted ns) × (first_faults_from r 0 ns ≡ [])
+none-recorded r lent l u h z =
+    let n = none_deep r lent l u h in
+    (n.0, n.1, no_items (first_faults_from r 0 n.0) l.count n.2.counted z)
 
 -- the input's names, copied
 pub names-copied : {t : NameTable 1024 16384} {names all : List Letters} → names ≡ all → NamesHeld t all → NamesHeld t names
@@ -81,7 +92,7 @@ faultless-read h ns clocks none = record { are-bytes = h.are-bytes; read = h.rea
 
 module _ (bytes : List ℕ) (r : Input) (reading : input bytes ≡ accepted r) (lent : List ℕ) (list : List FaultRecord) where
   -- 9
-  pub deep-given : (x : Refusal) (first kept : List FaultRecord) → Walks r first kept (Err x) → RewriteGiven (rewrite_answer bytes (length lent)) lent list lent list (Err x)
+  pub deep-given : (x : Refusal) (first : List FaultRecord) (kept : FaultList) → Walks r first kept (Err x) → RewriteGiven (rewrite_answer bytes (length lent)) lent list lent list (Err x)
   unfolding Walks
   deep-given x first kept h = given-refused (rewrite_answer bytes (length lent)) lent list x (rewrite-deep bytes (length lent) r reading x h)
 
@@ -98,29 +109,29 @@ module _ (bytes : List ℕ) (r : Input) (reading : input bytes ≡ accepted r) (
           let w : within_limits (all_names r ns) (out_sheet r ns) ≡ false = holds-limits (out_sheet r ns) holds ∙ ap (λ (b : Bool). not b && leb (length (sheet_tokens (out_sheet r ns))) 8192) h in
           given-refused (rewrite_answer bytes (length lent)) lent list Refusal.Large (rewrite-large bytes (length lent) r reading ns clocks none-faulty w)
 
-      module _ (free : t.full ≡ false) (ts vs ts' vs' : List ℕ) (n : ℕ) (emitted : out ts' vs' n ≡ emits (out ts vs 0) (sheet_tokens (out_sheet r ns))) where
+      module _ (free : t.full ≡ false) (none made : Output) (empty : none.count ≡ 0) (vacant : none.full ≡ false) (emitted : made ≡ emits none (sheet_tokens (out_sheet r ns))) where
         -- 11, for the tokens
-        pub long-given : 8192 < n → RewriteGiven (rewrite_answer bytes (length lent)) lent list lent list (Err Refusal.Large)
+        pub long-given : made.full ≡ true → RewriteGiven (rewrite_answer bytes (length lent)) lent list lent list (Err Refusal.Large)
         long-given h =
-            let m = emits-long ts vs (sheet_tokens (out_sheet r ns)) (out ts' vs' n) emitted h in
+            let m = emits-long none made (sheet_tokens (out_sheet r ns)) empty vacant emitted h in
             given-refused (rewrite_answer bytes (length lent)) lent list Refusal.Large (rewrite-large bytes (length lent) r reading ns clocks none-faulty (many-tokens (all_names r ns) (out_sheet r ns) m))
 
-        module _ (tags : 8192 ≤ length ts) (values : 8192 ≤ length vs) (fits : n ≤ 8192) where
-          whole : (n ≡ length (sheet_tokens (out_sheet r ns))) × (tokens (take n ts') (take n vs') ≡ map code_of (sheet_tokens (out_sheet r ns)))
-          whole = emits-whole ts vs (sheet_tokens (out_sheet r ns)) (out ts' vs' n) emitted tags values fits
+        module _ (tags : 8192 ≤ length none.tags) (values : 8192 ≤ length none.values) (fits : made.full ≡ false) where
+          whole : (made.count ≡ length (sheet_tokens (out_sheet r ns))) × (tokens (take made.count made.tags) (take made.count made.values) ≡ map code_of (sheet_tokens (out_sheet r ns)))
+          whole = emits-whole none made (sheet_tokens (out_sheet r ns)) empty vacant emitted tags values fits
 
           within : within_limits (all_names r ns) (out_sheet r ns) ≡ true
           within =
               holds-limits (out_sheet r ns) holds
-              ∙ ap₂ (λ (b t : Bool). not b && t) free (le-leb (length (sheet_tokens (out_sheet r ns))) 8192 (omega (arith, whole.0)))
+              ∙ ap₂ (λ (b t : Bool). not b && t) free (le-leb (length (sheet_tokens (out_sheet r ns))) 8192 (omega (arith, whole.0, made.within)))
 
           -- the bytes that the tables say are the output's
-          said : sheet_bytes (names_of t) (tokens (take n ts') (take n vs')) ≡ out_bytes r ns
+          said : sheet_bytes (names_of t) (tokens (take made.count made.tags) (take made.count made.values)) ≡ out_bytes r ns
           unfolding written
           said = ap₂ sheet_bytes (sym (holds.kept free)) whole.1
 
-          module _ (lent' : List ℕ) (w : Result ℕ Refusal) (answer : w ≡ written_answer (sheet_bytes (names_of t) (tokens (take n ts') (take n vs'))) lent)
-              (filled : lent' ≡ written_bytes (sheet_bytes (names_of t) (tokens (take n ts') (take n vs'))) lent) where
+          module _ (lent' : List ℕ) (w : Result ℕ Refusal) (answer : w ≡ written_answer (sheet_bytes (names_of t) (tokens (take made.count made.tags) (take made.count made.values))) lent)
+              (filled : lent' ≡ written_bytes (sheet_bytes (names_of t) (tokens (take made.count made.tags) (take made.count made.values))) lent) where
             answer-is : w ≡ written_answer (out_bytes r ns) lent
             answer-is = answer ∙ ap (λ (b : List ℕ). written_answer b lent) said
 

@@ -6,7 +6,7 @@ use mathlib.Core.List.{List}
 use mathlib.Core.Bool.{Bool, true}
 use mathlib.Core.Option.{some}
 use lib.ListN.{length, take, drop, get_elem?}
-use Rattle.std.proofs.Common.{Ok, Err}
+use Rattle.std.specs.Prelude.{Ok, Err}
 use Rattle.definitions.specs.declared.Refusal.{Refusal}
 use Rattle.definitions.specs.declared.FaultRecord.{FaultRecord}
 use Rattle.planned.specs.declared.HeldOperand.{HeldOperand}
@@ -19,6 +19,7 @@ use Rattle.infer_clocks.specs.Clocked.{is_deep}
 use Rattle.infer_clocks.proofs.Laws.{Ahead}
 use Rattle.stateless.specs.Sheets.{first_faults_from}
 use Rattle.grammar.specs.declared.source.Source.{Source}
+use Rattle.query.specs.declared.fault_list.FaultList.{FaultList}
 use Rattle.first_faults.specs.Faults.{Recorded}
 use Rattle.first_faults.proofs.Records.{first-end, nodes-deep, nodes-end}
 use Rattle.index.specs.declared.Index.{Index}
@@ -28,15 +29,15 @@ use Rattle.workspace.proofs.Kept.{plan-kept}
 use Rattle.declock_project.specs.Walk.{Walks, RoomToWrite}
 
 module _ (r : Input) (k : ℕ) (ahead : Ahead k (drop k r.sheet.nodes) (clockings 0 r.sheet.nodes)) where
-  pub walk-deep : (b : Bool) → k < length r.sheet.nodes → ((n : Node) → get_elem? r.sheet.nodes k ≡ some n → b ≡ is_deep (clocking n)) → (lent now : List FaultRecord) → b ≡ true → Walks r lent now (Err (Refusal.Deep k))
+  pub walk-deep : (b : Bool) → k < length r.sheet.nodes → ((n : Node) → get_elem? r.sheet.nodes k ≡ some n → b ≡ is_deep (clocking n)) → (lent : List FaultRecord) (l : FaultList) → b ≡ true → Walks r lent l (Err (Refusal.Deep k))
   unfolding Walks
-  walk-deep b few told lent now e = nodes-deep r k ahead b few told e
+  walk-deep b few told lent l e = nodes-deep r k ahead b few told e
 
-  pub walk_end : (lent now : List FaultRecord) (w : ℕ) → length r.sheet.nodes ≤ k → ((ns : List ClockedNode) → clockings 0 r.sheet.nodes ≡ accepted ns → Recorded lent (first_faults_from r 0 (take k ns)) w now) → Walks r lent now (Ok w)
+  pub walk_end : (lent : List FaultRecord) (l : FaultList) (u : Unit) → length r.sheet.nodes ≤ k → ((ns : List ClockedNode) → clockings 0 r.sheet.nodes ≡ accepted ns → Recorded lent (first_faults_from r 0 (take k ns)) l.count l.records.now) → Walks r lent l (Ok u)
   unfolding Walks
-  walk_end lent now w past f =
+  walk_end lent l u past f =
       let n = nodes-end r k ahead past in
-      (n.0, n.1, first-end r n.0 n.1 lent k w now past (f n.0 n.1))
+      (n.0, n.1, first-end r n.0 n.1 lent k l.count l.records.now past (f n.0 n.1))
 
 -- ---- the working tables keep their room
 pub room-still : {t : Index} {w w' : Working} {holds holds' : List HeldOperand} → SameRoom w w' → length holds' ≡ length holds → RoomToWrite t w holds → RoomToWrite t w' holds'

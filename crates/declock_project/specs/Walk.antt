@@ -30,6 +30,7 @@ use Rattle.planned.specs.declared.HeldOperand.{HeldOperand}
 use Rattle.node_plan.specs.Outcomes.{NodePlanned}
 use Rattle.index.specs.declared.Index.{Index}
 use Rattle.index.specs.Indexed.{Indexed}
+use Rattle.query.specs.declared.fault_list.FaultList.{FaultList}
 use Rattle.first_faults.specs.Faults.{Recorded}
 use Rattle.new_names.specs.Filled.{counts_of}
 use Rattle.declock.specs.declared.NodePlan.{NodePlan}
@@ -107,11 +108,11 @@ pub record LaidPut (spelling : Spelling) (t : Index) (l : NodeLayout) (c c' : Na
   pub tokens : (r : Input) (n : ClockedNode) (before all : List Letters) → Indexed t r → CleanClocked spelling t r n l → NamesHeld c before → NamesAhead r.names before r.sheet n all → c'.full ≡ false →
       o' ≡ emits o (node_tokens (output_node r.names r.sheet all n))
 
--- what was found over all nodes: refused at the first in which too deep a clock is formed; or how many are faulty, and each one's first
--- fault is recorded over a lent list
-unfoldable pub Walks : Input → List FaultRecord → List FaultRecord → Result ℕ Refusal → Type 0
-Walks r lent now (Err e) = clockings 0 r.sheet.nodes ≡ refused e
-Walks r lent now (Ok m) = (ns : List ClockedNode) × (clockings 0 r.sheet.nodes ≡ accepted ns) × Recorded lent (first_faults_from r 0 ns) m now
+-- what was found over all nodes: refused at the first in which too deep a clock is formed; or each faulty node's first fault is recorded
+-- over a lent list, and counted
+unfoldable pub Walks : Input → List FaultRecord → FaultList → Result Unit Refusal → Type 0
+Walks r lent l (Err e) = clockings 0 r.sheet.nodes ≡ refused e
+Walks r lent l (Ok u) = (ns : List ClockedNode) × (clockings 0 r.sheet.nodes ≡ accepted ns) × Recorded lent (first_faults_from r 0 ns) l.count l.records.now
 
 -- the names and tokens of a sheet without faults behind those that were there
 pub record AllPut (r : Input) (ns : List ClockedNode) (c : NameTable 1024 16384) (o o' : Output) : Type 0 where

@@ -20,7 +20,7 @@ ghost use Rattle.workspace.specs.Room.{SameRoom, RoomToPlan};
 ghost use Rattle.first_faults.specs.Faults.{NodeMet, fault_found};
 ghost use Rattle.declock_project.specs.Walk.{RoomToWrite, LeftIn, SitedIn, Faultless, NodePut, LaidPut, Walks, AllPut};
 ghost use Rattle.declock_project.specs.Given.{RewriteGiven, Read, Clean};
-ghost use Rattle.emit.specs.Out as emit;
+ghost use Rattle.emit.specs.declared.output.Output.{Output};
 
 use clock_tables::ClockList;
 use declock::{NodePlan, OutputSheet};
@@ -35,6 +35,7 @@ use layout::NodeLayout;
 use new_names::NodeNeeds;
 use parts::Names;
 use planned::HeldOperand;
+use query::FaultList;
 use spelling::{NameTable, SheetNames, Spelling};
 use stateless::Counts;
 use workspace::Working;
@@ -78,7 +79,7 @@ fn plan_in<'a>(
 }
 
 // The same where its clocks with flags stand in the working tables.
-// Stays (proof): tried in the caller, where the borrow checker does not cover a table that is lent beside the tables that it is one of.
+// Stays (proof): in its caller the borrow checker covers neither `working.table` lent beside `working` nor both through one `&*working`.
 fn plan_left<'a>(
     layout: NodeLayout,
     counts: Counts,
@@ -99,6 +100,7 @@ fn has_rows(working: &Working<'_>, counts: Counts) -> bool
 
 // A small sheet's node with more clocks than its tables have rows: it is planned again, in tables of as many rows as an output may have
 // names.
+// Stays (no plainer): in one struct with what it lends, each of the four walks here would promise besides that three references stay.
 fn write_wide(
     spelling: Spelling<'_>,
     index: &Index<'_>,
@@ -179,8 +181,7 @@ fn walk_node(
 {
     let source = &index.source;
     let layout = layout::node_at(source, index.nodes.at[k]);
-    let e = layout.equations;
-    if layout::equations_use_clocks(source, e.count, e.at) {
+    if layout.uses_clocks(source) {
         return walk_clocked(spelling, index, k, layout, working, holds, sheet);
     }
     emit::put_node_as_it_came(&mut sheet.tokens, source, layout);
@@ -195,34 +196,31 @@ fn walk_nodes(
     working: &mut Working<'_>,
     holds: &mut [HeldOperand],
     sheet: &mut OutputSheet,
-    list: &mut [FaultRecord],
-) -> Result<usize, Refusal>
+    list: &mut FaultList<'_>,
+) -> Result<(), Refusal>
+    requires { list.old.count ≡ 0 }
     ensures same_room { SameRoom working.old working.new }
-    ensures few { IfOk result (λ m. m ≤ 16) }
-    ensures walks { (i : Input) → Indexed index.now i → RoomToWrite index.now working.old holds.old → Walks i list.old list.new result }
-    ensures all_put { IfOk result (λ m. (bytes : List ℕ) (i : Input) (ns : List ClockedNode) → Indexed index.now i → RoomToWrite index.now working.old holds.old → Faultless spelling.entry bytes i ns → NamesHeld sheet.old.names i.names → AllPut i ns sheet.new.names sheet.old.tokens sheet.new.tokens) }
+    ensures few { IfOk result (λ u. list.new.count ≤ 16) }
+    ensures walks { (i : Input) → Indexed index.now i → RoomToWrite index.now working.old holds.old → Walks i list.old.records.now list.new result }
+    ensures all_put { IfOk result (λ u. (bytes : List ℕ) (i : Input) (ns : List ClockedNode) → Indexed index.now i → RoomToWrite index.now working.old holds.old → Faultless spelling.entry bytes i ns → NamesHeld sheet.old.names i.names → AllPut i ns sheet.new.names sheet.old.tokens sheet.new.tokens) }
 {
-    let mut faulty = 0;
     for k in 0..index.nodes.count {
         let fault = walk_node(spelling, index, k, working, holds, sheet)?;
-        faulty = first_faults::add_fault(list, faulty, k as u32, fault);
+        first_faults::add_first(list, k as u32, fault);
     }
-    Ok(faulty)
+    Ok(())
 }
 
 // The output of a sheet without faults over the front of the lent bytes, if it is within its limits and the bytes are enough.
 fn write_output(sheet: &OutputSheet, out: &mut [u8]) -> Result<usize, Refusal>
-    ensures { (bytes : List ℕ) (r : Input) (ns : List ClockedNode) (list : List FaultRecord) (ts vs : List ℕ) → Clean bytes r ns → NamesHeld sheet.now.names (names_out r.names r.sheet ns) → (sheet.now.names.full ≡ false → sheet.now.tokens ≡ emits (emit.out ts vs 0) (sheet_tokens (sheet_out r.names r.sheet ns))) → 8192 ≤ length ts → 8192 ≤ length vs → RewriteGiven (rewrite_answer bytes (length out.old)) out.old list out.new list result }
+    ensures { (bytes : List ℕ) (r : Input) (ns : List ClockedNode) (list : List FaultRecord) (none : Output) → none.count ≡ 0 → none.full ≡ false → Clean bytes r ns → NamesHeld sheet.now.names (names_out r.names r.sheet ns) → (sheet.now.names.full ≡ false → sheet.now.tokens ≡ emits none (sheet_tokens (sheet_out r.names r.sheet ns))) → 8192 ≤ length none.tags → 8192 ≤ length none.values → RewriteGiven (rewrite_answer bytes (length out.old)) out.old list out.new list result }
 {
     let table = &sheet.names;
     let tokens = &sheet.tokens;
-    if table.full {
+    if table.full || tokens.full {
         return Err(Refusal::Large);
     }
     let n = tokens.count;
-    if WORKING_TOKENS < n {
-        return Err(Refusal::Large);
-    }
     let names = Names {
         lengths: &table.lengths[..table.names],
         letters: &table.letters[..table.used],
@@ -255,17 +253,22 @@ pub fn rewrite_in(
             tags: [0; WORKING_TOKENS],
             values: [0; WORKING_TOKENS],
             count: 0,
+            full: false,
         },
     };
     sheet.names.fill(names.lengths, names.spelling.letters);
     emit::put_types(&mut sheet.tokens, &index.source, index.whole);
     let mut holds = [HeldOperand { at: 0, row: 0 }; MOST_NAMES];
-    let mut list = [FaultRecord {
+    let mut records = [FaultRecord {
         node: 0,
         fault: 0,
         equation: 0,
     }; MOST_NODES];
-    let faulty = walk_nodes(
+    let mut list = FaultList {
+        records: &mut records,
+        count: 0,
+    };
+    walk_nodes(
         names.spelling,
         &index,
         working,
@@ -273,9 +276,9 @@ pub fn rewrite_in(
         &mut sheet,
         &mut list,
     )?;
-    if 0 < faulty {
-        first_faults::copy_records(&list, faulty, faults);
-        return Err(Refusal::Faulty(faulty));
+    if 0 < list.count {
+        first_faults::copy_faults(&list, faults);
+        return Err(Refusal::Faulty(list.count));
     }
     write_output(&sheet, out)
 }

@@ -19,10 +19,13 @@ use Rattle.definitions.specs.Grammar.{name, ty, declaration, type_def}
 use Rattle.definitions.specs.Types.{copies, primitive_default, default_by, defaults_by, default_of, default_named}
 use Rattle.definitions.specs.Output.{literal_tokens, field_tokens, form_tokens, expr_tokens, operand_tokens}
 use Rattle.grammar.proofs.Laws.{times-length}
-use Rattle.grammar.proofs.Got.{times-nil, times-cons}
+use Rattle.grammar.proofs.Got.{times-cons}
 use Rattle.layout.specs.declared.Defined.{Defined}
 use Rattle.layout.specs.Table.{def_at, first_of, Table, Described}
-use Rattle.layout.proofs.TypedefsLaws.{FirstField, name-value}
+use Rattle.layout.proofs.TypedefsLaws.{name-value}
+use Rattle.layout.specs.declared.DeclarationLayout.{DeclarationLayout}
+use Rattle.layout.specs.Walk.{LaidAll}
+use Rattle.layout.proofs.Walks.{first-laid, none-laid}
 use Rattle.emit.specs.declared.output.Output.{Output}
 use Rattle.emit.specs.Out.{emits}
 use Rattle.emit.proofs.Laws.{emits-append, emits_none}
@@ -83,9 +86,6 @@ module _ (e : Expr) where
   pub copies-none : (o o₁ : Output) (m i : ℕ) → m ≤ i → o ≡ emits o₁ (join (operand_tokens (copies (m - i) e))) → o₁ ≡ o
   unfolding operand_tokens copies
   copies-none o o₁ m i h g = let n : m - i ≡ 0 = omega arith in sym (rw n at g ∙ emits_none o₁)
-
-  pub copies-begin : (o : Output) (m : ℕ) → emits o (join (operand_tokens (copies m e))) ≡ emits o (join (operand_tokens (copies (m - 0) e)))
-  copies-begin o m = let n : m ≡ m - 0 = omega arith in ap (λ (k : ℕ). emits o (join (operand_tokens (copies k e)))) n
 
 -- a constant's tokens are those of its expression
 pub literal-one : (l : Literal) (o o₁ : Output) → o₁ ≡ emits o (literal_tokens l 0) → o₁ ≡ emits o (expr_tokens (Expr.const l 0))
@@ -181,11 +181,9 @@ module _ (G : ℕ → Option Expr) where
   unfolding defaults_by
   no_fields fs es w d = let h : some Exprs.end ≡ some es = rw w at d in cc
 
-  pub wrote-no-field : (M : ℕ) (ts : List TagValue) (k p : ℕ) (fs : List Declared) (q : ℕ) (es : Exprs) (o : Output) → k ≡ 0 → times k (declaration M) ts p ≡ got fs q → defaults_by G fs ≡ some es → o ≡ emits o (field_tokens (map (λ f. f.name) fs) (operand_tokens es))
+  pub wrote-no-field : (fs : List Declared) (es : Exprs) (o : Output) → fs ≡ [] → defaults_by G fs ≡ some es → o ≡ emits o (field_tokens (map (λ f. f.name) fs) (operand_tokens es))
   unfolding field_tokens operand_tokens
-  wrote-no-field M ts k p fs q es o z g d =
-      let n = times-nil (declaration M) ts k p fs q z g in
-      rw n.0 (sym (emits_none o))
+  wrote-no-field fs es o z d = rw z (sym (emits_none o))
 
   length-operands : (fs : List Declared) (es : Exprs) → defaults_by G fs ≡ some es → length (operand_tokens es) ≡ length fs
   unfolding operand_tokens
@@ -206,31 +204,29 @@ wrote-field x id a b es ids names o o₁ o₂ o₃ i j k e f g =
     let h : o₂ ≡ emits o (Token.Name x ∷ expr_tokens a) = then o o₁ o₂ _ _ _ e f refl in
     then o o₂ o₃ _ _ _ h g (rw (k, j, i))
 
--- of so many fields, those that are left, and what they write after what is written
-pub record FieldsLeft (G : ℕ → Option Expr) (M : ℕ) (ts : List TagValue) (k p q : ℕ) (all o : Output) : Type 0 where
+-- the fields that are left, and what they write after what is written
+pub record FieldsLeft (G : ℕ → Option Expr) (M : ℕ) (ts : List TagValue) (ls : List DeclarationLayout) (all o : Output) : Type 0 where
   pub rest : List Declared
   pub values : Exprs
-  pub reads : times k (declaration M) ts p ≡ got rest q
+  pub laid : LaidAll M ts rest ls
   pub by : defaults_by G rest ≡ some values
   pub whole : all ≡ emits o (field_tokens (map (λ f. f.name) rest) (operand_tokens values))
 
-module _ (G : ℕ → Option Expr) (M : ℕ) (ts : List TagValue) (n : ℕ) where
-  pub fields-begin : (p : ℕ) (fs : List Declared) (q : ℕ) (es : Exprs) (o : Output) → times n (declaration M) ts p ≡ got fs q → defaults_by G fs ≡ some es →
-      FieldsLeft G M ts (n - 0) p q (emits o (field_tokens (map (λ f. f.name) fs) (operand_tokens es))) o
-  fields-begin p fs q es o g d = let e : n ≡ n - 0 = omega arith in record { rest = fs; values = es; reads = rw (← e) g; by = d; whole = refl }
+module _ (G : ℕ → Option Expr) (M : ℕ) (ts : List TagValue) (ls : List DeclarationLayout) where
+  module _ (all o : Output) where
+    pub fields-end : FieldsLeft G M ts ls all o → ls ≡ [] → o ≡ all
+    fields-end a h = wrote-no-field G a.rest a.values o (none-laid (rw h at a.laid)) a.by ∙ sym a.whole
 
-  module _ (i p q : ℕ) (all o : Output) (a : FieldsLeft G M ts (n - i) p q all o) where
-    pub fields-next : (first : ℕ) (f : FirstField M ts (n - i) p first a.rest q) (next : ℕ) → times (n - i - 1) (declaration M) ts next ≡ got f.rest q → (e : Expr) (es : Exprs) → defaults_by G f.rest ≡ some es → a.values ≡ Exprs.and e es →
-        (x : ℕ) (o₁ o₂ : Output) → x ≡ f.id → o₁ ≡ emits o (Token.Name x ∷ []) → o₂ ≡ emits o₁ (expr_tokens e) → FieldsLeft G M ts (n - (i + 1)) next q all o₂
-    fields-next first f next g e es d v x o₁ o₂ j k l =
-        let m : n - i - 1 ≡ n - (i + 1) = omega arith in
+    -- a field that is written
+    pub fields-next : (l : DeclarationLayout) → FieldsLeft G M ts (l ∷ ls) all o → (o₁ o₂ : Output) → o₁ ≡ emits o (Token.Name l.name ∷ []) →
+        ((t : Ty) (q : ℕ) (e : Expr) → ty M 8 ts l.type_at ≡ got t q → default_by G t ≡ some e → o₂ ≡ emits o₁ (expr_tokens e)) → FieldsLeft G M ts ls all o₂
+    fields-next l a o₁ o₂ k w =
+        let f = first-laid a.laid in
+        let b = field-default G a.rest f.first f.rest a.values f.whole a.by in
         record {
           rest = f.rest;
-          values = es;
-          reads = rw (← m) g;
-          by = d;
-          whole = a.whole ∙ sym (wrote-field x f.id e es a.values (map (λ y. y.name) f.rest) _ o o₁ o₂ _ j v (ap (map (λ (y : Declared). y.name)) f.whole) k l refl);
+          values = b.1;
+          laid = f.others;
+          by = b.3;
+          whole = a.whole ∙ sym (wrote-field l.name f.first.name b.0 b.1 a.values (map (λ y. y.name) f.rest) _ o o₁ o₂ _ f.laid.named b.4 (ap (map (λ (y : Declared). y.name)) f.whole) k (w f.first.type f.to b.0 f.laid.typed b.2) refl);
         }
-
-    pub fields-end : n ≤ i → o ≡ all
-    fields-end h = let e : n - i ≡ 0 = omega arith in wrote-no-field G M ts (n - i) p a.rest q a.values o e a.reads a.by ∙ sym a.whole

@@ -2,7 +2,7 @@
 // then it is written. `places` are those of a sheet's definitions; `has` says of each definition whether it has a default.
 #![tactic(auto)]
 
-ghost use Rattle.std.specs.Prelude.{◌≡◌, List, [], ◌∷◌, map, ℕ, suc, ◌<◌, ◌↔◌, true, false, get_or, IfSome};
+ghost use Rattle.std.specs.Prelude.{◌≡◌, List, map, ℕ, suc, ◌<◌, ◌↔◌, true, false, get_or, IfSome};
 ghost use Rattle.std.proofs.Math.Option.{some};
 ghost use Rattle.grammar.specs.Read.{tokens_of};
 ghost use Rattle.definitions.specs.Lists.{join};
@@ -11,8 +11,8 @@ ghost use Rattle.definitions.specs.Reading.{got, times};
 ghost use Rattle.definitions.specs.Grammar.{ty, declaration, type_def};
 ghost use Rattle.definitions.specs.Types.{copies, primitive_default, default_by, defaults_by, default_of, default_named, default};
 ghost use Rattle.definitions.specs.Output.{literal_tokens, field_tokens, expr_tokens, operand_tokens};
-ghost use Rattle.layout.specs.Table.{Table, Named};
 ghost use Rattle.emit.specs.Out.{emits};
+ghost use Rattle.cycles.specs.Defines.{Defines};
 ghost use Rattle.defaults.specs.Has.{is_some, DefaultsKnown};
 ghost use Rattle.defaults.specs.Depth.{Enough};
 ghost use Rattle.cycles.specs.Edges.{row_at, IsWithin};
@@ -41,7 +41,7 @@ fn has_round(graph: &Graph, has: &[bool; MOST_TYPES]) -> [bool; MOST_TYPES]
 
 // Which definitions have a default: at most as many rounds as there are definitions, over a graph, so that none reads tokens again.
 pub fn has_defaults(table: &TypeTable<'_, '_>) -> [bool; MOST_TYPES]
-    ensures { (types : List TypeDef) → Table table.now.source.names (tokens_of table.now.source) table.now.places.now.at table.now.places.now.count types → DefaultsKnown types table.now.places.now.count table.now.places.now.count result }
+    ensures { (types : List TypeDef) → Defines table.now types → DefaultsKnown types table.now.places.now.count table.now.places.now.count result }
 {
     let graph = cycles::edges(table);
     let mut has = [false; MOST_TYPES];
@@ -81,10 +81,8 @@ fn emit_literal(output: &mut Output, l: Literal)
 {
     output.emit(Token::Expression(ExprToken::Const(l)));
     match l {
-        Literal::Bool(_) => {}
-        Literal::Int(_) => output.emit(Token::High(0)),
-        Literal::Float(_) => output.emit(Token::High(0)),
-        Literal::Char(_) => {}
+        Literal::Bool(_) | Literal::Char(_) => {}
+        Literal::Int(_) | Literal::Float(_) => output.emit(Token::High(0)),
     }
 }
 
@@ -93,7 +91,7 @@ fn emit_each(output: &mut Output, l: Literal, m: u32)
     ensures { output.new ≡ emits output.old (join (operand_tokens (copies m (Expr.const l 0)))) }
 {
     for _ in 0..m {
-        if output.is_full() {
+        if output.full {
             return;
         }
         emit_literal(output, l);
@@ -105,10 +103,10 @@ fn emit_literals(output: &mut Output, l: Literal, m: u32)
     ensures { output.new ≡ emits output.old (join (operand_tokens (copies m (Expr.const l 0)))) }
 {
     match l {
-        Literal::Bool(_) => output.emit_many(Token::Expression(ExprToken::Const(l)), m),
-        Literal::Int(_) => emit_each(output, l, m),
-        Literal::Float(_) => emit_each(output, l, m),
-        Literal::Char(_) => output.emit_many(Token::Expression(ExprToken::Const(l)), m),
+        Literal::Bool(_) | Literal::Char(_) => {
+            output.emit_many(Token::Expression(ExprToken::Const(l)), m);
+        }
+        Literal::Int(_) | Literal::Float(_) => emit_each(output, l, m),
     }
 }
 
@@ -125,9 +123,9 @@ fn literal_at(source: &Source<'_>, at: usize) -> Option<Literal>
 // The default of a type. The depth falls at each type that is gone down to: a field's, an element's or a target's.
 #[cycle(emits)]
 fn emit_type(table: &TypeTable<'_, '_>, depth: u32, at: usize, output: &mut Output)
-    ensures { (types : List TypeDef) (fuel levels : ℕ) (t : Ty) (q : ℕ) (e : Expr) → Table table.now.source.names (tokens_of table.now.source) table.now.places.now.at table.now.places.now.count types → Enough depth fuel (suc levels) → ty table.now.source.names levels (tokens_of table.now.source) at ≡ got t q → default_by (default_named types fuel) t ≡ some e → output.new ≡ emits output.old (expr_tokens e) }
+    ensures { (types : List TypeDef) (fuel levels : ℕ) (t : Ty) (q : ℕ) (e : Expr) → Defines table.now types → Enough depth fuel (suc levels) → ty table.now.source.names levels (tokens_of table.now.source) at ≡ got t q → default_by (default_named types fuel) t ≡ some e → output.new ≡ emits output.old (expr_tokens e) }
 {
-    if output.is_full() {
+    if output.full {
         return;
     }
     if depth == 0 {
@@ -147,7 +145,7 @@ fn emit_type(table: &TypeTable<'_, '_>, depth: u32, at: usize, output: &mut Outp
 // An array of so many defaults of a type.
 #[cycle(emits)]
 fn emit_array(table: &TypeTable<'_, '_>, depth: u32, at: usize, m: u32, output: &mut Output)
-    ensures { (types : List TypeDef) (fuel levels : ℕ) (t : Ty) (q : ℕ) (e : Expr) → Table table.now.source.names (tokens_of table.now.source) table.now.places.now.at table.now.places.now.count types → Enough depth fuel (suc levels) → ty table.now.source.names levels (tokens_of table.now.source) at ≡ got t q → default_by (default_named types fuel) t ≡ some e → output.new ≡ emits output.old (expr_tokens (Expr.op Head.array (copies m e))) }
+    ensures { (types : List TypeDef) (fuel levels : ℕ) (t : Ty) (q : ℕ) (e : Expr) → Defines table.now types → Enough depth fuel (suc levels) → ty table.now.source.names levels (tokens_of table.now.source) at ≡ got t q → default_by (default_named types fuel) t ≡ some e → output.new ≡ emits output.old (expr_tokens (Expr.op Head.array (copies m e))) }
 {
     output.emit_all(&[Token::Expression(ExprToken::Array), Token::Count(m)]);
     match literal_at(&table.source, at) {
@@ -159,10 +157,10 @@ fn emit_array(table: &TypeTable<'_, '_>, depth: u32, at: usize, m: u32, output: 
 // So many times the default of a type.
 #[cycle(emits)]
 fn emit_copies(table: &TypeTable<'_, '_>, depth: u32, at: usize, m: u32, output: &mut Output)
-    ensures { (types : List TypeDef) (fuel levels : ℕ) (t : Ty) (q : ℕ) (e : Expr) → Table table.now.source.names (tokens_of table.now.source) table.now.places.now.at table.now.places.now.count types → Enough depth fuel (suc levels) → ty table.now.source.names levels (tokens_of table.now.source) at ≡ got t q → default_by (default_named types fuel) t ≡ some e → output.new ≡ emits output.old (join (operand_tokens (copies m e))) }
+    ensures { (types : List TypeDef) (fuel levels : ℕ) (t : Ty) (q : ℕ) (e : Expr) → Defines table.now types → Enough depth fuel (suc levels) → ty table.now.source.names levels (tokens_of table.now.source) at ≡ got t q → default_by (default_named types fuel) t ≡ some e → output.new ≡ emits output.old (join (operand_tokens (copies m e))) }
 {
     for _ in 0..m {
-        if output.is_full() {
+        if output.full {
             return;
         }
         emit_type(table, depth, at, output);
@@ -172,7 +170,7 @@ fn emit_copies(table: &TypeTable<'_, '_>, depth: u32, at: usize, m: u32, output:
 // The default of a name's type.
 #[cycle(emits)]
 fn emit_named(table: &TypeTable<'_, '_>, depth: u32, x: u32, output: &mut Output)
-    ensures { (types : List TypeDef) (fuel : ℕ) (e : Expr) → Table table.now.source.names (tokens_of table.now.source) table.now.places.now.at table.now.places.now.count types → Enough depth fuel 0 → default_named types fuel x ≡ some e → output.new ≡ emits output.old (expr_tokens e) }
+    ensures { (types : List TypeDef) (fuel : ℕ) (e : Expr) → Defines table.now types → Enough depth fuel 0 → default_named types fuel x ≡ some e → output.new ≡ emits output.old (expr_tokens e) }
 {
     let Some(first) = layout::find_definition(table.source.values, table.places, x) else {
         return;
@@ -183,7 +181,7 @@ fn emit_named(table: &TypeTable<'_, '_>, depth: u32, x: u32, output: &mut Output
 // The default of a definition. A record's carries the record's own name.
 #[cycle(emits)]
 fn emit_definition(table: &TypeTable<'_, '_>, depth: u32, at: usize, output: &mut Output)
-    ensures { (types : List TypeDef) (fuel : ℕ) (d : TypeDef) (q : ℕ) (e : Expr) → Table table.now.source.names (tokens_of table.now.source) table.now.places.now.at table.now.places.now.count types → Enough depth fuel 9 → type_def table.now.source.names (tokens_of table.now.source) at ≡ got d q → default_of (default_named types fuel) d d.body ≡ some e → output.new ≡ emits output.old (expr_tokens e) }
+    ensures { (types : List TypeDef) (fuel : ℕ) (d : TypeDef) (q : ℕ) (e : Expr) → Defines table.now types → Enough depth fuel 9 → type_def table.now.source.names (tokens_of table.now.source) at ≡ got d q → default_of (default_named types fuel) d d.body ≡ some e → output.new ≡ emits output.old (expr_tokens e) }
 {
     match layout::describe(&table.source, at) {
         Some(Defined::Enum { first, .. }) => {
@@ -205,32 +203,27 @@ fn emit_definition(table: &TypeTable<'_, '_>, depth: u32, at: usize, output: &mu
 // So many fields, each with its name and its default.
 #[cycle(emits)]
 fn emit_fields(table: &TypeTable<'_, '_>, depth: u32, count: u32, at: usize, output: &mut Output)
-    ensures { (types : List TypeDef) (fuel : ℕ) (fs : List Declared) (q : ℕ) (es : Exprs) → Table table.now.source.names (tokens_of table.now.source) table.now.places.now.at table.now.places.now.count types → Enough depth fuel 9 → times count (declaration table.now.source.names) (tokens_of table.now.source) at ≡ got fs q → defaults_by (default_named types fuel) fs ≡ some es → output.new ≡ emits output.old (field_tokens (map (λ f. f.name) fs) (operand_tokens es)) }
+    ensures { (types : List TypeDef) (fuel : ℕ) (fs : List Declared) (q : ℕ) (es : Exprs) → Defines table.now types → Enough depth fuel 9 → times count (declaration table.now.source.names) (tokens_of table.now.source) at ≡ got fs q → defaults_by (default_named types fuel) fs ≡ some es → output.new ≡ emits output.old (field_tokens (map (λ f. f.name) fs) (operand_tokens es)) }
 {
-    let mut place = at;
-    for _ in 0..count {
-        if output.is_full() {
+    for field in layout::declarations_from(&table.source, count, at) {
+        if output.full {
             return;
         }
-        let Some(field) = layout::declaration_at(&table.source, place) else {
-            return;
-        };
         output.emit(Token::Name(field.name));
         emit_type(table, depth, field.type_at, output);
-        place = field.end;
     }
 }
 
 // The default of the type at a place.
 pub fn emit_default(table: &TypeTable<'_, '_>, at: usize, output: &mut Output)
-    ensures { (types : List TypeDef) (t : Ty) (q : ℕ) (e : Expr) → Table table.now.source.names (tokens_of table.now.source) table.now.places.now.at table.now.places.now.count types → ty table.now.source.names 8 (tokens_of table.now.source) at ≡ got t q → default types t ≡ some e → output.new ≡ emits output.old (expr_tokens e) }
+    ensures { (types : List TypeDef) (t : Ty) (q : ℕ) (e : Expr) → Defines table.now types → ty table.now.source.names 8 (tokens_of table.now.source) at ≡ got t q → default types t ≡ some e → output.new ≡ emits output.old (expr_tokens e) }
 {
     emit_type(table, DEEPEST, at, output);
 }
 
 // Has the type at a place a default, `has` being what `has_defaults` found?
 pub fn type_has_default(table: &TypeTable<'_, '_>, has: &[bool; MOST_TYPES], at: usize) -> bool
-    ensures { (types : List TypeDef) (t : Ty) (q : ℕ) → Table table.now.source.names (tokens_of table.now.source) table.now.places.now.at table.now.places.now.count types → DefaultsKnown types table.now.places.now.count table.now.places.now.count has.now → ty table.now.source.names 8 (tokens_of table.now.source) at ≡ got t q → result ≡ is_some (default types t) }
+    ensures { (types : List TypeDef) (t : Ty) (q : ℕ) → Defines table.now types → DefaultsKnown types table.now.places.now.count table.now.places.now.count has.now → ty table.now.source.names 8 (tokens_of table.now.source) at ≡ got t q → result ≡ is_some (default types t) }
 {
     let Some(x) = cycles::target_of(&table.source, ARRAY_LEVELS, at) else {
         return true;

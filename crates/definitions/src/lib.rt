@@ -185,7 +185,8 @@ pub struct Condition {
     pub test: Test,
 }
 
-// "A fault record holds node, fault and equation." Its layout is C's, for callers in C.
+// "A fault record holds node, fault and equation."
+// Stays (C interface): its layout is C's, so a fault is its number and not its kind.
 #[repr(C)]
 #[derive(Clone, Copy)]
 pub struct FaultRecord {

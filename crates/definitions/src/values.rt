@@ -1,12 +1,38 @@
 // What a value says, where it says one: document 01, "Tags".
-ghost use Rattle.std.specs.Prelude.{◌≡◌};
-ghost use Rattle.definitions.specs.Tokens.{converted, unary_of, binary_of, kind_of};
+ghost use Rattle.std.specs.Prelude.{◌≡◌, ◌+◌};
+ghost use Rattle.definitions.specs.Tokens.{converted, primitive_of, unary_of, binary_of, kind_of};
 
-use crate::{BinOp, NodeKind, UnaryOp};
+use crate::{BinOp, NodeKind, Primitive, UnaryOp};
 
 // A value that says none.
 #[derive(Clone, Copy)]
 pub struct UnknownValue;
+
+// "20 to 31 the types Bool to Char in the Rust's order": the type at a place of that order.
+impl TryFrom<u8> for Primitive {
+    type Error = UnknownValue;
+
+    ghost try_from_gives = { λ v r. converted r ≡ primitive_of (v + 20) };
+
+    #[tactic(auto, unfolding(crate::specs::Tokens::primitive_of))]
+    fn try_from(value: u8) -> Result<Primitive, UnknownValue> {
+        match value {
+            0 => Ok(Primitive::Bool),
+            1 => Ok(Primitive::Int8),
+            2 => Ok(Primitive::Int16),
+            3 => Ok(Primitive::Int32),
+            4 => Ok(Primitive::Int64),
+            5 => Ok(Primitive::Uint8),
+            6 => Ok(Primitive::Uint16),
+            7 => Ok(Primitive::Uint32),
+            8 => Ok(Primitive::Uint64),
+            9 => Ok(Primitive::Float32),
+            10 => Ok(Primitive::Float64),
+            11 => Ok(Primitive::Char),
+            _ => Err(UnknownValue),
+        }
+    }
+}
 
 // "55 unary(0, 1)"
 impl TryFrom<u32> for UnaryOp {

@@ -2,14 +2,13 @@
 #![tactic(auto)]
 
 ghost use Rattle.std.specs.Prelude.{◌≡◌, [], ◌∷◌, List, ◌++◌, map, ℕ, ◌+◌, ◌<◌, length};
-ghost use Rattle.definitions.specs.Bytes.{tokens};
 ghost use Rattle.grammar.specs.Read.{tokens_of};
 ghost use Rattle.emit.specs.Out.{emits};
 ghost use Rattle.definitions.specs.Lists.{join};
 ghost use Rattle.definitions.specs.Tree.{Node, Sheet};
 ghost use Rattle.definitions.specs.Output.{declared_tokens, counted_tokens, equation_tokens, probe_tokens, definition_tokens, node_tokens};
 ghost use Rattle.layout.specs.Laid.{LaidNode, LaidSheet};
-ghost use Rattle.emit.specs.Copies.{Copies, Words};
+ghost use Rattle.emit.specs.Copies.{Copies};
 
 use definitions::Token;
 use grammar::Source;
@@ -19,12 +18,12 @@ pub use output::Output;
 mod output;
 
 // A token, then the items that stand there.
-// Stays (proof): that each value is a word is known of a slice that is a parameter, and not of one in a `Source`.
-fn put_items(output: &mut Output, tags: &[u8], values: &[u32], head: Token, s: Span)
-    requires { length values.now ≡ length tags.now }
-    ensures { (l : List Token) → (Words (tokens tags.now values.now) → Copies (tokens tags.now values.now) l s.at s.end) → output.new ≡ emits output.old (head ∷ l) }
+fn put_items(output: &mut Output, source: &Source<'_>, head: Token, s: Span)
+    ensures { (l : List Token) → Copies (tokens_of source.now) l s.at s.end → output.new ≡ emits output.old (head ∷ l) }
 {
     output.emit(head);
+    let tags = source.tags;
+    let values = source.values;
     if tags.len() < s.end {
         return;
     }
@@ -35,9 +34,9 @@ fn put_items(output: &mut Output, tags: &[u8], values: &[u32], head: Token, s: S
 
 // The items that stand there, behind their count.
 fn put_counted(output: &mut Output, source: &Source<'_>, s: Span)
-    ensures { (l : List Token) → (Words (tokens_of source.now) → Copies (tokens_of source.now) l s.at s.end) → output.new ≡ emits output.old (Token.Count s.count ∷ l) }
+    ensures { (l : List Token) → Copies (tokens_of source.now) l s.at s.end → output.new ≡ emits output.old (Token.Count s.count ∷ l) }
 {
-    put_items(output, source.tags, source.values, Token::Count(s.count), s);
+    put_items(output, source, Token::Count(s.count), s);
 }
 
 // A node's name and kind, inputs and outputs.
@@ -54,13 +53,7 @@ pub fn put_locals(output: &mut Output, source: &Source<'_>, l: NodeLayout, more:
     ensures { (M : ℕ) (n : Node) (q : ℕ) → LaidNode M (tokens_of source.now) n q l → length n.locals + more < 4294967296 → output.new ≡ emits output.old (Token.Count (length n.locals + more) ∷ join (map declared_tokens n.locals)) }
 {
     let all = l.locals.count.saturating_add(more);
-    put_items(
-        output,
-        source.tags,
-        source.values,
-        Token::Count(all),
-        l.locals,
-    );
+    put_items(output, source, Token::Count(all), l.locals);
 }
 
 // A node's equations.
@@ -91,12 +84,6 @@ pub fn put_node_as_it_came(output: &mut Output, source: &Source<'_>, l: NodeLayo
 pub fn put_types(output: &mut Output, source: &Source<'_>, l: SheetLayout)
     ensures { (M : ℕ) (s : Sheet) → LaidSheet M (tokens_of source.now) s l → output.new ≡ emits output.old (Token.Types (length s.types) ∷ (join (map (λ d. definition_tokens d.name d.body) s.types) ++ (Token.Nodes (length s.nodes) ∷ []))) }
 {
-    put_items(
-        output,
-        source.tags,
-        source.values,
-        Token::Types(l.types.count),
-        l.types,
-    );
+    put_items(output, source, Token::Types(l.types.count), l.types);
     output.emit(Token::Nodes(l.nodes.count));
 }

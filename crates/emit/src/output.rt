@@ -1,24 +1,26 @@
 // The output's tokens, one written after the other.
-ghost use Rattle.std.specs.Prelude.{◌≡◌, [], ◌∷◌, ◌↔◌, IsTrue, replicate};
-ghost use Rattle.definitions.specs.Tokens.{tag_value};
-ghost use Rattle.emit.specs.Out.{puts, emits};
+ghost use Rattle.std.specs.Prelude.{◌≡◌, ◌≤◌, true};
 
 use definitions::{Token, WORKING_TOKENS};
 
-// The count of an output that is full: past what the arrays hold.
-// Stays (no plainer): a count past the arrays is one test and no second field that writing would have to keep in step with it.
-const FULL: usize = WORKING_TOKENS + 1;
-
-// Arrays of tags and of values, of which so many are written. Past the arrays nothing is written, and the count is `FULL`.
+// Arrays of tags and of values, apart as a sheet's bytes have them, of which so many are written; full, where a token had no place.
 // Stays (fixed memory): how long an output is shows as it is written, and the arrays are as long as one may be.
 #[derive(Drop)]
 pub struct Output {
     pub tags: [u8; WORKING_TOKENS],
     pub values: [u32; WORKING_TOKENS],
     pub count: usize,
+    // Stays (no plainer): what is written goes on past a token without a place, and would hand its answer on through each writer.
+    pub full: bool,
+    pub ghost within: { count ≤ 8192 },
+    pub ghost none_left: { full ≡ true → count ≡ 8192 },
 }
 
 impl Output {
+    ghost use Rattle.std.specs.Prelude.{[], ◌∷◌, replicate};
+    ghost use Rattle.definitions.specs.Tokens.{tag_value};
+    ghost use Rattle.emit.specs.Out.{puts, emits};
+
     // A tag and a value.
     pub fn put(&mut self, tag: u8, value: u32)
         ensures { self.new ≡ puts self.old (tag_value tag value ∷ []) }
@@ -28,7 +30,7 @@ impl Output {
             self.values[self.count] = value;
             self.count += 1;
         } else {
-            self.count = FULL;
+            self.full = true;
         }
     }
 
@@ -49,30 +51,18 @@ impl Output {
         }
     }
 
-    // So many times a token: one loop with one end, over which nothing else is written.
+    // So many times a token.
     pub fn emit_many(&mut self, t: Token, m: u32)
         ensures { self.new ≡ emits self.old (replicate m t) }
     {
-        if m == 0 {
-            return;
-        }
         let (tag, value) = grammar::code_of(t);
-        let end = self.count.saturating_add(m as usize);
-        for i in self.count..end.min(WORKING_TOKENS) {
-            self.tags[i] = tag;
-            self.values[i] = value;
+        let end = self.count + m as usize;
+        let to = end.min(WORKING_TOKENS);
+        self.tags[self.count..to].fill(tag);
+        self.values[self.count..to].fill(value);
+        self.count = to;
+        if to < end {
+            self.full = true;
         }
-        if end <= WORKING_TOKENS {
-            self.count = end;
-        } else {
-            self.count = FULL;
-        }
-    }
-
-    // Did a token not fit?
-    pub fn is_full(&self) -> bool
-        ensures { IsTrue result ↔ (self.now.count ≡ 8193) }
-    {
-        self.count == FULL
     }
 }

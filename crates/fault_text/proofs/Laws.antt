@@ -33,10 +33,10 @@ use Rattle.listings.specs.Answers.{ListingGiven}
 use Rattle.fault_text.specs.Lines.{fault_lines_of, lines_text, line_of, LinesStand}
 
 -- ---- the line of a fault that was found is no longer than names let it be
-pub line-short : (starts letters : List ℕ) (i e : ℕ) (f : struct.Fault) {w w₁ : TextWriter} → length letters ≤ 16384
-    → Wrote (fault_line (letters_at starts letters) i (record { equation = e; fault = fault_of f })) w w₁ → w₁.at ≤ w.at + 278998
-line-short starts letters i e f h u =
-    omega (arith, u.next, line-length (letters_at starts letters) (length letters) (name-length starts letters) i (record { equation = e; fault = fault_of f }) (shallow-of f))
+pub line-short : (starts letters : List ℕ) (i e : ℕ) (f : struct.Fault) (at : ℕ) {w w₁ : TextWriter} → length letters ≤ 16384
+    → Wrote (fault_line (letters_at starts letters) i (record { equation = e; fault = fault_of f })) w w₁ → at ≡ w₁.at → at ≤ w.at + 278998
+line-short starts letters i e f at h u g =
+    omega (arith, g, u.next, line-length (letters_at starts letters) (length letters) (name-length starts letters) i (record { equation = e; fault = fault_of f }) (shallow-of f))
 
 -- ---- node after node
 line_first : (letters : ℕ → Letters) (i : ℕ) (fs : List NodeFault) → line_of letters i (get_elem? fs 0) ≡ first_line letters i fs

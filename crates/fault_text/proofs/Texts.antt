@@ -1,5 +1,5 @@
 -- The text of a fault, refusal by refusal. Assumes nothing.
-use Prim.Native.Nat.{ℕ, zero, suc, ◌+◌, ◌-◌, ◌<◌}
+use Prim.Native.Nat.{ℕ, zero, suc, ◌+◌}
 use mathlib.Core.Path.{◌≡◌, refl, sym, ap, ◌∙◌, subst}
 use mathlib.Core.List.{List, [], ◌∷◌}
 use mathlib.Core.Bool.{Bool, true, false}
@@ -9,25 +9,22 @@ use lib.ListN.{length, get_elem?}
 use Rattle.std.proofs.Common.{Result, Ok, Err}
 use Rattle.definitions.specs.declared.Refusal.{Refusal}
 use Rattle.definitions.specs.Lists.{Letters}
-use Rattle.definitions.specs.Tokens.{TagValue}
 use Rattle.definitions.specs.Tree.{Node}
-use Rattle.definitions.specs.Reading.{got, times}
-use Rattle.definitions.specs.Grammar.{node}
 use Rattle.definitions.specs.InferClocks.{Formed, deep, formed, Clocking, clocking, NodeFault}
 use Rattle.definitions.specs.Refusals.{Answer, accepted, refused, down, told, ◌>>=◌}
 use Rattle.definitions.specs.Output.{letters_of, ClockedNode, node_faults}
 use Rattle.definitions.specs.Texts.{fault_text}
-use Rattle.definitions.specs.Answer.{Input, input, clockings, item_at, node_at, text_answer}
+use Rattle.definitions.specs.Answer.{Input, input, clockings, item_at, text_answer}
 use Rattle.grammar.specs.declared.source.Source.{Source}
 use Rattle.findings.specs.Value.{fault_of, found_of}
 use Rattle.infer_clocks.specs.Clocked.{is_deep, Deeply}
 use Rattle.stateless.proofs.Answers.{text-refused}
 use Rattle.lines.specs.Lending.{lent_text, Gives}
 use Rattle.query.specs.Standing.{first_from}
-use Rattle.query.proofs.Nodes.{asked-there, first-deep, first-behind, first-there}
+use Rattle.query.proofs.Nodes.{first-deep, first-behind, first-there}
 use Rattle.findings.specs.declared.Found as value
 use Rattle.std.specs.Prelude as rust
-use Rattle.std.specs.Prelude.{None, Some}
+use Rattle.std.specs.Prelude.{None, Some, ok_or}
 use Rattle.workspace.specs.declared.Working.{Working}
 use Rattle.workspace.specs.Room.{RoomToPlan}
 use Rattle.listings.specs.Answers.{ListingGiven}
@@ -64,18 +61,9 @@ module _ (r : Input) (v : Answer ClockedNode) (j : ℕ) (lent : List ℕ) where
       let s : text_from r v j (length lent) ≡ text_in r.names (found_of o) (length lent) = rw e (text-item r.names (node_faults r.names r.sheet n) j (length lent) ∙ ap (λ (u : Option NodeFault). text_in r.names u (length lent)) (sym f)) in
       rw s g
 
--- of node k among the nodes of a sheet, which stands there as clocks before it are formed
-pub text-among : (M : ℕ) (ts : List TagValue) (r : Input) (k count before at q : ℕ) → k < count → before ≡ k → times count (node M) ts at ≡ got r.sheet.nodes q
-    → (d : Result ℕ Refusal) → ((ns : List Node) (p : ℕ) → times before (node M) ts at ≡ got ns p → Deeply p d (clockings 0 ns)) → (p : ℕ) → d ≡ Ok p
-    → (j : ℕ) (lent after : List ℕ) (y : Result ℕ Refusal)
-    → ((n : Node) (m : ℕ) (ns : List Node) → node M ts p ≡ got n m → times (count - before - 1) (node M) ts m ≡ got ns q → ListingGiven (text_from r (first_from k (n ∷ ns)) j (length lent)) lent after y)
-    → ListingGiven (text_of r k j (length lent)) lent after y
-text-among M ts r k count before at q few e g d D p f j lent after y h =
-    let x = asked-there M ts r k count before at q few e g d D p f in
-    same (node_at r k) (first_from k (x.0 ∷ x.2)) x.5 (h x.0 x.1 x.2 x.3 x.4)
-  where
-    same : (v w : Answer ClockedNode) → v ≡ w → ListingGiven (text_from r w j (length lent)) lent after y → ListingGiven (text_from r v j (length lent)) lent after y
-    same v w e g = rw e g
+-- of the node that is asked for
+pub text-as : (r : Input) (v w : Answer ClockedNode) → v ≡ w → (j : ℕ) (lent after : List ℕ) (y : Result ℕ Refusal) → ListingGiven (text_from r w j (length lent)) lent after y → ListingGiven (text_from r v j (length lent)) lent after y
+text-as r v w e j lent after y g = rw e g
 
 -- of node k, which is n, before other nodes
 module _ (r : Input) (k j : ℕ) (lent : List ℕ) (n : Node) (ns : List Node) (b : Bool) (e : b ≡ is_deep (clocking n)) where
@@ -119,6 +107,11 @@ module _ (names : List Letters) (letters : ℕ → Letters) (e : letters ≡ let
   text-given f r g =
       let said : text_in names (found_of (Some f)) (length lent) ≡ lent_text (fault_text letters (fault_of f.fault)) (length lent) = rw e in
       rw said (given (fault_text letters (fault_of f.fault)) lent after r g)
+
+  -- what is refused where there is none
+  pub text-missing : (o : rust.Option value.Found) (x : Refusal) (r : Result ℕ Refusal) → o ≡ None → ◌≡◌ {A = Result value.Found Refusal} (Err x) (ok_or o Refusal.Missing) → r ≡ Err x → ListingGiven (text_in names (found_of o) (length lent)) lent lent r
+  text-missing None x r h v g = let y : x ≡ Refusal.Missing = cc in rw (g, y) text-none
+  text-missing (Some f) x r h v g = let z : ◌≡◌ {A = ℕ} 0 1 = cc in absurd (omega arith)
 
 -- ---- room to plan, by the source that the index has
 pub room-of : {s s' : Source} {w : Working} → s' ≡ s → RoomToPlan s.names (length s.tags.now) w → RoomToPlan s'.names (length s'.tags.now) w

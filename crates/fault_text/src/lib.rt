@@ -2,32 +2,30 @@
 // names, `source` its tokens.
 #![tactic(auto)]
 
-ghost use Rattle.grammar.specs.Read.{tokens_of};
-ghost use Rattle.std.specs.Prelude.{◌≡◌, List, ◌∷◌, ℕ, ◌≤◌, ◌+◌, ◌<◌, length};
+ghost use Rattle.std.specs.Prelude.{◌≡◌, List, ◌≤◌, ◌+◌, ◌<◌, length};
 ghost use Rattle.definitions.specs.Lists.{Letters};
 ghost use Rattle.definitions.specs.Bytes.{cut};
-ghost use Rattle.definitions.specs.Tree.{Node};
-ghost use Rattle.definitions.specs.Reading.{got, times};
 ghost use Rattle.definitions.specs.Output.{letters_of};
 ghost use Rattle.definitions.specs.Answer.{Input};
 ghost use Rattle.spelling.specs.Places.{letters_in};
 ghost use Rattle.query.specs.Listed.{TextStands};
-ghost use Rattle.query.specs.Standing.{Standing, first_from};
+ghost use Rattle.query.specs.Standing.{Standing};
 ghost use Rattle.findings.specs.Value.{found_of};
 ghost use Rattle.workspace.specs.Room.{SameRoom, RoomToPlan};
 ghost use Rattle.first_faults.specs.Faults.{NodeMet};
 ghost use Rattle.listings.specs.Answers.{ListingGiven};
-ghost use Rattle.fault_text.specs.Texts.{text_in, text_from, text_of};
+ghost use Rattle.fault_text.specs.Texts.{text_in, text_of};
 ghost use Rattle.spelling.specs.Written.{Wrote};
 ghost use Rattle.index.specs.Indexed.{Indexed};
 ghost use Rattle.fault_text.specs.Lines.{fault_lines_of, lines_text, line_of, LinesStand};
-ghost use Rattle.definitions.specs.Grammar as grammar;
 
 use definitions::{MOST_NAMES, Refusal};
 use findings::Found;
 use grammar::Source;
 use index::Index;
+use lines::NamedText;
 use planned::HeldOperand;
+use query::FoundNode;
 use spelling::{SheetNames, TextWriter};
 use workspace::Working;
 
@@ -37,37 +35,11 @@ use workspace::Working;
 fn text_found(out: &mut [u8], names: SheetNames<'_>, fault: Option<Found>) -> Result<usize, Refusal>
     ensures { (all : List Letters) → letters_in names.entry.spelling ≡ letters_of all → ListingGiven (text_in all (found_of fault) (length out.old)) out.old out.new result }
 {
-    let Some(found) = fault else {
-        return Err(Refusal::Missing);
-    };
+    let found = fault.ok_or(Refusal::Missing)?;
     lines::text_into(out, names.spelling, found.fault)
 }
 
-// The text of fault j of node k, which stands there; or refusal 9 at the first of it and so many nodes behind it.
-fn text_before(
-    out: &mut [u8],
-    names: SheetNames<'_>,
-    index: &Index<'_>,
-    k: usize,
-    j: usize,
-    at: usize,
-    behind: u32,
-    working: &mut Working<'_>,
-) -> Result<usize, Refusal>
-    requires { k < 4294967295 }
-    ensures same_room { SameRoom working.old working.new }
-    ensures given { (i : Input) (n : Node) (p : ℕ) (ns : List Node) (q : ℕ) → Indexed index.now i → letters_in names.entry.spelling ≡ letters_of i.names → grammar.node index.now.source.names (tokens_of index.now.source) at ≡ got n p → times behind (grammar.node index.now.source.names) (tokens_of index.now.source) p ≡ got ns q → RoomToPlan index.now.source.names (length index.now.source.tags.now) working.old → ListingGiven (text_from i (first_from k (n ∷ ns)) j (length out.old)) out.old out.new result }
-{
-    let source = &index.source;
-    let l = layout::node_at(source, at);
-    let mut holds = [HeldOperand { at: 0, row: 0 }; MOST_NAMES];
-    let fault = first_faults::fault_in(index, k, l, j, working, &mut holds)?;
-    query::deep_among(source, k as u32 + 1, behind, l.end, working)?;
-    text_found(out, names, fault)
-}
-
 // The text of fault j of node k, over the front of the lent bytes.
-// Stays (no plainer): it goes as `query::clock_at`, but plans node k where that clocks it: one walk for both would take this as a closure.
 pub fn text_in(
     out: &mut [u8],
     names: SheetNames<'_>,
@@ -81,14 +53,11 @@ pub fn text_in(
 {
     let index = index::index_of(source, names.condact());
     let nodes = index.whole.nodes;
-    let n = nodes.count;
-    if n as usize <= k {
-        return Err(Refusal::Missing);
-    }
-    let before = k as u32;
-    let at = query::deep_among(source, 0, before, nodes.at, working)?;
-    let behind = n - before - 1;
-    text_before(out, names, &index, k, j, at, behind, working)
+    let FoundNode { layout, behind } = query::find_node(&index.source, nodes, k, working)?;
+    let mut holds = [HeldOperand { at: 0, row: 0 }; MOST_NAMES];
+    let fault = first_faults::fault_in(&index, k, layout, j, working, &mut holds)?;
+    behind?;
+    text_found(out, names, fault)
 }
 
 // ---- The lines of all nodes' first faults.
@@ -117,8 +86,9 @@ fn put_found(text: &mut TextWriter<'_>, names: SheetNames<'_>, node: usize, faul
     ensures wrote { Wrote (line_of (letters_in names.entry.spelling) node (found_of fault)) text.old text.new }
 {
     if let Some(found) = fault {
+        let spelling = names.spelling;
         let equation = found.equation as usize;
-        lines::put_fault_line(text, names.spelling, node, equation, found.fault);
+        NamedText { text, spelling }.put_fault_line(node, equation, found.fault);
     }
 }
 

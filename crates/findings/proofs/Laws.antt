@@ -20,7 +20,7 @@ use Rattle.std.proofs.lemmas.Option.{slice_get-get_or, slice_get_within, get_or_
 use Rattle.definitions.specs.InferClocks.{NodeFault, Finding, found, site, too_deep, is_too_deep, clock_faults, sites}
 use Rattle.clock_tables.specs.Flat.{clock_in}
 use Rattle.clock_tables.proofs.FlatLaws.{Within, clock-same}
-use Rattle.clock_tables.specs.declared.Clock as clock
+use Rattle.clock_tables.specs.declared.clock.Clock as clock
 use Rattle.findings.specs.declared.ClockFault.{ClockFault}
 use Rattle.findings.specs.declared.Finding as value
 use Rattle.findings.specs.Value.{finding_of}

@@ -12,10 +12,10 @@ use Rattle.findings.specs.declared.Finding.{Finding}
 
 -- a clock fault
 abbrev pub clock_fault_of : ClockFault → rules.Fault
-clock_fault_of (ClockFault.LeftElsewhere x c d p) = left_elsewhere x (value_of c) (value_of d) p
-clock_fault_of (ClockFault.UsedElsewhere x c d) = used_elsewhere x (value_of c) (value_of d)
+clock_fault_of (ClockFault.LeftElsewhere e p) = left_elsewhere e.name (value_of e.on) (value_of e.expected) p
+clock_fault_of (ClockFault.UsedElsewhere e) = used_elsewhere e.name (value_of e.on) (value_of e.expected)
 clock_fault_of (ClockFault.WhenElsewhere k d) = when_elsewhere k (value_of d)
-clock_fault_of (ClockFault.ClockNameElsewhere x c d) = clock_name_elsewhere x (value_of c) (value_of d)
+clock_fault_of (ClockFault.ClockNameElsewhere e) = clock_name_elsewhere e.name (value_of e.on) (value_of e.expected)
 
 -- a fault
 abbrev pub fault_of : Fault → rules.Fault

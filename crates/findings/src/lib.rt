@@ -1,7 +1,7 @@
 // Faults by value, and what checking meets in a table.
 #![tactic(auto)]
 
-ghost use Rattle.std.specs.Prelude.{◌≡◌, ◌⊎◌, List, [], ◌∷◌, ◌++◌, ℕ, ◌+◌, ◌*◌, ◌≤◌, ◌<◌, length, get_or};
+ghost use Rattle.std.specs.Prelude.{◌≡◌, ◌⊎◌, [], ◌∷◌, ◌++◌, ℕ, ◌+◌, ◌*◌, ◌≤◌, ◌<◌, length, get_or};
 ghost use Rattle.std.proofs.Math.ListN.{get_elem?};
 ghost use Rattle.definitions.specs.InferClocks as rules;
 ghost use Rattle.definitions.specs.InferClocks.{fault_number, is_too_deep, clock_faults, sites};
@@ -18,33 +18,31 @@ use definitions::Condition;
 
 // ---- A fault by value: which of the nine it is, and what its text says.
 
+// A name, the clock that it is on, and the other that was expected.
+#[derive(Clone, Copy)]
+pub struct Elsewhere {
+    pub name: u32,
+    pub on: Clock,
+    pub expected: Clock,
+}
+
 // The first four, which clocks decide.
 #[derive(Clone, Copy)]
 pub enum ClockFault {
     // 1: a left name on another clock than its equation; whether it is an input or output.
     LeftElsewhere {
-        name: u32,
-        on: Clock,
-        expected: Clock,
+        elsewhere: Elsewhere,
         port: bool,
     },
     // 2: a name used on another clock than is expected.
-    UsedElsewhere {
-        name: u32,
-        on: Clock,
-        expected: Clock,
-    },
+    UsedElsewhere(Elsewhere),
     // 3: a when where another clock is expected.
     WhenElsewhere {
         condition: Condition,
         expected: Clock,
     },
     // 4: a clock name on another clock than it samples.
-    ClockNameElsewhere {
-        name: u32,
-        on: Clock,
-        expected: Clock,
-    },
+    ClockNameElsewhere(Elsewhere),
 }
 
 // The nine faults, in the order of their numbers.
@@ -76,9 +74,9 @@ pub fn fault_number(fault: Fault) -> u32
 {
     match fault {
         Fault::Clock(ClockFault::LeftElsewhere { .. }) => 1,
-        Fault::Clock(ClockFault::UsedElsewhere { .. }) => 2,
+        Fault::Clock(ClockFault::UsedElsewhere(_)) => 2,
         Fault::Clock(ClockFault::WhenElsewhere { .. }) => 3,
-        Fault::Clock(ClockFault::ClockNameElsewhere { .. }) => 4,
+        Fault::Clock(ClockFault::ClockNameElsewhere(_)) => 4,
         Fault::Undeclared(_) => 5,
         Fault::NoDefault(_) => 6,
         Fault::NoOutputDefault { .. } => 7,
@@ -106,89 +104,75 @@ const EXPECTED: usize = ON + clock_tables::WORDS;
 
 const ROW: usize = EXPECTED + clock_tables::WORDS;
 
-// The words and clocks of a row: its kind is 1 to 4 for a fault, 5 for a site, 6 for too deep a clock.
+// The kinds of a row behind those of clock faults, which are 1 to 4.
+const SITE: u32 = 5;
+
+const DEEP: u32 = 6;
+
+// The words and clocks of a row.
 // Stays (fixed memory): a table of findings is words that are lent, where a kind is a number, and any number is to be read as some finding.
 #[derive(Clone, Copy)]
 struct Row {
     kind: u32,
-    name: u32,
     flag: u32,
     equation: u32,
-    on: Clock,
-    expected: Clock,
+    elsewhere: Elsewhere,
 }
 
 // A row of this kind that says no more than a clock.
 fn clock_row(kind: u32, clock: Clock) -> Row
     ensures kind_value { result.kind ≡ kind }
-    ensures expected_value { value_of result.expected ≡ value_of clock }
+    ensures expected_value { value_of result.elsewhere.expected ≡ value_of clock }
 {
-    Row {
-        kind,
+    let elsewhere = Elsewhere {
         name: 0,
-        flag: 0,
-        equation: 0,
         on: clock,
         expected: clock,
+    };
+    Row {
+        kind,
+        flag: 0,
+        equation: 0,
+        elsewhere,
     }
 }
 
 // The row of a clock fault.
 fn fault_row(equation: u32, fault: ClockFault) -> Row
-    ensures { finding_as result.kind result.name result.flag result.equation (value_of result.on) (value_of result.expected) ≡ rules.found (record { equation = equation; fault = clock_fault_of fault }) }
+    ensures { finding_as result.kind result.elsewhere.name result.flag result.equation (value_of result.elsewhere.on) (value_of result.elsewhere.expected) ≡ rules.found (record { equation = equation; fault = clock_fault_of fault }) }
 {
-    match fault {
-        ClockFault::LeftElsewhere {
-            name,
-            on,
-            expected,
-            port,
-        } => Row {
-            kind: 1,
-            name,
-            flag: u32::from(port),
-            equation,
-            on,
-            expected,
-        },
-        ClockFault::UsedElsewhere { name, on, expected } => Row {
-            kind: 2,
-            name,
-            flag: 0,
-            equation,
-            on,
-            expected,
-        },
+    let (kind, flag, elsewhere) = match fault {
+        ClockFault::LeftElsewhere { elsewhere, port } => (1, u32::from(port), elsewhere),
+        ClockFault::UsedElsewhere(elsewhere) => (2, 0, elsewhere),
         ClockFault::WhenElsewhere {
             condition,
             expected,
-        } => Row {
-            kind: 3,
-            name: condition.name,
-            flag: clock_tables::word_of(condition.test),
-            equation,
-            on: expected,
-            expected,
-        },
-        ClockFault::ClockNameElsewhere { name, on, expected } => Row {
-            kind: 4,
-            name,
-            flag: 0,
-            equation,
-            on,
-            expected,
-        },
+        } => {
+            let elsewhere = Elsewhere {
+                name: condition.name,
+                on: expected,
+                expected,
+            };
+            (3, clock_tables::word_of(condition.test), elsewhere)
+        }
+        ClockFault::ClockNameElsewhere(elsewhere) => (4, 0, elsewhere),
+    };
+    Row {
+        kind,
+        flag,
+        equation,
+        elsewhere,
     }
 }
 
 impl From<Finding> for Row {
     fn from(finding: Finding) -> Row
-        ensures { finding_as result.kind result.name result.flag result.equation (value_of result.on) (value_of result.expected) ≡ finding_of finding }
+        ensures { finding_as result.kind result.elsewhere.name result.flag result.equation (value_of result.elsewhere.on) (value_of result.elsewhere.expected) ≡ finding_of finding }
     {
         match finding {
             Finding::Fault { equation, fault } => fault_row(equation, fault),
-            Finding::Site(clock) => clock_row(5, clock),
-            Finding::Deep => clock_row(6, Clock::base()),
+            Finding::Site(clock) => clock_row(SITE, clock),
+            Finding::Deep => clock_row(DEEP, Clock::base()),
         }
     }
 }
@@ -197,87 +181,71 @@ impl From<Finding> for Row {
 fn store_row(t: &mut [u32], b: usize, row: Row)
     requires { b + 38 ≤ length t.old }
     ensures t_len_unchanged { length t.new ≡ length t.old }
-    ensures b_after { finding_in t.new b ≡ finding_as row.kind row.name row.flag row.equation (value_of row.on) (value_of row.expected) }
+    ensures b_after { finding_in t.new b ≡ finding_as row.kind row.elsewhere.name row.flag row.equation (value_of row.elsewhere.on) (value_of row.elsewhere.expected) }
     ensures by_index { (i : ℕ) → (i < b) ⊎ (b + 38 ≤ i) → get_or t.new i 0 ≡ get_or t.old i 0 }
 {
     t[b] = row.kind;
-    t[b + 1] = row.name;
+    t[b + 1] = row.elsewhere.name;
     t[b + 2] = row.flag;
     t[b + 3] = row.equation;
-    clock_tables::store(t, b + ON, row.on);
-    clock_tables::store(t, b + EXPECTED, row.expected);
+    clock_tables::store(t, b + ON, row.elsewhere.on);
+    clock_tables::store(t, b + EXPECTED, row.elsewhere.expected);
 }
 
 // Word j of row i.
 fn word_at(t: &[u32], i: usize, j: usize) -> u32
-    requires { j < 38 }
     ensures { result ≡ get_or t.now (38 * i + j) 0 }
 {
-    if t.len() / ROW < i {
-        return 0;
-    }
-    let b = ROW * i;
-    clock_tables::word_at(t, b + j)
+    clock_tables::word_at(t, ROW.saturating_mul(i).saturating_add(j))
 }
 
 // The clock from word j of row i on.
 fn clock_at(t: &[u32], i: usize, j: usize) -> Clock
-    requires { j < 38 }
     ensures { value_of result ≡ clock_in t.now (38 * i + j) }
 {
-    if t.len() / ROW < i {
-        return Clock::base();
-    }
-    let b = ROW * i;
-    clock_tables::load(t, b + j)
+    clock_tables::load(t, ROW.saturating_mul(i).saturating_add(j))
 }
 
 // The fault of a row that has one.
 fn fault_of(row: Row) -> ClockFault
-    ensures { clock_fault_of result ≡ fault_as row.kind row.name row.flag (value_of row.on) (value_of row.expected) }
+    ensures { clock_fault_of result ≡ fault_as row.kind row.elsewhere.name row.flag (value_of row.elsewhere.on) (value_of row.elsewhere.expected) }
 {
-    let Row {
-        kind,
-        name,
-        flag,
-        equation: _,
-        on,
-        expected,
-    } = row;
-    match kind {
+    let elsewhere = row.elsewhere;
+    match row.kind {
         1 => {
-            let port = flag == 1;
-            ClockFault::LeftElsewhere {
-                name,
-                on,
-                expected,
-                port,
-            }
+            let port = row.flag == 1;
+            ClockFault::LeftElsewhere { elsewhere, port }
         }
-        2 => ClockFault::UsedElsewhere { name, on, expected },
+        2 => ClockFault::UsedElsewhere(elsewhere),
         3 => {
-            let test = clock_tables::test_of(flag);
-            let condition = Condition { name, test };
+            let test = clock_tables::test_of(row.flag);
+            let condition = Condition {
+                name: elsewhere.name,
+                test,
+            };
             ClockFault::WhenElsewhere {
                 condition,
-                expected,
+                expected: elsewhere.expected,
             }
         }
-        _ => ClockFault::ClockNameElsewhere { name, on, expected },
+        _ => ClockFault::ClockNameElsewhere(elsewhere),
     }
 }
 
 // Row i.
 fn row_in(table: &[u32], i: usize) -> Row
-    ensures { record { equation = result.equation; fault = fault_as result.kind result.name result.flag (value_of result.on) (value_of result.expected) } ≡ fault_in table.now (38 * i) }
+    ensures { record { equation = result.equation; fault = fault_as result.kind result.elsewhere.name result.flag (value_of result.elsewhere.on) (value_of result.elsewhere.expected) } ≡ fault_in table.now (38 * i) }
 {
-    Row {
-        kind: word_at(table, i, 0),
+    let elsewhere = Elsewhere {
         name: word_at(table, i, 1),
-        flag: word_at(table, i, 2),
-        equation: word_at(table, i, 3),
         on: clock_at(table, i, ON),
         expected: clock_at(table, i, EXPECTED),
+    };
+    Row {
+        kind: word_at(table, i, 0),
+        flag: word_at(table, i, 2),
+        equation: word_at(table, i, 3),
+        elsewhere,
     }
 }
 
@@ -286,10 +254,10 @@ fn finding_in(table: &[u32], i: usize) -> Finding
     ensures { finding_of result ≡ finding_in table.now (38 * i) }
 {
     let kind = word_at(table, i, 0);
-    if kind == 5 {
+    if kind == SITE {
         return Finding::Site(clock_at(table, i, EXPECTED));
     }
-    if kind > 5 {
+    if DEEP <= kind {
         return Finding::Deep;
     }
     let row = row_in(table, i);
@@ -303,14 +271,14 @@ fn finding_in(table: &[u32], i: usize) -> Finding
 fn is_deep(table: &[u32], i: usize) -> bool
     ensures { result ≡ is_too_deep (finding_in table.now (38 * i)) }
 {
-    word_at(table, i, 0) > 5
+    DEEP <= word_at(table, i, 0)
 }
 
 // Is the finding in row i a fault? Its first word says so.
 fn is_fault(table: &[u32], i: usize) -> bool
     ensures { result ≡ is_fault (finding_in table.now (38 * i)) }
 {
-    word_at(table, i, 0) < 5
+    word_at(table, i, 0) < SITE
 }
 
 // Findings in lent words, and how many; a count one past the rows says that there were more findings than rows.
@@ -322,6 +290,7 @@ pub struct FindingList<'a> {
 }
 
 // The same to build.
+// Stays (no plainer): beside `ClockTable`: one table for both would ask for a trait of rows, with laws, and save `list` and `push` alone.
 #[derive(Drop)]
 pub struct Findings<'a> {
     pub words: &'a mut [u32],

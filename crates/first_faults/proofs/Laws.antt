@@ -22,22 +22,22 @@ use Rattle.layout.specs.Laid.{LaidNode}
 use Rattle.lines.proofs.Laws.{clocked-many}
 use Rattle.findings.specs.Value.{node_fault_of, found_of}
 use Rattle.findings.specs.Findings.{findings_in}
-use Rattle.infer_clocks.specs.declared.NodeClocked.{NodeClocked}
-use Rattle.clock_tables.specs.declared.TooDeep.{TooDeep}
-use Rattle.infer_clocks.specs.Clocked.{is_deep, ClocksStand, ClockedOrDeep, SitesTold}
+use Rattle.infer_clocks.specs.Clocked.{is_deep, SitesTold}
+use Rattle.lines.specs.declared.ToldNode.{ToldNode}
+use Rattle.query.specs.Standing.{ClockedAs}
 use Rattle.checking.proofs.Only.{sites-alone}
 use Rattle.skeleton.specs.Sites.{EquationsSited}
 use Rattle.stateless.specs.Sheets.{one_of, faults_by}
-use Rattle.stateless.proofs.Nodes.{clockings-form, node-here, node-checks, same-clocking, not-too-deep, clocked, node-faults, rewriting-faulty}
+use Rattle.stateless.proofs.Nodes.{clockings-form, node-here, node-checks, same-clocking, clocked, node-faults, rewriting-faulty}
 use Rattle.stateless.proofs.Stops as stops
 use Rattle.index.specs.declared.Index.{Index}
 use Rattle.index.specs.Indexed.{Indexed}
 use Rattle.stateless.specs.declared.Counts.{Counts}
 use Rattle.planned.specs.declared.HeldOperand.{HeldOperand}
 use Rattle.node_plan.specs.Outcomes.{met_by, PlansNode}
-use Rattle.std.specs.Prelude.{Result, Ok, Err, IfOk, IfErr}
+use Rattle.std.specs.Prelude.{Result, Ok, Err, IfErr}
 use Rattle.std.specs.Prelude as code
-use Rattle.std.specs.Result.{result_err, is_ok, is_err, MatchResult}
+use Rattle.std.specs.Result.{result_err, is_err}
 use Rattle.definitions.specs.declared.Refusal.{Refusal}
 use Rattle.findings.specs.declared.Found.{Found}
 use Rattle.workspace.specs.declared.Working.{Working}
@@ -73,33 +73,24 @@ by_first (some f) = refl
 pub none-unclocked : (r : Input) (n : Node) (k : Clocking) (j : ℕ) (found : Option NodeFault) → uses_clocks n ≡ false → clocking n ≡ formed k → found ≡ none → found ≡ get_elem? (node_faults r.names r.sheet (record { node = n; clocking = k })) j
 none-unclocked r n k j found u f e = e ∙ sym (ap (λ (x : List NodeFault). get_elem? x j) (no-node-faults r.names r.sheet (record { node = n; clocking = k }) u f))
 
--- ---- a node whose clocks are formed, by what inference tells
-module _ (env tb : List ℕ) (M : ℕ) (n : Node) (k : Clocking) (a : Result NodeClocked TooDeep) (f : clocking n ≡ formed k) (C : ClockedOrDeep env tb M a (clocking n)) where
-  pub none_deep : (d : TooDeep) → a ≡ Err d → ⊥
-  unfolding ClockedOrDeep
-  none_deep d e = let c : ClockedOrDeep env tb M (Err d) (clocking n) = rw e at C in not-too-deep n k f c
+-- ---- a node clocked
+module _ (M : ℕ) (gs vs t sites : List ℕ) (j : ℕ) (n : Node) where
+  pub deep-as : (r : Refusal) → ClockedAs M gs vs t sites j n (Err r) → true ≡ is_deep (clocking n)
+  unfolding ClockedAs
+  deep-as r h = sym (ap is_deep h.0)
 
-  pub tells : (t : NodeClocked) → a ≡ Ok t → ClocksStand env tb M t.passes t.findings k
-  unfolding ClockedOrDeep
-  tells t e =
-      let c : ClockedOrDeep env tb M (Ok t) (clocking n) = rw e at C in
-      subst (λ (x : Clocking). ClocksStand env tb M t.passes t.findings x) (same-clocking n c.0 k c.1 f) c.2
+  module _ (told : ToldNode) (h : ClockedAs M gs vs t sites j n (Ok told)) where
+    pub formed-as : false ≡ is_deep (clocking n)
+    unfolding ClockedAs
+    formed-as = sym (ap is_deep h.1)
+
+    pub all-told : (k : Clocking) → clocking n ≡ formed k → findings_in t told.clocked.findings ≡ k.findings
+    unfolding ClockedAs
+    all-told k f = subst (λ (x : Clocking). findings_in t told.clocked.findings ≡ x.findings) (same-clocking n h.0 k h.1 f) h.2.tells.all
 
 -- where too deep a clock is formed, a node has none
 pub deep-unformed : (n : Node) (k : Clocking) → true ≡ is_deep (clocking n) → clocking n ≡ formed k → ⊥
 deep-unformed n k e f = true≢false (e ∙ ap is_deep f)
-
--- an error that another stands for
-pub err-same : {A D E : Type 0} (a : Result A D) (b : Result A E) → is_ok b ≡ is_ok a → is_err b ≡ is_err a
-err-same (Ok x) (Ok y) e = refl
-err-same (Ok x) (Err y) e = absurd (true≢false (sym e))
-err-same (Err d) (Ok y) e = absurd (true≢false e)
-err-same (Err d) (Err y) e = refl
-
-pub ok-same : {A D E : Type 0} (P : A → Type 0) (Q : D → Type 0) (a : Result A D) (b : Result A E) → is_ok b ≡ is_ok a → MatchResult a (λ x. b ≡ Ok x) Q → ((x : A) → a ≡ Ok x → P x) → IfOk b P
-ok-same P Q (Ok x) b e m h = subst (λ s. IfOk s P) (sym m) (h x refl)
-ok-same P Q (Err d) (Ok y) e m h = absurd (true≢false e)
-ok-same P Q (Err d) (Err y) e m h = tt
 
 -- by the id of `condact` that the index has
 pub by-condact : (M : ℕ) (gs vs plan flags firsts : List ℕ) (holds : List HeldOperand) (types : List ℕ) (tys : List TypeDef) (ns : List Node) (n : Node) (g h : ℕ) (cs : List Clocked) (p q : ℕ) (o : Result Counts Found) → g ≡ h

@@ -1,13 +1,13 @@
 -- Fault records put over the front of a lent list, one after another, node after node.
 -- Assumes nothing.
 use Prim.Native.Nat.{ℕ, zero, suc, ◌+◌, ◌≤◌, ◌<◌, min}
-use mathlib.Core.Path.{◌≡◌, refl, sym, ap, ap₂, ◌∙◌, subst}
+use mathlib.Core.Path.{◌≡◌, refl, sym, ap, ◌∙◌, subst}
 use mathlib.Core.List.{List, [], ◌∷◌, ◌++◌, append-nil}
 use mathlib.Core.Bool.{Bool, true, false}
 use mathlib.Core.Option.{Option, none, some, none-ne-some, some-injective}
 use native.Mathlib.Omega.{arith}
 use native.Mathlib.Numerals.{add-one}
-use lib.ListN.{length, take, drop, set, get_elem?, length-append, drop_of_length-le}
+use lib.ListN.{length, take, drop, get_elem?, length-append, drop_of_length-le}
 use Rattle.definitions.specs.declared.Refusal.{Refusal}
 use Rattle.definitions.specs.declared.FaultRecord.{FaultRecord}
 use Rattle.definitions.specs.Lists.{over}
@@ -15,11 +15,15 @@ use Rattle.definitions.specs.Tree.{Node}
 use Rattle.definitions.specs.Refusals.{accepted, refused}
 use Rattle.definitions.specs.InferClocks.{NodeFault, fault_number, clocking}
 use Rattle.definitions.specs.Output.{ClockedNode, node_faults}
-use Rattle.definitions.specs.Answer.{Input, clockings, first_of}
+use Rattle.definitions.specs.Answer.{Input, clockings, fault_record, first_of}
 use Rattle.infer_clocks.specs.Clocked.{is_deep}
 use Rattle.infer_clocks.proofs.Laws.{Ahead, ahead-end, ahead_step, ahead-deep}
 use Rattle.stateless.specs.Sheets.{first_faults_from}
 use Rattle.stateless.proofs.Nodes.{clockings-form, node-here, all-before, faults-end, faults-front}
+use Rattle.spelling.specs.Writing.{last_place}
+use Rattle.query.specs.Faults.{Pushed}
+use Rattle.query.specs.declared.fault_list.FaultList.{FaultList}
+use Rattle.query.proofs.Entries.{set-behind}
 use Rattle.first_faults.specs.Faults.{fault_in, Recorded}
 
 -- ---- records over a list
@@ -27,20 +31,6 @@ over-long : (l lent : List FaultRecord) → length (over l lent) ≡ length lent
 over-long [] lent = refl
 over-long (f ∷ l) [] = refl
 over-long (f ∷ l) (g ∷ lent) = ap suc (over-long l lent)
-
--- one more, where there is no room
-over_past : (l lent : List FaultRecord) (a : FaultRecord) → length lent ≤ length l → over l lent ≡ over (l ++ (a ∷ [])) lent
-over_past [] [] a h = refl
-over_past [] (g ∷ lent) a h = absurd (omega arith)
-over_past (f ∷ l) [] a h = refl
-over_past (f ∷ l) (g ∷ lent) a h = ap (λ (r : List FaultRecord). f ∷ r) (over_past l lent a (omega arith))
-
--- one more, where there is
-over-more : (l lent : List FaultRecord) (a : FaultRecord) → length l < length lent → set (over l lent) (length l) a ≡ over (l ++ (a ∷ [])) lent
-over-more [] [] a h = absurd (omega arith)
-over-more [] (g ∷ lent) a h = refl
-over-more (f ∷ l) [] a h = absurd (omega arith)
-over-more (f ∷ l) (g ∷ lent) a h = ap (λ (r : List FaultRecord). f ∷ r) (over-more l lent a (omega arith))
 
 -- ---- the first of a node's faults behind others
 module _ (lent l : List FaultRecord) (m : ℕ) (now : List FaultRecord) (h : Recorded lent l m now) (node : ℕ) where
@@ -61,28 +51,15 @@ module _ (lent l : List FaultRecord) (m : ℕ) (now : List FaultRecord) (h : Rec
   one_more : (a : FaultRecord) → first_of node fs ≡ a ∷ [] → m + 1 ≡ length (l ++ first_of node fs)
   one_more a x = omega (arith, h.counted, length-append l (first_of node fs), ap length x)
 
-  long : length now ≡ length lent
-  long = ap length h.written ∙ over-long l lent
-
-  -- the list does not reach so far
-  pub record-past : length now ≤ m → Recorded lent (l ++ first_of node fs) (m + 1) now
-  record-past past =
-      let a : FaultRecord = record { node = node; fault = fault_number f.fault; equation = f.equation } in
-      let x = first-is in
-      record { counted = one_more a x; written = h.written ∙ (over_past l lent a (omega (arith, past, h.counted, long)) ∙ ap (λ (y : List FaultRecord). over (l ++ y) lent) (sym x)) }
-
-  -- it does
-  pub record-more : m < length now → (number : ℕ) → number ≡ fault_number f.fault → Recorded lent (l ++ first_of node fs) (m + 1) (set now m (record { node = node; fault = number; equation = f.equation }))
-  record-more room number g =
-      let a : FaultRecord = record { node = node; fault = fault_number f.fault; equation = f.equation } in
-      let x = first-is in
-      record {
-        counted = one_more a x;
-        written =
-            ap (λ (n : ℕ). set now m (record { node = node; fault = n; equation = f.equation })) g
-            ∙ (ap₂ (λ (i : ℕ) (s : List FaultRecord). set s i a) h.counted h.written
-            ∙ (over-more l lent a (omega (arith, room, h.counted, long)) ∙ ap (λ (y : List FaultRecord). over (l ++ y) lent) (sym x)));
-      }
+-- the record of a list that a first fault was put in
+pub record-pushed : (lent l : List FaultRecord) (a b : FaultList) → Recorded lent l a.count a.records.now → (node : ℕ) (fs : List NodeFault) (f : NodeFault) → some f ≡ get_elem? fs 0 → a.count < last_place → Pushed (fault_record node f) a b → Recorded lent (l ++ first_of node fs) b.count b.records.now
+record-pushed lent l a b h node fs f told few p =
+    let x = first-is lent l a.count a.records.now h node fs f told in
+    let n : b.count ≡ a.count + 1 = omega (arith, p.next, few) in
+    record {
+      counted = n ∙ one_more lent l a.count a.records.now h node fs f told (fault_record node f) x;
+      written = p.put ∙ (set-behind l (fault_record node f) lent a.count a.records.now h.counted h.written ∙ ap (λ (y : List FaultRecord). over (l ++ y) lent) (sym x));
+    }
 
 -- ---- records that were put in one list, copied over the front of another
 copied-front : (l first lent : List FaultRecord) (n : ℕ) → n ≡ min (length l) (length lent) → length l ≤ length first → take n (over l first) ++ drop n lent ≡ over l lent

@@ -1,5 +1,5 @@
 -- The faults of a sheet's nodes, and the list that first faults are put in.
-use Rattle.std.specs.Prelude.{ℕ, ◌≡◌, List, [], length, Bool, true, false, Result, Ok, Err, IfErr}
+use Rattle.std.specs.Prelude.{ℕ, ◌≡◌, List, [], length, Result, Ok, Err, IfErr}
 use Rattle.std.specs.Prelude as code
 use Rattle.std.specs.Result.{is_err}
 use Rattle.std.proofs.Math.Option.{Option, none, some}
@@ -53,8 +53,8 @@ RoomIn t w = RoomToPlan t.source.names (length t.source.tags.now) w
 abbrev pub SitesIn : Index → Working → Clocking → NodeLayout → Type 0
 SitesIn t w k l = SitesTold t.source.names t.source.tags.now t.source.values.now w.sites.now k.findings k.equations l.equations.at l.equations.end
 
--- the node n of the sheet r, which has this layout in its index: its first fault was found; or it has none, and it is planned in the working
--- tables, where every site has its clock
+-- the node n of the sheet r, which has this layout in its index: its first fault was found; or it has none, and it is planned in the
+-- working tables, where every site has its clock
 pub record FoundIn (t : Index) (w : Working) (holds : List HeldOperand) (r : Input) (n : ClockedNode) (l : NodeLayout) (a : Result Counts Found) : Type 0 where
   pub fault : met_by a ≡ get_elem? (node_faults r.names r.sheet n) 0
   pub sited : node_faults r.names r.sheet n ≡ [] → SitedAt t w.sites.now n.clocking.equations l

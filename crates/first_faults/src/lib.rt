@@ -8,27 +8,30 @@ ghost use Rattle.std.specs.Result.{is_err};
 ghost use Rattle.std.proofs.Math.ListN.{get_elem?};
 ghost use Rattle.definitions.specs.declared.FaultRecord.{FaultRecord};
 ghost use Rattle.definitions.specs.Tree.{Node};
-ghost use Rattle.definitions.specs.InferClocks.{NodeFault, Clocked, Clocking, formed, clocking, clock_faults, uses_clocks};
+ghost use Rattle.definitions.specs.InferClocks.{NodeFault, Clocked, Clocking, formed, clocking, uses_clocks};
 ghost use Rattle.definitions.specs.Output.{condact_id, node_faults};
 ghost use Rattle.definitions.specs.Answer.{Input, first_of};
 ghost use Rattle.findings.specs.Value.{found_of};
+ghost use Rattle.spelling.specs.Writing.{last_place};
 ghost use Rattle.findings.specs.Findings.{findings_in};
-ghost use Rattle.infer_clocks.specs.Clocked.{is_deep, ClocksStand};
+ghost use Rattle.infer_clocks.specs.Clocked.{is_deep};
 ghost use Rattle.index.specs.Indexed.{Indexed};
 ghost use Rattle.node_plan.specs.Outcomes.{PlansNode};
 ghost use Rattle.workspace.specs.Room.{SameRoom};
 ghost use Rattle.first_faults.specs.Faults.{fault_found, LaidIn, SitedAt, RoomIn, SitesIn, FoundIn, Recorded};
 
-use definitions::{FaultRecord, MOST_NAMES, Refusal};
+use definitions::{FaultRecord, Refusal};
 use findings::{FindingList, Found};
 use index::Index;
-use infer_clocks::NodeClocked;
 use layout::NodeLayout;
+use lines::ToldNode;
 use planned::HeldOperand;
+use query::FaultList;
 use stateless::Counts;
 use workspace::Working;
 
 // A node with this layout, whose sites have their clocks, planned among the nodes and types of its sheet.
+// Stays (no plainer): tables singly, as `plan_laid` takes them: `holds` is not `Working`'s, nor are two that some nodes are lent.
 pub fn plan_of(
     index: &Index<'_>,
     l: NodeLayout,
@@ -45,31 +48,29 @@ pub fn plan_of(
     node_plan::plan_laid(index, &parts, sites, types, plan, flags, firsts, holds, l)
 }
 
-// Clock fault j of a node, by so many findings.
-fn clock_fault(table: &[u32], count: usize, j: usize) -> Option<Found>
-    ensures { found_of result ≡ get_elem? (clock_faults (findings_in table.now count)) j }
+// What was found in a node that was clocked in these tables.
+fn findings_of<'a>(told: &ToldNode, working: &'a Working<'_>) -> FindingList<'a>
+    ensures words_value { result.words.now ≡ working.now.table.now }
+    ensures count_value { result.count ≡ told.now.clocked.findings }
 {
-    let findings = FindingList {
-        words: table,
-        count,
-    };
-    findings.nth_fault(j)
+    FindingList {
+        words: working.table,
+        count: told.clocked.findings,
+    }
 }
 
-// A node with this layout that uses clocks, whose clocks are inferred and which has so many findings: its first clock fault, else the first
-// that planning meets, else its plan.
-// Stays (no plainer): `holds` beside `working`, here and below: clock queries and listings are lent `working` too, and make no holds.
+// A node that uses clocks and was clocked: its first clock fault, else the first that planning meets, else its plan.
+// Stays (no plainer): `holds` beside `working`, here and below: a node is found and clocked with `working` alone, and has no holds then.
 fn plan_clocked(
     index: &Index<'_>,
-    l: NodeLayout,
-    count: usize,
+    told: &ToldNode,
     working: &mut Working<'_>,
     holds: &mut [HeldOperand],
 ) -> Result<Counts, Found>
     ensures same_room { SameRoom working.old working.new }
-    ensures found_in { (i : Input) (node : Node) (q : ℕ) (k : Clocking) (clocks : List ℕ) (passes : ℕ) → Indexed index.now i → LaidIn index.now l node q → uses_clocks node ≡ true → clocking node ≡ formed k → ClocksStand clocks working.old.table.now index.now.source.names passes count k → SitesIn index.now working.old k l → RoomIn index.now working.old → FoundIn index.now working.new holds.new i (record { node = node; clocking = k }) l result }
+    ensures found_in { (i : Input) (node : Node) (q : ℕ) (k : Clocking) → Indexed index.now i → LaidIn index.now told.now.layout node q → uses_clocks node ≡ true → clocking node ≡ formed k → findings_in working.old.table.now told.now.clocked.findings ≡ k.findings → SitesIn index.now working.old k told.now.layout → RoomIn index.now working.old → FoundIn index.now working.new holds.new i (record { node = node; clocking = k }) told.now.layout result }
 {
-    if let Some(found) = clock_fault(working.table, count, 0) {
+    if let Some(found) = findings_of(told, working).nth_fault(0) {
         return Err(found);
     }
     let table = &mut *working.table;
@@ -77,49 +78,24 @@ fn plan_clocked(
     let types = &mut *working.rows;
     let plan = &mut *working.chain;
     let firsts = &mut *working.env;
-    plan_of(index, l, sites, types, plan, table, firsts, holds)
+    plan_of(index, told.layout, sites, types, plan, table, firsts, holds)
 }
 
 // Fault j of such a node: its clock faults, else the first that planning meets. It is planned where it has no clock fault and j is 0.
 fn fault_clocked(
     index: &Index<'_>,
-    l: NodeLayout,
-    count: usize,
+    told: &ToldNode,
     j: usize,
     working: &mut Working<'_>,
     holds: &mut [HeldOperand],
 ) -> Option<Found>
     ensures same_room { SameRoom working.old working.new }
-    ensures fault_value { (i : Input) (node : Node) (q : ℕ) (k : Clocking) (clocks : List ℕ) (passes : ℕ) → Indexed index.now i → LaidIn index.now l node q → uses_clocks node ≡ true → clocking node ≡ formed k → ClocksStand clocks working.old.table.now index.now.source.names passes count k → SitesIn index.now working.old k l → RoomIn index.now working.old → found_of result ≡ get_elem? (node_faults i.names i.sheet (record { node = node; clocking = k })) j }
+    ensures fault_value { (i : Input) (node : Node) (q : ℕ) (k : Clocking) → Indexed index.now i → LaidIn index.now told.now.layout node q → uses_clocks node ≡ true → clocking node ≡ formed k → findings_in working.old.table.now told.now.clocked.findings ≡ k.findings → SitesIn index.now working.old k told.now.layout → RoomIn index.now working.old → found_of result ≡ get_elem? (node_faults i.names i.sheet (record { node = node; clocking = k })) j }
 {
     if 0 < j {
-        return clock_fault(working.table, count, j);
+        return findings_of(told, working).nth_fault(j);
     }
-    plan_clocked(index, l, count, working, holds).err()
-}
-
-// Node k, which has this layout, clocked in the working tables; or refusal 9 at it.
-fn clock_node(
-    index: &Index<'_>,
-    k: usize,
-    l: NodeLayout,
-    working: &mut Working<'_>,
-) -> Result<NodeClocked, Refusal>
-    ensures same_room { SameRoom working.old working.new }
-    ensures refused_at { IfErr result (λ r. r ≡ Refusal.Deep k) }
-    ensures deep_value { (node : Node) (q : ℕ) → LaidIn index.now l node q → RoomIn index.now working.old → is_err result ≡ is_deep (clocking node) }
-    ensures stands { IfOk result (λ told. (node : Node) (q : ℕ) (k : Clocking) → LaidIn index.now l node q → clocking node ≡ formed k → RoomIn index.now working.old → ClocksStand working.new.env.now working.new.table.now index.now.source.names told.passes told.findings k × SitesIn index.now working.new k l) }
-{
-    let mut marks = [false; MOST_NAMES];
-    let clocked = infer_clocks::clock_laid(
-        &index.source,
-        l,
-        working.env,
-        &mut marks,
-        working.table,
-        working.sites,
-    );
-    clocked.map_err(|_| Refusal::Deep(k))
+    plan_clocked(index, told, working, holds).err()
 }
 
 // Node k, which has this layout and uses clocks: its first fault, else its plan; or refusal 9 at it.
@@ -135,8 +111,8 @@ pub fn laid_found(
     ensures deep_value { (node : Node) (q : ℕ) → LaidIn index.now l node q → RoomIn index.now working.old → is_err result ≡ is_deep (clocking node) }
     ensures found_in { IfOk result (λ a. (i : Input) (node : Node) (q : ℕ) (k : Clocking) → Indexed index.now i → LaidIn index.now l node q → uses_clocks node ≡ true → clocking node ≡ formed k → RoomIn index.now working.old → FoundIn index.now working.new holds.new i (record { node = node; clocking = k }) l a) }
 {
-    let told = clock_node(index, k, l, working)?;
-    Ok(plan_clocked(index, l, told.findings, working, holds))
+    let told = query::clock_laid(&index.source, l, k, working)?;
+    Ok(plan_clocked(index, &told, working, holds))
 }
 
 // Node k, which has this layout: its fault j; or refusal 9 at it. One that uses no clocks has none: they are not inferred.
@@ -153,38 +129,28 @@ pub fn fault_in(
     ensures deep_value { (node : Node) (q : ℕ) → LaidIn index.now l node q → RoomIn index.now working.old → is_err result ≡ is_deep (clocking node) }
     ensures fault_value { (i : Input) (node : Node) (q : ℕ) (k : Clocking) → Indexed index.now i → LaidIn index.now l node q → clocking node ≡ formed k → RoomIn index.now working.old → fault_found result ≡ get_elem? (node_faults i.names i.sheet (record { node = node; clocking = k })) j }
 {
-    let e = l.equations;
-    if !layout::equations_use_clocks(&index.source, e.count, e.at) {
+    if !l.uses_clocks(&index.source) {
         return Ok(None);
     }
-    let told = clock_node(index, k, l, working)?;
-    Ok(fault_clocked(index, l, told.findings, j, working, holds))
+    let told = query::clock_laid(&index.source, l, k, working)?;
+    Ok(fault_clocked(index, &told, j, working, holds))
 }
 
-// A node's first fault, if it has one, behind m others, as far as the list reaches: how many there are then.
-pub fn add_fault(list: &mut [FaultRecord], m: usize, node: u32, fault: Option<Found>) -> usize
-    requires { m < 4294967296 }
-    ensures upper_bound { result ≤ m + 1 }
-    ensures by_index { (lent l : List FaultRecord) (fs : List NodeFault) → Recorded lent l m list.old → found_of fault ≡ get_elem? fs 0 → Recorded lent (l ++ first_of node fs) result list.new }
+// A node's first fault, if it has one, behind the others of a list.
+pub fn add_first(list: &mut FaultList<'_>, node: u32, fault: Option<Found>)
+    ensures same_reference { list.new.records.ghost_name ≡ list.old.records.ghost_name }
+    ensures upper_bound { list.new.count ≤ list.old.count + 1 }
+    ensures by_index { (lent l : List FaultRecord) (fs : List NodeFault) → Recorded lent l list.old.count list.old.records.now → list.old.count < last_place → found_of fault ≡ get_elem? fs 0 → Recorded lent (l ++ first_of node fs) list.new.count list.new.records.now }
 {
-    let Some(found) = fault else {
-        return m;
-    };
-    if m < list.len() {
-        list[m] = FaultRecord {
-            node,
-            fault: findings::fault_number(found.fault),
-            equation: found.equation,
-        };
+    if let Some(found) = fault {
+        list.push(node, found);
     }
-    m + 1
 }
 
-// Records that were put elsewhere, over the front of a list, as far as it reaches.
-pub fn copy_records(kept: &[FaultRecord], m: usize, list: &mut [FaultRecord])
-    requires { m ≤ length kept.now }
-    ensures { (lent l : List FaultRecord) → Recorded lent l m kept.now → Recorded list.old l m list.new }
+// The records of a list that was kept, over the front of another, as far as both reach.
+pub fn copy_faults(kept: &FaultList<'_>, list: &mut [FaultRecord])
+    ensures { (lent l : List FaultRecord) → Recorded lent l kept.now.count kept.now.records.now → kept.now.count ≤ length kept.now.records.now → Recorded list.old l kept.now.count list.new }
 {
-    let n = m.min(list.len());
-    parts::copy_items(&mut list[..n], &kept[..n]);
+    let n = kept.count.min(kept.records.len()).min(list.len());
+    parts::copy_items(&mut list[..n], &kept.records[..n]);
 }

@@ -3,7 +3,7 @@
 
 ghost use Rattle.std.specs.Prelude.{◌≡◌, ℕ, ◌+◌, ◌≤◌, ◌<◌};
 ghost use Rattle.std.proofs.Math.Option.{some};
-ghost use Rattle.definitions.specs.Tokens.{primitive_of, type_token_of, definition_token_of, expr_token_of, literal_code, type_code, definition_code, expr_code, tag_of, value_of};
+ghost use Rattle.definitions.specs.Tokens.{type_token_of, definition_token_of, expr_token_of, literal_code, type_code, definition_code, expr_code, tag_of, value_of};
 ghost use Rattle.grammar.specs.Found.{option_of};
 ghost use Rattle.grammar.specs.Pair.{pair};
 
@@ -11,29 +11,6 @@ use crate::tags;
 use definitions::{
     BinOp, DefinitionToken, ExprToken, Literal, Primitive, Token, TypeToken, UnaryOp,
 };
-
-// "20 to 31 the types Bool to Char in the Rust's order": the type at a place of that order, Bool at 0.
-// Stays (no plainer): a `TryFrom` has the same twelve arms, and one more for what the range in `find_type` has ruled out.
-#[tactic(auto, unfolding(definitions::specs::Tokens::primitive_of))]
-fn primitive_at(place: u8) -> Primitive
-    requires { place ≤ 11 }
-    ensures { primitive_of (place + 20) ≡ some result }
-{
-    match place {
-        0 => Primitive::Bool,
-        1 => Primitive::Int8,
-        2 => Primitive::Int16,
-        3 => Primitive::Int32,
-        4 => Primitive::Int64,
-        5 => Primitive::Uint8,
-        6 => Primitive::Uint16,
-        7 => Primitive::Uint32,
-        8 => Primitive::Uint64,
-        9 => Primitive::Float32,
-        10 => Primitive::Float64,
-        _ => Primitive::Char,
-    }
-}
 
 // "10 enum(id), 11 record(id), 12 alias(id)": the token of a tag among these, its id in range.
 #[tactic(auto, unfolding(definitions::specs::Tokens::definition_token_of))]
@@ -66,7 +43,8 @@ pub(crate) fn find_type(names: u32, tag: u8, value: u32) -> Option<TypeToken>
 {
     match tag {
         tags::FIRST_TYPE..=tags::LAST_TYPE if value == 0 => {
-            Some(TypeToken::Basic(primitive_at(tag - tags::FIRST_TYPE)))
+            let primitive = Primitive::try_from(tag - tags::FIRST_TYPE).ok()?;
+            Some(TypeToken::Basic(primitive))
         }
         tags::ARRAY_TYPE => Some(TypeToken::Array(value)),
         tags::NAMED_TYPE => (value < names).then_some(TypeToken::Named(value)),

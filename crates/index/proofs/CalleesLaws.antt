@@ -2,6 +2,7 @@
 -- Assumes nothing.
 use Rattle.std.specs.Prelude.{Option, Some, None, Result, Ok, ◌==◌, position}
 use Rattle.std.specs.Option.{is_some}
+use Rattle.std.specs.Bool.{then_some}
 use mathlib.Core.Path.{◌≡◌, refl, sym, ◌∙◌, ap}
 use mathlib.Core.List.{List, [], ◌∷◌}
 use mathlib.Core.Bool.{Bool, true, false}
@@ -103,11 +104,16 @@ module _ (t : Index) (l : List Node) (s : NodesIn t l) where
           node-called f l i e h
           ∙ ap (λ (k : NodeKind). choose (is_operator_kind k) (some (get_or l i nowhere).outputs) none) (sym (ap (λ (q : ℕ). kind_in (get_or t.source.values.now q 0)) w ∙ (at_place i h).1))
 
-      pub other-named : operator_in (get_or t.source.values.now p 0) ≡ false → operator_outputs l f ≡ none
+      other-named : operator_in (get_or t.source.values.now p 0) ≡ false → operator_outputs l f ≡ none
       other-named j = rw j at outputs-are
 
       operator-named : operator_in (get_or t.source.values.now p 0) ≡ true → operator_outputs l f ≡ some (get_or l i nowhere).outputs
       operator-named j = rw j at outputs-are
+
+      -- the place is told where the kind says so
+      pub told-by : (says : Bool) (r : Option ℕ) → says ≡ operator_in (get_or t.source.values.now p 0) → r ≡ then_some says p → OperatorStands t f l r
+      told-by true r j k = rw k (i, h, e, w, sym j)
+      told-by false r j k = rw k (other-named (sym j))
 
   -- whether the name is an operator's, and what its outputs are
   pub operator-there : (f : ℕ) (r : Option ℕ) → OperatorStands t f l r → is_some r ≡ is_there (operator_outputs l f)

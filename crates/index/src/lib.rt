@@ -40,13 +40,13 @@ pub fn index_of<'a>(source: &Source<'a>, condact: u32) -> Index<'a>
     let whole = layout::sheet_at(source);
     let t = whole.types;
     let n = whole.nodes;
-    let types = layout::definition_places(source, MOST_TYPES.min(t.count as usize), t.at);
+    let types = layout::definition_places(source, t);
     let table = TypeTable {
         source: *source,
         places: &types,
     };
     let has = defaults::has_defaults(&table);
-    let nodes = layout::node_places(source, MOST_NODES.min(n.count as usize), n.at);
+    let nodes = layout::node_places(source, n);
     Index {
         source: *source,
         condact,
@@ -82,11 +82,7 @@ impl<'a> Index<'a> {
         let i = self.nodes.find(self.source.values, f)?;
         let second = layout::behind(self.source.tags, self.nodes.at[i]);
         let value = layout::value_at(self.source.values, second);
-        if says_operator(value) {
-            Some(second)
-        } else {
-            None
-        }
+        says_operator(value).then_some(second)
     }
 
     // Is the first node of this name an operator?

@@ -18,11 +18,11 @@ use Rattle.definitions.specs.Clock.{Clock, base, is_base, in_chain_order}
 use Rattle.std.specs.Prelude.{Result, Ok, Err, is_err}
 use Rattle.std.specs.Prelude as maybe
 use Rattle.std.specs.Option.{unwrap_or}
-use Rattle.clock_tables.specs.declared.Clock as struct
+use Rattle.clock_tables.specs.declared.clock.Clock as struct
 use Rattle.clock_tables.specs.declared.TooDeep.{TooDeep}
 use Rattle.clock_tables.specs.Value.{value_of, option_of, natural_of}
 use Rattle.definitions.specs.Refusals.{Answer, accepted, refused}
-use Rattle.definitions.specs.InferClocks.{Formed, deep, formed, ◌>>=◌, Natural, Clocks, Finding, found, site, too_deep, Inferred, Clocking, Clocked, is_too_deep, ports, natural, or_base, clocked_by, check_equation, inferred, clocking, sites, chains, samples, uses_clocks}
+use Rattle.definitions.specs.InferClocks.{Formed, deep, formed, ◌>>=◌, Natural, Clocks, Finding, found, site, too_deep, Inferred, Clocking, Clocked, is_too_deep, ports, natural, or_base, clocked_by, check_equation, inferred, clocking, sites, chains, uses_clocks}
 use Rattle.definitions.specs.Output.{ClockedNode}
 use Rattle.definitions.specs.Answer.{clockings}
 use Rattle.shapes.proofs.Clockless.{clockless}
@@ -298,14 +298,9 @@ not-deep : {A : Type 0} (v : Formed A) → is_deep v ≡ false → (a : A) × (v
 not-deep deep e = let z : ◌≡◌ {A = ℕ} 0 1 = cc in absurd (omega arith)
 not-deep (formed a) e = (a, refl)
 
--- the code's test of equations says whether a node uses clocks
-pub uses-by : (n : Node) (b : Bool) → b ≡ any (λ e. samples e.right) n.equations → b ≡ uses_clocks n
-unfolding uses_clocks
-uses-by n b e = e
-
 -- not in one that uses no clocks
-pub deep-unused : (n : Node) (b : Bool) → b ≡ any (λ e. samples e.right) n.equations → b ≡ false → false ≡ is_deep (clocking n)
-deep-unused n b e f = sym (ap is_deep (clockless n (sym (uses-by n b e) ∙ f)).1.clocks)
+pub deep-clockless : (n : Node) (b : Bool) → b ≡ uses_clocks n → b ≡ false → false ≡ is_deep (clocking n)
+deep-clockless n b e f = sym (ap is_deep (clockless n (sym e ∙ f)).1.clocks)
 
 -- the code's answer says it
 module _ (M : ℕ) (n : Node) (env t : List ℕ) (r : Result NodeClocked TooDeep) (h : ClockedOrDeep env t M r (clocking n)) where

@@ -2,7 +2,7 @@
 // `env` has seventeen words a name, `marks` has a mark a name, `table` thirty-eight words a token, `sites` seventeen words a token.
 #![tactic(auto)]
 
-ghost use Rattle.std.specs.Prelude.{◌≡◌, List, ◌++◌, true, ℕ, ◌+◌, ◌*◌, ◌≤◌, ◌<◌, length, get_or, IsOk};
+ghost use Rattle.std.specs.Prelude.{◌≡◌, List, ◌++◌, ℕ, ◌+◌, ◌*◌, ◌≤◌, ◌<◌, length, IsOk};
 ghost use Rattle.std.proofs.Math.Option.{Option};
 ghost use Rattle.grammar.specs.Read.{tokens_of};
 ghost use Rattle.definitions.specs.Lists.{join, numbered};
@@ -13,7 +13,6 @@ ghost use Rattle.definitions.specs.Clock as trees;
 ghost use Rattle.definitions.specs.InferClocks as rules;
 ghost use Rattle.definitions.specs.InferClocks.{Clocks, Finding, Clocked, Clocking, formed, or_base, clocked_by, check_equation, clocking, sites, chains};
 ghost use Rattle.definitions.specs.Answer.{clockings};
-ghost use Rattle.clock_tables.specs.Value.{value_of, natural_of};
 ghost use Rattle.clock_tables.specs.Environment.{Agrees};
 ghost use Rattle.clock_tables.specs.Rows.{RowsHold};
 ghost use Rattle.findings.specs.Findings.{findings_in, FindingsHeld};
@@ -100,8 +99,7 @@ fn check_node(
 }
 
 // The clocks of a node with this layout.
-// Stays (proof): four tables, here and below: of those lent from behind `Working` into a struct (tried: query `write_listing`) no length is
-// known when they come back.
+// Stays (proof): four tables, here and below: of a `&mut Working` (tried) the length of `env`, lent in a `CheckInput`, is lost (`returns`).
 pub fn clock_laid(
     source: &Source<'_>,
     l: NodeLayout,
@@ -144,9 +142,7 @@ fn deep_laid(
 ) -> bool
     ensures { (n : Node) (q : ℕ) → LaidNode source.now.names (tokens_of source.now) n q l → 17 * source.now.names ≤ length env.old → source.now.names ≤ length marks.old → 38 * length source.now.tags.now ≤ length table.old → result ≡ is_deep (clocking n) }
 {
-    let e = l.equations;
-    layout::equations_use_clocks(source, e.count, e.at)
-        && clock_laid(source, l, env, marks, table, sites).is_err()
+    l.uses_clocks(source) && clock_laid(source, l, env, marks, table, sites).is_err()
 }
 
 // Where so many nodes end, the first of which stands there and has this number; or refusal 9 at the first in which too deep a clock is
@@ -203,7 +199,6 @@ pub fn chain_rows<'a>(
     let count = chain_order::sort_rows(spelling, rows, chain, n);
     OrderedClocks {
         rows,
-        order: chain,
-        count,
+        order: &chain[..count],
     }
 }

@@ -2,23 +2,21 @@
 -- Assumes nothing.
 use Prim.Native.Nat.{ℕ, ◌+◌, ◌-◌, ◌<◌}
 use Rattle.std.specs.Prelude as rust
-use Rattle.std.specs.Prelude.{Some}
+use Rattle.std.specs.Prelude.{Some, None, Result, Ok, Err}
 use mathlib.Core.Path.{◌≡◌, refl, sym, ◌∙◌, ap}
 use mathlib.Core.List.{List}
 use mathlib.Core.Bool.{Bool, true, false}
-use mathlib.Core.Option.{Option, none, some}
+use mathlib.Core.Option.{none, some}
 use native.Mathlib.Omega.{arith}
-use lib.Dec.{ltb}
 use lib.ListN.{length}
 use Rattle.definitions.specs.declared.Condition.{Condition}
-use Rattle.definitions.specs.Lists.{choose}
 use Rattle.definitions.specs.Bytes.{tokens}
 use Rattle.definitions.specs.Tokens.{TagValue}
 use Rattle.definitions.specs.Tree.{Expr, Exprs}
 use Rattle.definitions.specs.Reading.{got}
-use Rattle.definitions.specs.Clock.{Clock, base, ◌↓◌, depth, deepest}
+use Rattle.definitions.specs.Clock.{base}
 use Rattle.definitions.specs.InferClocks.{Natural, Clocks, clock_of, deep, formed, ◌or◌, condition_over, parent_of, natural, naturals}
-use Rattle.clock_tables.specs.Value.{natural_of}
+use Rattle.clock_tables.specs.Value.{value_of, option_of}
 use Rattle.clock_tables.specs.Environment.{env_at, Agrees}
 use Rattle.operands.specs.declared.Gap.{Gap}
 use Rattle.operands.specs.declared.Role.{Role}
@@ -26,42 +24,46 @@ use Rattle.operands.specs.Role.{role_of_expr, operands_of}
 use Rattle.operands.specs.Spread.{tree, spread, later, operand_at, rest_at}
 use Rattle.operands.proofs.Laws.{spread-nil}
 use Rattle.operands.proofs.Apart.{Apart, apart}
-use Rattle.inference.specs.declared.FoundClock.{FoundClock}
-use Rattle.inference.specs.Natural.{is_free, Finds, lifted, first_of}
+use Rattle.clock_tables.specs.declared.clock.Clock as struct
+use Rattle.clock_tables.specs.declared.TooDeep.{TooDeep}
+use Rattle.inference.specs.declared.Walked.{Walked}
+use Rattle.inference.specs.Natural.{Finds, lifted, first_of}
 
 -- ---- clocks or none
+-- is there no clock?
+abbrev pub is_free : Natural → Bool
+is_free deep = false
+is_free (formed none) = true
+is_free (formed (some c)) = false
+
 pub free-none : (n : Natural) → is_free n ≡ true → n ≡ formed none
 free-none deep h = let z : ◌≡◌ {A = ℕ} 0 1 = cc in absurd (omega arith)
 free-none (formed none) h = refl
 free-none (formed (some c)) h = let z : ◌≡◌ {A = ℕ} 0 1 = cc in absurd (omega arith)
 
--- one that is found is the first, and is not none
+-- one that is found is the first
 pub kept-first : (n m : Natural) → is_free n ≡ false → n or m ≡ n
 kept-first deep m h = refl
 kept-first (formed none) m h = let z : ◌≡◌ {A = ℕ} 0 1 = cc in absurd (omega arith)
 kept-first (formed (some c)) m h = refl
 
-pub kept-some : (n : Natural) → is_free n ≡ false → n ≡ formed none → ⊥
-kept-some n h e = let z : ◌≡◌ {A = Bool} true false = rw e at h in let y : ◌≡◌ {A = ℕ} 0 1 = cc in omega arith
+-- what a walk comes to
+found-deep : (n : Natural) (q : ℕ) (r : Result Walked TooDeep) {d : TooDeep} → r ≡ Err d → Finds r n q → n ≡ deep
+found-deep n q r i h = rw i at h
+
+pub found-on : (n : Natural) (q : ℕ) (r : Result Walked TooDeep) {w : Walked} {c : struct.Clock} → r ≡ Ok w → w ≡ Walked.On c → Finds r n q → n ≡ formed (some (value_of c))
+found-on n q r i j h = rw j at (rw i at h)
+
+pub found-free : (n : Natural) (q : ℕ) (r : Result Walked TooDeep) {w : Walked} {end : ℕ} → r ≡ Ok w → w ≡ Walked.Free end → Finds r n q → (n ≡ formed none) × (end ≡ q)
+found-free n q r i j h = rw j at (rw i at h)
+
+found-so : (n : Natural) (q : ℕ) (r : Result Walked TooDeep) {w : Walked} → r ≡ Ok w → Finds r n q → Finds (Ok w) n q
+found-so n q r i h = rw i at h
 
 or-none : (n : Natural) → n or formed none ≡ n
 or-none deep = refl
 or-none (formed none) = refl
 or-none (formed (some c)) = refl
-
--- a condition over a clock is one
-over-some : (k : Condition) (c : Clock) → condition_over k (formed (some c)) ≡ formed none → ⊥
-over-some k c h = go (ltb (depth c) deepest) h
-  where
-    go : (b : Bool) → choose b (formed (some (c ↓ k))) deep ≡ formed none → ⊥
-    go true h = let z : ◌≡◌ {A = ℕ} 0 1 = cc in omega arith
-    go false h = let z : ◌≡◌ {A = ℕ} 0 1 = cc in omega arith
-
-sample-some : (k : Condition) (n : Natural) (o : Option Clock) → condition_over k (n or formed o or formed (some base)) ≡ formed none → ⊥
-sample-some k deep o h = let z : ◌≡◌ {A = ℕ} 0 1 = cc in omega arith
-sample-some k (formed none) none h = over-some k base h
-sample-some k (formed none) (some c) h = over-some k c h
-sample-some k (formed (some c)) o h = over-some k c h
 
 -- ---- operands
 -- the first clock among them is that of the definitions
@@ -77,12 +79,12 @@ pub record Remains (M : ℕ) (ts : List TagValue) (clocks : Clocks) (up : Bool) 
   pub same : first_of clocks up others ≡ all
 
 module _ (M : ℕ) (ts : List TagValue) (clocks : Clocks) (up : Bool) (g : Gap) (n p q : ℕ) where
-  pub remains-none : (all : Natural) → Remains M ts clocks up g n p q all → n ≡ 0 → (r : FoundClock) → (natural_of r.natural ≡ formed none) × (r.end ≡ p) → Finds r all q
+  pub remains-none : (all : Natural) → Remains M ts clocks up g n p q all → n ≡ 0 → Finds (Ok (Walked.Free p)) all q
   unfolding first_of
-  remains-none all h z r k =
+  remains-none all h z =
       let i = spread-nil M (tree M) ts g n p h.others q z h.stand in
       let m : formed none ≡ all = rw i.0 at h.same in
-      record { clock = k.0 ∙ m; end = λ e. k.1 ∙ sym i.1 }
+      (sym m, sym i.1)
 
 -- an operand at a place, or its parent, has no clock, and it ends there
 pub record Passed (M : ℕ) (ts : List TagValue) (env : List ℕ) (up : Bool) (place end : ℕ) : Type 0 where
@@ -98,8 +100,8 @@ module _ (M : ℕ) (ts : List TagValue) (env : List ℕ) (up : Bool) (place : �
   passed-leaf end r b F = record { passed = λ e q clocks g a. let f = F M e q end clocks g a b in (lifted-none up (natural clocks e) f.0, f.1) }
 
   -- what was walked
-  pub passed-walk : (f : FoundClock) → is_free (natural_of f.natural) ≡ true → ((e : Expr) (q : ℕ) (clocks : Clocks) → tree M ts place ≡ got e q → Agrees env M clocks → Finds f (lifted up (natural clocks e)) q) → Passed M ts env up place f.end
-  passed-walk f i F = record { passed = λ e q clocks g a. let h = F e q clocks g a in let j : lifted up (natural clocks e) ≡ formed none = sym h.clock ∙ free-none _ i in (j, h.end j) }
+  pub passed-walk : (r : Result Walked TooDeep) (w : Walked) (end : ℕ) → r ≡ Ok w → w ≡ Walked.Free end → ((e : Expr) (q : ℕ) (clocks : Clocks) → tree M ts place ≡ got e q → Agrees env M clocks → Finds r (lifted up (natural clocks e)) q) → Passed M ts env up place end
+  passed-walk r w end i j F = record { passed = λ e q clocks g a. found-free _ _ r i j (F e q clocks g a) }
 
 -- the first of the operands that are left; M is the number of names
 module _ (M : ℕ) (gs vs env : List ℕ) (same : length vs ≡ length gs) (up : Bool) (g : Gap) (n k p place : ℕ) (i : place ≡ operand_at (length gs) g p) (z : k < n) (q : ℕ) (clocks : Clocks) (a : Agrees env M clocks) (all : Natural) (h : Remains M (tokens gs vs) clocks up g (n - k) p q all) where
@@ -110,13 +112,16 @@ module _ (M : ℕ) (gs vs env : List ℕ) (same : length vs ≡ length gs) (up :
   unfolding first_of
   whole = ap (first_of clocks up) (sym split.whole) ∙ h.same
 
-  -- it has a clock
-  pub remains-here : (f : FoundClock) → is_free (natural_of f.natural) ≡ false → ((e : Expr) (q : ℕ) (clocks : Clocks) → tree M (tokens gs vs) place ≡ got e q → Agrees env M clocks → Finds f (lifted up (natural clocks e)) q) → Finds f all q
-  remains-here f j F =
-      let r = F split.first split.end clocks split.here a in
-      let k : is_free (lifted up (natural clocks split.first)) ≡ false = rw r.clock at j in
-      let m : lifted up (natural clocks split.first) ≡ all = sym (kept-first _ (first_of clocks up split.rest) k) ∙ whole in
-      record { clock = r.clock ∙ m; end = λ e. absurd (kept-some _ k (m ∙ e)) }
+  -- it has a clock, or too deep a one
+  here : (m : Natural) → is_free m ≡ false → lifted up (natural clocks split.first) ≡ m → all ≡ m
+  here m t i = sym (sym (kept-first m (first_of clocks up split.rest) t) ∙ (rw i at whole))
+
+  module _ (r : Result Walked TooDeep) (F : (e : Expr) (q : ℕ) (clocks : Clocks) → tree M (tokens gs vs) place ≡ got e q → Agrees env M clocks → Finds r (lifted up (natural clocks e)) q) where
+    pub remains-on : (w : Walked) (c : struct.Clock) → r ≡ Ok w → w ≡ Walked.On c → Finds (Ok w) all q
+    remains-on w c i j = rw j (here _ refl (found-on _ _ r i j (F split.first split.end clocks split.here a)))
+
+    pub remains-deep : {d : TooDeep} → r ≡ Err d → all ≡ deep
+    remains-deep i = here _ refl (found-deep _ _ r i (F split.first split.end clocks split.here a))
 
   -- it has none
   module _ (end : ℕ) (b : Passed M (tokens gs vs) env up place end) (next : ℕ) (j : next ≡ rest_at (length gs) g end) where
@@ -139,31 +144,46 @@ var-ends e x i = rw i
 
 -- M is the number of names
 module _ (M : ℕ) (env : List ℕ) (clocks : Clocks) (a : Agrees env M clocks) (e : Expr) (q : ℕ) where
-  pub name-arm : (x : ℕ) (r : FoundClock) (p : ℕ) → e ≡ Expr.var x → x < M → natural_of r.natural ≡ formed (env_at env x) → p ≡ q → r.end ≡ p → Finds r (natural clocks e) q
-  unfolding natural
-  name-arm x r p i l j k m = rw i (record { clock = j ∙ ap formed (a.same x l); end = λ z. m ∙ k })
+  name-clock : (x : ℕ) → x < M → (o : rust.Option struct.Clock) → option_of o ≡ env_at env x → clock_of clocks x ≡ option_of o
+  name-clock x l o j = sym (j ∙ a.same x l)
 
-  pub sample-arm : (k : Condition) (b : Expr) (f r : FoundClock) → e ≡ Expr.when k b → k.name < M → Finds f (first_of clocks false (operands_of e)) q →
-      natural_of r.natural ≡ condition_over k (natural_of f.natural or formed (env_at env k.name) or formed (some base)) → Finds r (natural clocks e) q
-  unfolding natural first_of operands_of
-  sample-arm k b f r i l h j =
-      let n : natural_of f.natural ≡ natural clocks b = rw i at h.clock ∙ or-none (natural clocks b) in
-      rw i (record { clock = j ∙ rw (n, a.same k.name l); end = λ z. absurd (sample-some k (natural clocks b) _ z) })
+  module _ (x : ℕ) (l : x < M) (o : rust.Option struct.Clock) (j : option_of o ≡ env_at env x) where
+    pub name-on : e ≡ Expr.var x → (c : struct.Clock) → o ≡ Some c → Finds (Ok (Walked.On c)) (natural clocks e) q
+    unfolding natural
+    name-on i c k = rw i (ap formed (name-clock x l o j ∙ ap option_of k))
 
-  pub join-name : (x : ℕ) (b c : Expr) (r : FoundClock) → e ≡ Expr.merge x b c → x < M → natural_of r.natural ≡ formed (env_at env x) → is_free (natural_of r.natural) ≡ false → Finds r (natural clocks e) q
-  unfolding natural
-  join-name x b c r i l j f =
-      let n : natural_of r.natural ≡ formed (clock_of clocks x) = j ∙ ap formed (a.same x l) in
-      let g : is_free (formed (clock_of clocks x)) ≡ false = rw n at f in
-      let k = kept-first (formed (clock_of clocks x)) (parent_of (natural clocks b)) g in
-      let m : formed (clock_of clocks x) or parent_of (natural clocks b) or parent_of (natural clocks c) ≡ formed (clock_of clocks x) = rw k (kept-first _ _ g) in
-      rw i (record { clock = n ∙ sym m; end = λ z. absurd (kept-some _ g (sym m ∙ z)) })
+    pub name-free : e ≡ Expr.var x → o ≡ None → (p : ℕ) → p ≡ q → Finds (Ok (Walked.Free p)) (natural clocks e) q
+    unfolding natural
+    name-free i k p s = rw i (ap formed (name-clock x l o j ∙ ap option_of k), s)
 
-  pub join-branches : (x : ℕ) (b c : Expr) (n : Natural) (r : FoundClock) → e ≡ Expr.merge x b c → x < M → n ≡ formed (env_at env x) → is_free n ≡ true → Finds r (first_of clocks true (operands_of e)) q → Finds r (natural clocks e) q
-  unfolding natural first_of operands_of
-  join-branches x b c n r i l j f h =
-      let k : formed (clock_of clocks x) ≡ formed none = sym (j ∙ ap formed (a.same x l)) ∙ free-none n f in
-      rw i (rw k (rw (or-none (parent_of (natural clocks c))) at (rw i at h)))
+    pub join-on : (b d : Expr) → e ≡ Expr.merge x b d → (c : struct.Clock) → o ≡ Some c → Finds (Ok (Walked.On c)) (natural clocks e) q
+    unfolding natural
+    join-on b d i c k =
+        let n : clock_of clocks x ≡ some (value_of c) = name-clock x l o j ∙ ap option_of k in
+        rw i (rw n refl)
+
+    pub join-branches : (b d : Expr) → e ≡ Expr.merge x b d → o ≡ None → (r : Result Walked TooDeep) → Finds r (first_of clocks true (operands_of e)) q → Finds r (natural clocks e) q
+    unfolding natural first_of operands_of
+    join-branches b d i k r h =
+        let n : clock_of clocks x ≡ none = name-clock x l o j ∙ ap option_of k in
+        rw i (rw n (rw (or-none (parent_of (natural clocks d))) at (rw i at h)))
+
+  -- a when over what was found
+  module _ (k : Condition) (b : Expr) (i : e ≡ Expr.when k b) (l : k.name < M) (r : Result Walked TooDeep) (h : Finds r (first_of clocks false (operands_of e)) q) where
+    operand : first_of clocks false (operands_of e) ≡ natural clocks b
+    unfolding natural first_of operands_of
+    operand = rw i (or-none (natural clocks b))
+
+    sampled : natural clocks e ≡ condition_over k (natural clocks b or formed (env_at env k.name) or formed (some base))
+    unfolding natural
+    sampled = rw (i, a.same k.name l) refl
+
+    pub sample-deep : {d : TooDeep} → r ≡ Err d → natural clocks e ≡ deep
+    sample-deep j = let n : natural clocks b ≡ deep = sym operand ∙ found-deep _ _ r j h in rw n at sampled
+
+    pub sample-arm : (w : Walked) → r ≡ Ok w → (s : Result Walked TooDeep)
+        → ((n : Natural) (q p : ℕ) → Finds (Ok w) n q → Finds s (condition_over k (n or formed (env_at env k.name) or formed (some base))) p) → Finds s (natural clocks e) q
+    sample-arm w j s F = rw sampled (F (natural clocks b) q q (rw operand at (found-so _ _ r j h)))
 
 -- the roles other than those of a name, a `when` and a `merge`
 record Rest (ρ : Role) : Type 0 where
@@ -182,7 +202,7 @@ rest clocks (Expr.call f es) h = refl
 rest clocks (Expr.when k a) h = absurd (h.sample k refl)
 rest clocks (Expr.merge x a b) h = absurd (h.join x refl)
 
-pub rest-arm : (clocks : Clocks) (e : Expr) (v : Role) (r : FoundClock) (q : ℕ) → v ≡ role_of_expr e → ((x : ℕ) → v ≡ Role.Name x → ⊥) → ((k : Condition) → v ≡ Role.Sample k → ⊥) → ((x : ℕ) → v ≡ Role.Join x → ⊥)
+pub rest-arm : (clocks : Clocks) (e : Expr) (v : Role) (r : Result Walked TooDeep) (q : ℕ) → v ≡ role_of_expr e → ((x : ℕ) → v ≡ Role.Name x → ⊥) → ((k : Condition) → v ≡ Role.Sample k → ⊥) → ((x : ℕ) → v ≡ Role.Join x → ⊥)
     → Finds r (first_of clocks false (operands_of e)) q → Finds r (natural clocks e) q
 rest-arm clocks e v r q i n s m j =
     rw (sym (rest clocks e (record { name = λ x z. n x (i ∙ z); sample = λ k z. s k (i ∙ z); join = λ x z. m x (i ∙ z) })) ∙ sym (first-naturals clocks (operands_of e))) j

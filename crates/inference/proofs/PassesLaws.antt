@@ -1,7 +1,7 @@
 -- Inference step by step: ports, one name, the left names, an equation, a pass, the passes.
 -- Assumes nothing.
 use Rattle.std.specs.Prelude.{Result, Ok, Err}
-use Prim.Native.Nat.{ℕ, zero, suc, ◌+◌, ◌-◌, ◌*◌, ◌≤◌, ◌<◌}
+use Prim.Native.Nat.{ℕ, zero, suc, ◌+◌, ◌-◌, ◌*◌, ◌≤◌, ◌<◌, min}
 use mathlib.Core.Path.{◌≡◌, refl, sym, ◌∙◌, ap, subst}
 use mathlib.Core.List.Memᴰ
 use mathlib.Core.List.{List, [], ◌∷◌, ◌++◌, map, Memᴰ}
@@ -21,21 +21,23 @@ use Rattle.definitions.specs.Lists.{choose, among}
 use Rattle.definitions.specs.Tokens.{TagValue}
 use Rattle.definitions.specs.Tree.{Declared, Expr, Equation, Node}
 use Rattle.definitions.specs.Reading.{Got, got, times}
-use Rattle.definitions.specs.Grammar.{name, declaration, expr, equation}
+use Rattle.definitions.specs.Grammar.{name, expr, equation}
 use Rattle.definitions.specs.Clock.{Clock, base}
 use Rattle.definitions.specs.InferClocks.{Natural, Formed, deep, formed, ◌>>=◌, Clocks, clock_of, Pass, Inferred, natural, ports, is_port, has_clock, give, give_natural, pass, passes_from, inferred}
-use Rattle.clock_tables.specs.declared.Clock as struct
+use Rattle.clock_tables.specs.declared.clock.Clock as struct
 use Rattle.clock_tables.specs.declared.TooDeep.{TooDeep}
 use Rattle.clock_tables.specs.Value.{value_of, natural_of}
 use Rattle.clock_tables.specs.Environment.{env_at, Agrees, Assigned, Cleared}
 use Rattle.clock_tables.proofs.EnvironmentLaws.{agrees-assign}
 use Rattle.grammar.specs.Outcome.{outcome}
 use Rattle.grammar.proofs.Laws.{tokens-length}
-use Rattle.grammar.proofs.Got.{same, tagged-value, times-nil, times-cons, declaration-got}
+use Rattle.grammar.proofs.Got.{same, tagged-value, times-nil, times-cons}
 use Rattle.layout.proofs.TypedefsLaws.{filled_more}
+use Rattle.layout.specs.Walk.{LaidAll}
+use Rattle.layout.proofs.Walks.{first-laid, none-laid}
 use Rattle.operands.proofs.Laws.{name-place}
 use Rattle.layout.specs.Spans.{end_of, Spanned}
-use Rattle.layout.specs.Laid.{LaidDeclaration, LaidEquation}
+use Rattle.layout.specs.Laid.{LaidEquation}
 use Rattle.layout.specs.declared.DeclarationLayout.{DeclarationLayout}
 use Rattle.layout.specs.declared.Span.{Span}
 use Rattle.layout.proofs.Laws.{laid-equation}
@@ -82,57 +84,36 @@ places-step m t p t' p' t₀ p₀ rest l x a b =
       marks = λ y u. shift (eqb y x) (among y rest) true (get_or p' y false) (get_or p y false) (a.marks y u) ∙ b.marks y u;
     }
 
--- so many declarations are left to be put in their places
-pub record Placing (M : ℕ) (ts : List TagValue) (t : List ℕ) (p : List Bool) (t₀ : List ℕ) (p₀ : List Bool) (left place : ℕ) (l : List Declared) (q : ℕ) : Type 0 where
+-- those that a walk has still to give are left to be put in their places
+pub record Placing (M : ℕ) (ts : List TagValue) (t : List ℕ) (p : List Bool) (t₀ : List ℕ) (p₀ : List Bool) (l : List Declared) (ls : List DeclarationLayout) : Type 0 where
   pub rest : List Declared
-  pub items : times left (declaration M) ts place ≡ got rest q
+  pub laid : LaidAll M ts rest ls
   pub places : PortsPlaced M t p (map name_of rest) t₀ p₀ (map name_of l)
 
-pub placing-start : (M : ℕ) (ts : List TagValue) (t : List ℕ) (p : List Bool) (k at : ℕ) (l : List Declared) (q : ℕ) → times k (declaration M) ts at ≡ got l q → Placing M ts t p t p (k - 0) at l q
-placing-start M ts t p k at l q g = let e : k - 0 ≡ k = omega arith in record { rest = l; items = rw e g; places = places-start M t p (map name_of l) }
+pub placing-start : (M : ℕ) (ts : List TagValue) (t : List ℕ) (p : List Bool) (l : List Declared) {ls : List DeclarationLayout} → LaidAll M ts l ls → Placing M ts t p t p l ls
+placing-start M ts t p l h = record { rest = l; laid = h; places = places-start M t p (map name_of l) }
 
-pub placing-end : (M : ℕ) (ts : List TagValue) (t : List ℕ) (p : List Bool) (t₀ : List ℕ) (p₀ : List Bool) (left place : ℕ) (l : List Declared) (q : ℕ) → left ≡ 0 → Placing M ts t p t₀ p₀ left place l q → PortsPlaced M t p [] t₀ p₀ (map name_of l)
-placing-end M ts t p t₀ p₀ left place l q z h =
-    let n = times-nil (declaration M) ts left place h.rest q z h.items in
-    let e : map name_of h.rest ≡ [] = ap (map name_of) n.0 in
-    rw e at h.places
+pub placing-end : {M : ℕ} {ts : List TagValue} {t t₀ : List ℕ} {p p₀ : List Bool} {l : List Declared} (ls : List DeclarationLayout) → ls ≡ [] → Placing M ts t p t₀ p₀ l ls → PortsPlaced M t p [] t₀ p₀ (map name_of l)
+placing-end ls z h = let e : map name_of h.rest ≡ [] = ap (map name_of) (none-laid (rw z at h.laid)) in rw e at h.places
 
--- the declaration that stands there
+-- the next declaration
 module _ (M : ℕ) (gs vs : List ℕ) (same_length : length vs ≡ length gs) where
-  declared-name : (p : ℕ) (d : Declared) (q : ℕ) → declaration M (tokens gs vs) p ≡ got d q → (get_or vs p 0 ≡ d.name) × (d.name < M)
+  port-below : (p x q : ℕ) → name M (tokens gs vs) p ≡ got x q → x < M
   unfolding name
-  declared-name p d q g =
-      let k = declaration-got M (tokens gs vs) p d q g in
+  port-below p x q g =
       let l = tokens-length gs vs same_length in
-      let w = name-place M (tokens gs vs) p k.0 k.1 k.3 in
-      let v = tagged-value gs vs same_length p 4 M k.0 k.1 (omega arith) k.3 in
-      let e : d.name ≡ k.0 = ap name_of k.5 in
-      (sym v.0 ∙ sym e, omega arith)
+      let w = name-place M (tokens gs vs) p x q g in
+      let v = tagged-value gs vs same_length p 4 M x q (omega arith) g in
+      v.2
 
-  module _ (t : List ℕ) (p : List Bool) (t₀ : List ℕ) (p₀ : List Bool) (count i place : ℕ) (l : List Declared) (q : ℕ) (z : i < count) (h : Placing M (tokens gs vs) t p t₀ p₀ (count - i) place l q) where
-    -- the next declaration
-    next-read : (d : Declared) × (u : ℕ) × (rest : List Declared) × (declaration M (tokens gs vs) place ≡ got d u) × (times (count - i - 1) (declaration M) (tokens gs vs) u ≡ got rest q) × (h.rest ≡ d ∷ rest)
-    next-read = times-cons (declaration M) (tokens gs vs) (count - i) place h.rest q (λ y. omega (arith, y, z)) h.items
-
-    -- it is there
-    pub placing-none : ((d : Declared) (u : ℕ) → declaration M (tokens gs vs) place ≡ got d u → ⊥) → ⊥
-    placing-none gone = let k = next-read in gone k.0 k.1 k.3
-
-    pub placing-step : (t' : List ℕ) (p' : List Bool) (o : DeclarationLayout) → ((d : Declared) (u : ℕ) → declaration M (tokens gs vs) place ≡ got d u → LaidDeclaration M (tokens gs vs) place d u o)
-        → ((m : ℕ) → 17 * m ≤ length t → m ≤ length p → o.name < m → PortsPlaced m t' p' [] t p (o.name ∷ [])) → 17 * M ≤ length t → M ≤ length p
-        → Placing M (tokens gs vs) t' p' t₀ p₀ (count - (i + 1)) o.end l q
-    placing-step t' p' o laid s u v =
-        let k = next-read in
-        let a : count - (i + 1) ≡ count - i - 1 = omega arith in
-        let d = declared-name place k.0 k.1 k.3 in
-        let r = laid k.0 k.1 k.3 in
-        let w : PortsPlaced M t p (k.0.name ∷ map name_of k.2) t₀ p₀ (map name_of l) = rw k.5 at h.places in
-        let y : PortsPlaced M t' p' [] t p (k.0.name ∷ []) = rw r.named at (s M u v (rw r.named d.1)) in
-        record { rest = k.2; items = rw (a, r.ends) k.4; places = places-step M t p t' p' t₀ p₀ (map name_of k.2) (map name_of l) k.0.name y w }
-
-pub not-there : {A : Type 0} (P : A → Type 0) (o : maybe.Option A) → ((x : A) → o ≡ maybe.Some x → ⊥) → maybe.IsSomeAnd o P → ⊥
-not-there P maybe.None gone h = h
-not-there P (maybe.Some x) gone h = gone x refl
+  pub placing-step : {t t₀ : List ℕ} {p p₀ : List Bool} {l : List Declared} {o : DeclarationLayout} {ls : List DeclarationLayout} (t' : List ℕ) (p' : List Bool) → Placing M (tokens gs vs) t p t₀ p₀ l (o ∷ ls)
+      → ((m : ℕ) → 17 * m ≤ length t → m ≤ length p → o.name < m → PortsPlaced m t' p' [] t p (o.name ∷ [])) → 17 * M ≤ length t → M ≤ length p
+      → Placing M (tokens gs vs) t' p' t₀ p₀ l ls
+  placing-step {t} {t₀} {p} {p₀} {l} {o} {ls} t' p' h s u v =
+      let f = first-laid h.laid in
+      let w : PortsPlaced M t p (f.first.name ∷ map name_of f.rest) t₀ p₀ (map name_of l) = rw f.whole at h.places in
+      let y : PortsPlaced M t' p' [] t p (f.first.name ∷ []) = rw f.laid.named at (s M u v (rw f.laid.named (port-below _ _ _ f.laid.label))) in
+      record { rest = f.rest; laid = f.others; places = places-step M t p t' p' t₀ p₀ (map name_of f.rest) (map name_of l) f.first.name y w }
 
 -- ---- the tables of a pass
 pub kept-all : (t : PassTables) → Kept t t
@@ -250,6 +231,13 @@ stands_at M ts n (suc k) p l q g h =
     let t = times-cons (equation M) ts n p l q (λ z. omega arith) g in
     let r = stands_at M ts (n - 1) k t.1 t.2 q t.4 (omega arith) in
     (r.0, r.1, ap (equation M ts) (place-shift M ts k p ∙ ap (λ (x : ℕ). place_of M ts x k) (end_is M ts p t.0 t.1 t.3)) ∙ r.2)
+
+-- the first of the 64 ends, as many as there are equations
+pub front-fits : (n count : ℕ) → n ≡ min 64 count → n ≤ 64
+front-fits n count h = omega (arith, h)
+
+pub front-inside : (m n i k count : ℕ) → n ≡ min 64 count → m ≡ n → n ≤ i → k < count → k < 64 → (k < m) × (k < i)
+front-inside m n i k count h e b j l = (omega (arith, h, e, j, l), omega (arith, h, b, j, l))
 
 -- one more end is in the table
 pub ends_more : (M : ℕ) (ts : List TagValue) (n p i place end : ℕ) (ends : List ℕ) (l : List Equation) (q : ℕ) → times n (equation M) ts p ≡ got l q → i < n → i < length ends → ((e : Equation) (u : ℕ) → equation M ts place ≡ got e u → end ≡ u) →

@@ -23,8 +23,8 @@ use Rattle.layout.proofs.Owed.{owed_none, owed-step, owed-on}
 use Rattle.layout.proofs.Ends.{expr-part}
 use Rattle.layout.proofs.Marks.{bears, borne, expr-marks, marks-none, marks-found, marks-past}
 use Rattle.operands.specs.Spread.{tree}
-use Rattle.inference.specs.Natural.{is_free, listed}
-use Rattle.inference.proofs.NaturalLaws.{free-none, kept-first}
+use Rattle.inference.specs.Natural.{listed}
+use Rattle.inference.proofs.NaturalLaws.{is_free, free-none, kept-first}
 
 -- ---- a token
 there-given : (b : Bool) (m : Mark) → there (given b m) ≡ b
@@ -35,9 +35,9 @@ there-none : (o : Option Mark) → there o ≡ false → o ≡ none
 there-none none h = refl
 there-none (some m) h = let z : ◌≡◌ {A = ℕ} 0 1 = cc in absurd (omega arith)
 
-pub name-gives : (env : List ℕ) (tag v w : ℕ) → tag ≡ 54 → w ≡ get_or env (17 * v) 0 → not (eqb w 0) ≡ there (mark_of (listed env) tag v)
+pub name-gives : (env : List ℕ) (tag v : ℕ) {b : Bool} → tag ≡ 54 → b ≡ listed env v → b ≡ there (mark_of (listed env) tag v)
 unfolding mark_of
-name-gives env tag v w i j = rw (i, j) (sym (there-given _ _))
+name-gives env tag v i j = j ∙ rw i (sym (there-given _ _))
 
 pub other-gives : (env : List ℕ) (tag v : ℕ) (r : Bool) → (tag ≡ 54 → ⊥) → r ≡ is_sample tag → r ≡ there (mark_of (listed env) tag v)
 unfolding mark_of

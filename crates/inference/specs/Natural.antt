@@ -1,23 +1,19 @@
 -- What the walk finds: a natural clock, with the place behind what has none.
-use Rattle.std.specs.Prelude.{ℕ, ◌*◌, ◌≡◌, List, Bool, true, false, not, eqb, get_or}
+use Rattle.std.specs.Prelude.{ℕ, ◌*◌, ◌≡◌, List, Bool, true, false, not, eqb, get_or, Result, Ok, Err}
 use Rattle.std.proofs.Math.Option.{none, some}
 use Rattle.definitions.specs.Tree.{Exprs}
 use Rattle.definitions.specs.InferClocks.{Natural, Clocks, deep, formed, ◌or◌, parent_of, natural}
-use Rattle.clock_tables.specs.Value.{natural_of}
+use Rattle.clock_tables.specs.Value.{value_of}
+use Rattle.clock_tables.specs.declared.TooDeep.{TooDeep}
 use Rattle.clock_tables.specs.Environment.{env_at}
-use Rattle.inference.specs.declared.FoundClock.{FoundClock}
+use Rattle.inference.specs.declared.Walked.{Walked}
 use Rattle.inference.specs.declared.TokensTell.{TokensTell}
 
--- is there no clock?
-abbrev pub is_free : Natural → Bool
-is_free deep = false
-is_free (formed none) = true
-is_free (formed (some c)) = false
-
 -- r is the natural clock n of what ends at q; without a clock it says where that is
-pub record Finds (r : FoundClock) (n : Natural) (q : ℕ) : Type 0 where
-  pub clock : natural_of r.natural ≡ n
-  pub end : n ≡ formed none → r.end ≡ q
+abbrev pub Finds : Result Walked TooDeep → Natural → ℕ → Type 0
+Finds (Err d) n q = n ≡ deep
+Finds (Ok (Walked.On c)) n q = n ≡ formed (some (value_of c))
+Finds (Ok (Walked.Free end)) n q = (n ≡ formed none) × (end ≡ q)
 
 -- a clock, or its parent
 abbrev pub lifted : Bool → Natural → Natural

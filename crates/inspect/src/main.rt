@@ -9,7 +9,7 @@ ghost use Rattle.definitions.specs.Grammar.{type_def};
 ghost use Rattle.parts.specs.Answers.{Accepted, sizes_of};
 ghost use Rattle.inspect.specs.Summary.{type_summary};
 
-use arguments::Word;
+use arguments::Asked;
 use definitions::{MOST_NAMES, MOST_NODES, MOST_TOKENS, MOST_TYPES, NodeKind};
 use grammar::Source;
 use layout::{Defined, NodeLayout};
@@ -36,7 +36,7 @@ impl fmt::Display for TypeKind {
     }
 }
 
-// Stays (no plainer): the kind is another crate's type, which cannot be given a `Display` here.
+// Stays (no plainer): a `Display` stands beside its type, in a crate of the library, which would name `fmt` for this program alone.
 fn node_word(kind: NodeKind) -> &'static str {
     match kind {
         NodeKind::Function => "function",
@@ -57,24 +57,23 @@ struct TypeSummary {
 fn type_summary(source: &Source<'_>, at: usize) -> Option<TypeSummary>
     ensures { (d : TypeDef) (q : ℕ) → type_def source.now.names (tokens_of source.now) at ≡ got d q → result ≡ Some (type_summary d) }
 {
-    match layout::describe(source, at) {
-        Some(Defined::Enum { name, count, .. }) => Some(TypeSummary {
+    Some(match layout::describe(source, at)? {
+        Defined::Enum { name, count, .. } => TypeSummary {
             name,
             kind: TypeKind::Enum,
             count,
-        }),
-        Some(Defined::Record { name, count, .. }) => Some(TypeSummary {
+        },
+        Defined::Record { name, count, .. } => TypeSummary {
             name,
             kind: TypeKind::Record,
             count,
-        }),
-        Some(Defined::Alias { name, .. }) => Some(TypeSummary {
+        },
+        Defined::Alias { name, .. } => TypeSummary {
             name,
             kind: TypeKind::Alias,
             count: 1,
-        }),
-        None => None,
-    }
+        },
+    })
 }
 
 // `type NAME enum|record|alias COUNT`
@@ -89,7 +88,7 @@ fn print_node(
     to: &mut impl Write,
     spelling: Spelling<'_>,
     n: NodeLayout,
-    uses_clocks: bool,
+    source: &Source<'_>,
 ) -> io::Result<()> {
     to.write_all(b"node ")?;
     to.write_all(spelling.name(n.name))?;
@@ -105,6 +104,7 @@ fn print_node(
         " {} {} {}",
         n.locals.count, n.equations.count, n.probes.count
     )?;
+    let uses_clocks = n.uses_clocks(source);
     writeln!(to, " {}", if uses_clocks { "clocks" } else { "base" })
 }
 
@@ -121,19 +121,14 @@ fn print_lines(
         sizes.names, sizes.letters, sizes.tokens
     )?;
     let whole = layout::sheet_at(source);
-    let count = MOST_TYPES.min(whole.types.count as usize);
-    let types = layout::definition_places(source, count, whole.types.at);
-    for i in 0..types.count {
-        if let Some(t) = type_summary(source, types.at[i]) {
+    let types = layout::definition_places(source, whole.types);
+    for &at in &types.at[..types.count] {
+        if let Some(t) = type_summary(source, at) {
             print_type(to, spelling, t)?;
         }
     }
-    let count = MOST_NODES.min(whole.nodes.count as usize);
-    let nodes = layout::node_places(source, count, whole.nodes.at);
-    for i in 0..nodes.count {
-        let at = nodes.at[i];
-        let uses_clocks = sheet::node_uses_clocks(source, at);
-        print_node(to, spelling, layout::node_at(source, at), uses_clocks)?;
+    for node in layout::nodes(source, whole.nodes) {
+        print_node(to, spelling, node, source)?;
     }
     Ok(())
 }
@@ -156,12 +151,7 @@ fn report(
         starts: &starts,
         letters: &bytes[from..end],
     };
-    let source = Source {
-        tags: &tags[..sizes.tokens],
-        values: &values[..sizes.tokens],
-        names: sizes.names as u32,
-    };
-    print_lines(to, &source, spelling, sizes)
+    print_lines(to, &sheet::source_of(tags, values, sizes), spelling, sizes)
 }
 
 fn inspect(output: &mut impl Write, errors: &mut impl Write, bytes: &[u8]) -> io::Result<()> {
@@ -185,10 +175,13 @@ rewrite --help lists the numbers. The exit status is 0 in both cases.
 ";
 
 fn main(rt: HostRuntime) -> io::Result<()> {
-    if let Some(Word::Help) = arguments::argument(&rt, 1) {
+    if let Some(Asked::Help) = arguments::argument(&rt, 1) {
         return rt.stdout().write_all(HELP);
     }
-    let mut bytes = [0u8; 65536];
-    let n = arguments::read_full(&mut rt.stdin(), &mut bytes)?;
-    inspect(&mut rt.stdout(), &mut rt.stderr(), &bytes[..n])
+    let mut output = rt.stdout();
+    let mut errors = rt.stderr();
+    arguments::with_sheet(
+        &mut rt.stdin(),
+        |sheet| inspect(&mut output, &mut errors, sheet),
+    )
 }

@@ -5,3 +5,4 @@ pub mod Owed
 pub mod Ends
 pub mod Marks
 pub mod Laws
+pub mod Walks

@@ -3,3 +3,4 @@ pub mod Owed
 pub mod Marks
 pub mod Spans
 pub mod Laid
+pub mod Walk

@@ -32,11 +32,6 @@ impl PartsTable {
         if tag == tags::COUNT {
             return value;
         }
-        let i = usize::from(tag);
-        if i < self.table.len() {
-            u32::from(self.table[i])
-        } else {
-            0
-        }
+        u32::from(self.table.get(usize::from(tag)).copied().unwrap_or(0))
     }
 }

@@ -2,7 +2,7 @@
 #![tactic(auto)]
 
 ghost use Rattle.std.specs.Option.{IsSomeAnd};
-ghost use Rattle.std.specs.Prelude.{◌≡◌, List, ℕ, ◌≤◌, ◌<◌, IfSome, None, length, get_or};
+ghost use Rattle.std.specs.Prelude.{◌≡◌, List, ℕ, ◌<◌, IfSome, None, length, get_or, min};
 ghost use Rattle.grammar.specs.Read.{tokens_of};
 ghost use Rattle.definitions.specs.Tree.{TypeDef, Expr, Declared, Equation, Probe, Node, Sheet};
 ghost use Rattle.definitions.specs.declared.Refusal.{Refusal};
@@ -10,20 +10,23 @@ ghost use Rattle.definitions.specs.Reading.{got, rejected, times};
 ghost use Rattle.definitions.specs.Grammar.{type_def, name, declaration, expr, equation, probe, node, sheet};
 ghost use Rattle.layout.specs.Table.{Named, Described, FoundFirst, Table};
 ghost use Rattle.std.proofs.Math.Option.{Option};
+ghost use Rattle.definitions.specs.InferClocks.{samples, uses_clocks};
 ghost use Rattle.definitions.specs.Lists.{any};
-ghost use Rattle.definitions.specs.InferClocks.{samples};
 ghost use Rattle.layout.specs.Owed.{Owed};
 ghost use Rattle.layout.specs.Marks.{is_sample, nowhere, there, Mark, Marks};
 ghost use Rattle.layout.specs.Spans.{past_in, Spanned, Spans, Ended};
 ghost use Rattle.layout.specs.Laid.{LaidDeclaration, LaidNode, LaidEquation, LaidSheet, Places};
+ghost use Rattle.layout.specs.Walk.{layouts_in, declared_left, LaidAll};
 
 mod follow;
 mod place_table;
+mod walk;
 
 use definitions::{DefinitionToken, MOST_ITEMS, MOST_NODES, MOST_TYPES, NodeKind};
 pub use follow::{PartsTable, parts_table};
 use grammar::{Source, tags};
 pub use place_table::PlaceTable;
+pub use walk::{Declarations, Nodes};
 
 // ---- Where the definitions of a sheet's types stand, and their parts: document 01, "The sheet".
 
@@ -189,14 +192,6 @@ fn some_sample(tags: &[u8], from: usize, to: usize) -> bool
     tags.iter().take(to).skip(from).any(|tag| is_sample(*tag))
 }
 
-// Does one of so many equations use clocks? A when or a merge stands in a right side where its tag does.
-pub fn equations_use_clocks(source: &Source<'_>, n: u32, at: usize) -> bool
-    ensures { (M : ℕ) (l : List Equation) (q : ℕ) → times n (equation M) (tokens_of source.now) at ≡ got l q → result ≡ any (λ e. samples e.right) l }
-{
-    let end = equations_end(source, n, at);
-    some_sample(source.tags, at, end)
-}
-
 // ---- Where the parts of an accepted sheet stand among its tokens: its types and nodes, a node's names, equations and probes.
 // Where nothing was read, an answer says nothing.
 
@@ -227,6 +222,16 @@ pub struct NodeLayout {
     pub equations: Span,
     pub probes: Span,
     pub end: usize,
+}
+
+impl NodeLayout {
+    // Does the node use clocks? A when or a merge stands in a right side where its tag does.
+    pub fn uses_clocks(&self, source: &Source<'_>) -> bool
+        ensures of_node { (n : Node) (q : ℕ) → LaidNode source.now.names (tokens_of source.now) n q self.now → result ≡ uses_clocks n }
+        ensures of_equations { (M : ℕ) (l : List Equation) → times self.now.equations.count (equation M) (tokens_of source.now) self.now.equations.at ≡ got l self.now.equations.end → result ≡ any (λ e. samples e.right) l }
+    {
+        some_sample(source.tags, self.equations.at, self.equations.end)
+    }
 }
 
 // An equation: its left names, where its right side stands, and the place after it.
@@ -292,7 +297,7 @@ pub fn names_in<'a>(source: &Source<'a>, names: Span) -> &'a [u32]
 }
 
 // The name with its type that stands at a place.
-pub fn declaration_at(source: &Source<'_>, at: usize) -> Option<DeclarationLayout>
+pub(crate) fn declaration_at(source: &Source<'_>, at: usize) -> Option<DeclarationLayout>
     ensures read { (d : Declared) (q : ℕ) → declaration source.now.names (tokens_of source.now) at ≡ got d q → IsSomeAnd result (LaidDeclaration source.now.names (tokens_of source.now) at d q) }
     ensures refused { (r : Refusal) → declaration source.now.names (tokens_of source.now) at ≡ rejected r → result ≡ None }
 {
@@ -300,6 +305,26 @@ pub fn declaration_at(source: &Source<'_>, at: usize) -> Option<DeclarationLayou
     let name = value_at(source.values, at);
     let type_at = behind(source.tags, at);
     Some(DeclarationLayout { name, type_at, end })
+}
+
+// So many names with their types, of which the first stands at a place, one after another.
+pub fn declarations_from<'a>(source: &Source<'a>, count: u32, at: usize) -> Declarations<'a>
+    ensures left { declared_left result ≡ layouts_in source.now.names (tokens_of source.now) count at }
+    ensures laid { (ds : List Declared) (q : ℕ) → times count (declaration source.now.names) (tokens_of source.now) at ≡ got ds q → LaidAll source.now.names (tokens_of source.now) ds (declared_left result) }
+{
+    Declarations {
+        source: *source,
+        at,
+        left: count,
+    }
+}
+
+// The names with their types of a span, one after another.
+pub fn declarations<'a>(source: &Source<'a>, declared: Span) -> Declarations<'a>
+    ensures left { declared_left result ≡ layouts_in source.now.names (tokens_of source.now) declared.count declared.at }
+    ensures laid { (ds : List Declared) → Spans (declaration source.now.names) (tokens_of source.now) ds declared → LaidAll source.now.names (tokens_of source.now) ds (declared_left result) }
+{
+    declarations_from(source, declared.count, declared.at)
 }
 
 // The parts of the node that stands at a place.
@@ -336,6 +361,17 @@ pub fn node_at(source: &Source<'_>, at: usize) -> NodeLayout
     }
 }
 
+// The nodes of a span, one after another.
+pub fn nodes<'a>(source: &Source<'a>, nodes: Span) -> Nodes<'a>
+    ensures { (result.source ≡ source.now) × (result.at ≡ nodes.at) × (result.left ≡ nodes.count) }
+{
+    Nodes {
+        source: *source,
+        at: nodes.at,
+        left: nodes.count,
+    }
+}
+
 // The parts of the equation that stands at a place.
 pub fn equation_at(source: &Source<'_>, at: usize) -> EquationLayout
     ensures { (e : Equation) (q : ℕ) → equation source.now.names (tokens_of source.now) at ≡ got e q → LaidEquation source.now.names (tokens_of source.now) e q result }
@@ -358,27 +394,20 @@ pub fn sheet_at(source: &Source<'_>) -> SheetLayout
     SheetLayout { types, nodes }
 }
 
-// The places of n items, of which the first stands at `at`, by where one ends.
-fn places_of<const N: usize, F: Fn(usize) -> usize>(
-    n: usize,
-    at: usize,
-    item_end: F,
-) -> PlaceTable<N>
-    requires n_bound { n ≤ N }
+// The places of the items of a span, as many as a table holds, by where one ends.
+fn places_of<const N: usize, F: Fn(usize) -> usize>(items: Span, item_end: F) -> PlaceTable<N>
     requires callable { F.IsAlwaysCallable item_end }
-    ensures count { result.count ≡ n }
-    ensures each { (i : ℕ) → i < n → Ended (F.post item_end) at i (get_or result.at i 0) }
+    ensures count { result.count ≡ min N items.count }
+    ensures each { (i : ℕ) → i < result.count → Ended (F.post item_end) items.at i (get_or result.at i 0) }
 {
+    let count = N.min(items.count as usize);
     let mut places = [0usize; N];
-    let mut place = at;
-    for i in 0..n {
+    let mut place = items.at;
+    for i in 0..count {
         places[i] = place;
         place = item_end(place);
     }
-    PlaceTable {
-        at: places,
-        count: n,
-    }
+    PlaceTable { at: places, count }
 }
 
 // The place after a node.
@@ -388,20 +417,18 @@ fn node_end(source: &Source<'_>, at: usize) -> usize
     node_at(source, at).end
 }
 
-// The places of n nodes, of which the first stands at `at`.
-pub fn node_places(source: &Source<'_>, n: usize, at: usize) -> PlaceTable<MOST_NODES>
-    requires n_bound { n ≤ 16 }
-    ensures count { result.count ≡ n }
-    ensures places { (l : List Node) (q : ℕ) → times n (node source.now.names) (tokens_of source.now) at ≡ got l q → Places (node source.now.names) (tokens_of source.now) result.at l }
+// The places of the nodes of a span, of at most 16.
+pub fn node_places(source: &Source<'_>, nodes: Span) -> PlaceTable<MOST_NODES>
+    ensures count { result.count ≡ min 16 nodes.count }
+    ensures places { (l : List Node) (q : ℕ) → times result.count (node source.now.names) (tokens_of source.now) nodes.at ≡ got l q → Places (node source.now.names) (tokens_of source.now) result.at l }
 {
-    places_of(n, at, |place| node_end(source, place))
+    places_of(nodes, |place| node_end(source, place))
 }
 
-// The places of n definitions, of which the first stands at `at`.
-pub fn definition_places(source: &Source<'_>, n: usize, at: usize) -> PlaceTable<MOST_TYPES>
-    requires n_bound { n ≤ 32 }
-    ensures count { result.count ≡ n }
-    ensures table { (types : List TypeDef) (q : ℕ) → times n (type_def source.now.names) (tokens_of source.now) at ≡ got types q → Table source.now.names (tokens_of source.now) result.at n types }
+// The places of the definitions of a span, of at most 32.
+pub fn definition_places(source: &Source<'_>, types: Span) -> PlaceTable<MOST_TYPES>
+    ensures count { result.count ≡ min 32 types.count }
+    ensures table { (l : List TypeDef) (q : ℕ) → times result.count (type_def source.now.names) (tokens_of source.now) types.at ≡ got l q → Table source.now.names (tokens_of source.now) result.at result.count l }
 {
-    places_of(n, at, |place| definition_end(source, place))
+    places_of(types, |place| definition_end(source, place))
 }

@@ -3,10 +3,12 @@ use mathlib.Core.Path.{◌≡◌, refl, sym, subst, ◌∙◌, ap}
 use mathlib.Core.List.{List, [], ◌∷◌, ◌++◌, map, append_assoc, append-nil}
 use mathlib.Core.Bool.{Bool, true, false}
 use mathlib.Core.Option.{Option}
-use Prim.Native.Nat.{ℕ, zero, suc, ◌+◌, ◌-◌, ◌*◌, ◌<◌}
+use Prim.Native.Nat.{ℕ, suc, ◌+◌, ◌-◌, ◌*◌, ◌≤◌, ◌<◌}
 use native.Mathlib.Omega.{arith}
 use native.Mathlib.Numerals.{add-one}
-use lib.ListN.{length, get_or, length-append, length-map}
+use lib.ListN.{length, get_or, take, length-append, length-map}
+use lib.Seq.{take-suc, take_all}
+use Rattle.std.proofs.lemmas.List.{map-append}
 use Rattle.definitions.specs.Lists.{choose, any, join, numbered, Letters}
 use Rattle.definitions.specs.Bytes.{tokens}
 use Rattle.definitions.specs.Tree.{Equation, Node}
@@ -20,59 +22,50 @@ use Rattle.clock_tables.specs.Flat.{clock_in}
 use Rattle.findings.specs.Findings.{finding_in, findings_in}
 use Rattle.findings.proofs.Laws.{none_yet, faults-one, faults-no}
 use Rattle.spelling.specs.Places.{letters_in}
-use Rattle.chain_order.specs.Order.{row_of, picked, ordered_clocks}
+use Rattle.chain_order.specs.Order.{row_of, ordered_clocks}
 use Rattle.chain_order.specs.declared.OrderedClocks.{OrderedClocks}
 use Rattle.definitions.specs.Output.{ClockedNode}
 use Rattle.skeleton.specs.Sites.{EquationsOn}
 use Rattle.spelling.specs.Written.{Wrote}
 use Rattle.spelling.specs.declared.text_writer.TextWriter.{TextWriter}
-use Rattle.spelling.proofs.Writers.{wrote_then, wrote_as, wrote_none}
+use Rattle.spelling.proofs.Writers.{wrote_as, wrote_none}
 use Rattle.lines.specs.Pieces.{head_line, equation_line, chain_line}
 use Rattle.lines.specs.declared.ListedNode.{ListedNode}
+use Rattle.lines.specs.declared.NamedText.{NamedText}
+use Rattle.lines.specs.Spelled.{Spells}
 use Rattle.lines.specs.Listed.{Lists, AreChains, listed}
-use Rattle.lines.proofs.Listing.{put-line, put-numbered, put-listing}
+use Rattle.lines.proofs.Listing.{put-numbered}
+use Rattle.lines.proofs.Spelled.{spells_then, spells_as, spells_none, line_more, listing_spelled}
 
 -- ---- a line for each fault of the first rows
-module _ (line : NodeFault → Letters) (t : List ℕ) (w : TextWriter) where
-  pub faults-none : Wrote (join (map line (clock_faults (findings_in t 0)))) w w
-  faults-none = wrote_as (ap (λ (l : List NodeFault). join (map line l)) (sym (none_yet t).0)) (wrote_none w)
+module _ (line : (ℕ → Letters) → NodeFault → Letters) (t : List ℕ) (w : NamedText) where
+  pub faults-none : Spells (λ n. join (map (line n) (clock_faults (findings_in t 0)))) w w
+  faults-none = spells_as (λ n. ap (λ (l : List NodeFault). join (map (line n) l)) (sym (none_yet t).0)) (spells_none w)
 
-  module _ (i : ℕ) (f : Finding) (e : f ≡ finding_in t (38 * i)) {w₁ : TextWriter} where
-    pub fault-line : (g h : NodeFault) {w₂ : TextWriter} → f ≡ found g → h ≡ g
-        → Wrote (join (map line (clock_faults (findings_in t i)))) w w₁ → Wrote (line h) w₁ w₂ → Wrote (join (map line (clock_faults (findings_in t (i + 1))))) w w₂
+  module _ (i : ℕ) (f : Finding) (e : f ≡ finding_in t (38 * i)) {w₁ : NamedText} where
+    pub fault-line : (g h : NodeFault) {w₂ : NamedText} → f ≡ found g → h ≡ g
+        → Spells (λ n. join (map (line n) (clock_faults (findings_in t i)))) w w₁ → Spells (λ n. line n h) w₁ w₂ → Spells (λ n. join (map (line n) (clock_faults (findings_in t (i + 1))))) w w₂
     fault-line g h a b u v =
         let c : clock_faults (findings_in t i) ++ (h ∷ []) ≡ clock_faults (findings_in t (i + 1)) = ap (λ (y : NodeFault). clock_faults (findings_in t i) ++ (y ∷ [])) b ∙ sym (faults-one t i f e a) in
-        wrote_as (ap (λ (l : List NodeFault). join (map line l)) c) (put-line line (clock_faults (findings_in t i)) h u v)
+        spells_as (λ n. ap (λ (l : List NodeFault). join (map (line n) l)) c) (line_more line (clock_faults (findings_in t i)) h u v)
 
-    pub fault-pass : clock_faults (f ∷ []) ≡ [] → Wrote (join (map line (clock_faults (findings_in t i)))) w w₁ → Wrote (join (map line (clock_faults (findings_in t (i + 1))))) w w₁
-    fault-pass a u = wrote_as (ap (λ (l : List NodeFault). join (map line l)) (sym (faults-no t i f e a))) u
+    pub fault-pass : clock_faults (f ∷ []) ≡ [] → Spells (λ n. join (map (line n) (clock_faults (findings_in t i)))) w w₁ → Spells (λ n. join (map (line n) (clock_faults (findings_in t (i + 1))))) w w₁
+    fault-pass a u = spells_as (λ n. ap (λ (l : List NodeFault). join (map (line n) l)) (sym (faults-no t i f e a))) u
 
 -- ---- a line for each chain
-module _ (f : ℕ → Clock) (o : List ℕ) where
-  picked_last : (i n : ℕ) → picked f o i (suc n) ≡ picked f o i n ++ (f (get_or o (i + n) 0) ∷ [])
-  unfolding picked
-  picked_last i zero = let e : i + 0 ≡ i = omega arith in rw e
-  picked_last i (suc n) =
-      let e : i + suc n ≡ i + 1 + n = omega arith in
-      rw e (ap (λ (l : List Clock). f (get_or o i 0) ∷ l) (picked_last (i + 1) n))
+module _ (f : ℕ → Clock) (o : List ℕ) (w : NamedText) where
+  pub chains-none : Spells (λ n. join (map (chain_line n) (map f (take 0 o)))) w w
+  chains-none = spells_none w
 
-  pub picked-length : (i n : ℕ) → length (picked f o i n) ≡ n
-  unfolding picked
-  picked-length i zero = refl
-  picked-length i (suc n) = ap suc (picked-length (i + 1) n)
+  pub chains-more : (i : ℕ) (c : Clock) {w₁ w₂ : NamedText} → i < length o → c ≡ f (get_or o i 0)
+      → Spells (λ n. join (map (chain_line n) (map f (take i o)))) w w₁ → Spells (λ n. chain_line n c) w₁ w₂ → Spells (λ n. join (map (chain_line n) (map f (take (i + 1) o)))) w w₂
+  chains-more i c h e u v =
+      let g : map f (take i o) ++ (c ∷ []) ≡ map f (take (i + 1) o) =
+      ap (λ (x : Clock). map f (take i o) ++ (x ∷ [])) e ∙ sym (map-append f (take i o) (get_or o i 0 ∷ [])) ∙ ap (map f) (sym (take-suc o i 0 h)) ∙ ap (λ (k : ℕ). map f (take k o)) (sym (add-one i)) in
+      spells_as (λ n. ap (λ (l : List Clock). join (map (chain_line n) l)) g) (line_more chain_line (map f (take i o)) c u v)
 
-  module _ (line : Clock → Letters) (w : TextWriter) where
-    pub picked_none : Wrote (join (map line (picked f o 0 0))) w w
-    unfolding picked
-    picked_none = wrote_none w
-
-    pub picked-line : (i : ℕ) (c : Clock) {w₁ w₂ : TextWriter} → c ≡ f (get_or o i 0)
-        → Wrote (join (map line (picked f o 0 i))) w w₁ → Wrote (line c) w₁ w₂ → Wrote (join (map line (picked f o 0 (i + 1)))) w w₂
-    picked-line i c e u v =
-        let z : 0 + i ≡ i = omega arith in
-        let x : c ≡ f (get_or o (0 + i) 0) = e ∙ ap (λ (j : ℕ). f (get_or o j 0)) (sym z) in
-        let g : picked f o 0 i ++ (c ∷ []) ≡ picked f o 0 (i + 1) = ap (λ (d : Clock). picked f o 0 i ++ (d ∷ [])) x ∙ (sym (picked_last 0 i) ∙ ap (picked f o 0) (sym (add-one i))) in
-        wrote_as (ap (λ (l : List Clock). join (map line l)) g) (put-line line (picked f o 0 i) c u v)
+  pub chains-all : (i : ℕ) {w₁ : NamedText} → length o ≤ i → Spells (λ n. join (map (chain_line n) (map f (take i o)))) w w₁ → Spells (λ n. join (map (chain_line n) (map f o))) w w₁
+  chains-all i h u = spells_as (λ n. ap (λ (l : List ℕ). join (map (chain_line n) (map f l))) (take_all i o h)) u
 
 -- ---- a line for each equation
 module _ (clocks : Clocks) where
@@ -182,24 +175,27 @@ head-same : (letters : ℕ → Letters) (a a' b b' c c' d d' : ℕ) → a ≡ a'
 head-same letters a a' b b' c c' d d' e f g h = rw (e, f, g, h)
 
 -- the head, the lines of equations, chains and faults are the node's listing
-pub node-put : (l : ListedNode) (o : OrderedClocks) (n : ClockedNode) {w w₁ w₂ w₃ w₄ : TextWriter} → Lists l n → AreChains l o
-    → Wrote (head_line (letters_in l.spelling) l.told.layout.name l.told.layout.equations.count l.told.passes o.count) w w₁
-    → ((M : ℕ) (cs : List Clocked) (q : ℕ) → EquationsOn M l.source.tags.now l.source.values.now l.sites.now cs l.told.layout.equations.at q → length cs ≡ l.told.layout.equations.count → Wrote (join (numbered (equation_line (letters_in l.spelling)) 0 (map (λ (c : Clocked). c.clock) cs))) w₁ w₂)
-    → Wrote (join (map (chain_line (letters_in l.spelling)) (ordered_clocks o))) w₂ w₃
-    → Wrote (join (map (fault_line (letters_in l.spelling) l.told.number) (clock_faults (findings_in l.table.now l.told.findings)))) w₃ w₄
-    → Wrote (listed l n) w w₄
+pub node-put : (l : ListedNode) (o : OrderedClocks) (n : ClockedNode) {w w₁ w₂ w₃ w₄ : NamedText} → w.spelling ≡ l.spelling → Lists l n → AreChains l o
+    → Spells (λ s. head_line s l.told.layout.name l.told.layout.equations.count l.told.clocked.passes (length o.order.now)) w w₁
+    → ((M : ℕ) (cs : List Clocked) (q : ℕ) → EquationsOn M l.source.tags.now l.source.values.now l.sites.now cs l.told.layout.equations.at q → length cs ≡ l.told.layout.equations.count → Spells (λ s. join (numbered (equation_line s) 0 (map (λ (c : Clocked). c.clock) cs))) w₁ w₂)
+    → Spells (λ s. join (map (chain_line s) (ordered_clocks o))) w₂ w₃
+    → Spells (λ s. join (map (fault_line s l.told.number) (clock_faults (findings_in l.table.now l.told.clocked.findings)))) w₃ w₄
+    → Wrote (listed l n) w.text.now w₄.text.now
 unfolding node_listing node_clocks
-node-put l o n h e u v x y =
+node-put l o n {w} {w₄ = w₄} same h e u v x y =
     let letters = letters_in l.spelling in
     let told = l.told in
     let k = n.clocking in
+    let clocks = map (λ (c : Clocked). c.clock) k.equations in
     let ch : ordered_clocks o ≡ chains letters k.findings = e ∙ ap (chains letters) h.tells.all in
     let all : length k.equations ≡ told.layout.equations.count = node-many n.node k h.formed ∙ sym h.laid.equations.many in
-    let many : told.layout.equations.count ≡ length (map (λ (c : Clocked). c.clock) k.equations) = sym all ∙ sym (length-map k.equations (λ (c : Clocked). c.clock)) in
-    let few : o.count ≡ length (chains letters k.findings) = sym (picked-length (row_of o.rows.now) o.order.now 0 o.count) ∙ ap length ch in
-    wrote_then
-    (put-listing letters n.node.name k.passes (map (λ (c : Clocked). c.clock) k.equations) (chains letters k.findings)
-    (wrote_as (head-same letters _ _ _ _ _ _ _ _ h.laid.named many (sym h.tells.made) few) u)
+    let many : told.layout.equations.count ≡ length clocks = sym all ∙ sym (length-map k.equations (λ (c : Clocked). c.clock)) in
+    let few : length o.order.now ≡ length (chains letters k.findings) = sym (length-map o.order.now (row_of o.rows.now)) ∙ ap length ch in
+    let whole =
+    spells_then
+    (listing_spelled n.node.name k.passes clocks (chains letters k.findings)
+    (spells_as (λ s. head-same s _ _ _ _ _ _ _ _ h.laid.named many (sym h.tells.made) few) u)
     (v told.names k.equations told.layout.equations.end h.tells.on all)
-    (wrote_as (ap (λ (l : List Clock). join (map (chain_line letters) l)) ch) x))
-    (wrote_as (ap (λ (l : List Finding). join (map (fault_line letters told.number) (clock_faults l))) h.tells.all) y)
+    (spells_as (λ s. ap (λ (l : List Clock). join (map (chain_line s) l)) ch) x))
+    (spells_as (λ s. ap (λ (l : List Finding). join (map (fault_line s told.number) (clock_faults l))) h.tells.all) y) in
+    rw same at whole.wrote

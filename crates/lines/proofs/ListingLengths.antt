@@ -24,7 +24,7 @@ use Rattle.clock_tables.proofs.FlatLaws.{depth-in}
 use Rattle.findings.specs.Findings.{fault_as, fault_in, findings_from, findings_in}
 use Rattle.findings.proofs.Laws.{length_from}
 use Rattle.spelling.specs.Places.{letters_in}
-use Rattle.chain_order.specs.Order.{row_of, picked}
+use Rattle.chain_order.specs.Order.{row_of}
 use Rattle.skeleton.specs.Sites.{EquationsOn}
 use Rattle.spelling.specs.Writing.{farthest}
 use Rattle.lines.specs.Pieces.{head_line, equation_line, chain_line}
@@ -94,10 +94,10 @@ module _ (M : ℕ) (ts : List TagValue) where
   few-equations k p es q g = omega (arith, times-many k p es q g, (times-keeps (equation M) (keeps _ (equation-grows M)) k ts p es q g).1)
 
 -- ---- how long
-low-picked : (rows o : List ℕ) (i n : ℕ) → Low (picked (row_of rows) o i n)
-unfolding Low picked
-low-picked rows o i zero = tt
-low-picked rows o i (suc n) = (omega (arith, depth-in rows (17 * get_or o i 0)), low-picked rows o (i + 1) n)
+low-rows : (rows o : List ℕ) → Low (map (row_of rows) o)
+unfolding Low
+low-rows rows [] = tt
+low-rows rows (x ∷ o) = (omega (arith, depth-in rows (17 * x)), low-rows rows o)
 
 shallow-in : (k x w : ℕ) (c d : Clock) → depth c ≤ 8 → depth d ≤ 8 → IsShallow (fault_as k x w c d)
 unfolding IsShallow
@@ -185,11 +185,11 @@ node-fits l o n h e small =
     let values = l.source.values.now in
     let short : (j : ℕ) → length (letters j) ≤ 16384 = λ j. omega (arith, name-length l.spelling.starts.now l.spelling.letters.now j, small.letters) in
     let b : Low (map (λ (c : Clocked). c.clock) k.equations) = low-read told.names tags values l.sites.now k.equations told.layout.equations.at told.layout.equations.end h.tells.on in
-    let c : Low (chains letters (findings_in t told.findings)) = rw e at (low-picked o.rows.now o.order.now 0 o.count) in
+    let c : Low (chains letters (findings_in t told.clocked.findings)) = rw e at (low-rows o.rows.now o.order.now) in
     let d : length (map (λ (c : Clocked). c.clock) k.equations) ≤ 4096 =
     omega (arith, length-map k.equations (λ (c : Clocked). c.clock), node-many n.node k h.formed, h.laid.equations.many, few-equations told.names (tokens tags values) told.layout.equations.count told.layout.equations.at n.node.equations told.layout.equations.end h.laid.equations.items, tokens-length tags values l.source.same_length, small.tokens) in
-    let g : length (chains letters (findings_in t told.findings)) ≤ 4096 = omega (arith, few-chains letters (findings_in t told.findings), length_from t 0 told.findings, small.findings) in
-    let r = parts-fit letters short told.number n.node.name k.passes told.findings (map (λ (c : Clocked). c.clock) k.equations) (chains letters (findings_in t told.findings)) t b c d g small.findings in
+    let g : length (chains letters (findings_in t told.clocked.findings)) ≤ 4096 = omega (arith, few-chains letters (findings_in t told.clocked.findings), length_from t 0 told.clocked.findings, small.findings) in
+    let r = parts-fit letters short told.number n.node.name k.passes told.clocked.findings (map (λ (c : Clocked). c.clock) k.equations) (chains letters (findings_in t told.clocked.findings)) t b c d g small.findings in
     rw h.tells.all at r
 
 pub few : (n : ℕ) → n ≤ 4096 → n < 4294967296

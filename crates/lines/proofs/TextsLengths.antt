@@ -133,10 +133,10 @@ join-length b (l ∷ ls) h = omega (arith, h.0, join-length b ls h.1, length-app
 -- clocks by value have at most eight conditions
 shallow-clock : (f : ClockFault) → IsShallow (clock_fault_of f)
 unfolding IsShallow
-shallow-clock (ClockFault.LeftElsewhere x c d p) = (value-depth c, value-depth d)
-shallow-clock (ClockFault.UsedElsewhere x c d) = (value-depth c, value-depth d)
+shallow-clock (ClockFault.LeftElsewhere e p) = (value-depth e.on, value-depth e.expected)
+shallow-clock (ClockFault.UsedElsewhere e) = (value-depth e.on, value-depth e.expected)
 shallow-clock (ClockFault.WhenElsewhere k d) = value-depth d
-shallow-clock (ClockFault.ClockNameElsewhere x c d) = (value-depth c, value-depth d)
+shallow-clock (ClockFault.ClockNameElsewhere e) = (value-depth e.on, value-depth e.expected)
 
 pub shallow-of : (f : value.Fault) → IsShallow (fault_of f)
 unfolding IsShallow

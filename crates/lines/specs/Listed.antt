@@ -23,13 +23,13 @@ pub record Lists (l : ListedNode) (n : ClockedNode) : Type 0 where
 
 -- these are its chains, in order
 abbrev pub AreChains : ListedNode → OrderedClocks → Type 0
-AreChains l o = ordered_clocks o ≡ chains (letters_in l.spelling) (findings_in l.table.now l.told.findings)
+AreChains l o = ordered_clocks o ≡ chains (letters_in l.spelling) (findings_in l.table.now l.told.clocked.findings)
 
 -- it has no more letters, tokens and findings than a sheet may have
 pub record IsSmall (l : ListedNode) : Type 0 where
   pub letters : length l.spelling.letters.now ≤ 16384
   pub tokens : length l.source.tags.now ≤ 4096
-  pub findings : l.told.findings ≤ 4096
+  pub findings : l.told.clocked.findings ≤ 4096
 
 -- its listing
 abbrev pub listed : ListedNode → ClockedNode → Letters

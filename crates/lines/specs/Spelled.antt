@@ -10,3 +10,9 @@ pub record Spells (f : (ℕ → Letters) → Letters) (w w₁ : NamedText) : Typ
   pub names : w₁.spelling ≡ w.spelling
   pub same : w₁.text.ghost_name ≡ w.text.ghost_name
   pub wrote : Wrote (f (letters_in w.spelling)) w.text.now w₁.text.now
+
+-- something was put, and it still has these names and the lent text
+pub record Stays (w w₁ : NamedText) : Type 0 where
+  pub names : w₁.spelling ≡ w.spelling
+  pub same : w₁.text.ghost_name ≡ w.text.ghost_name
+  pub out : w₁.text.now.out.ghost_name ≡ w.text.now.out.ghost_name

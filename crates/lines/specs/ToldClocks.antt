@@ -7,7 +7,7 @@ use Rattle.lines.specs.declared.ToldNode.{ToldNode}
 
 -- a node's clocks: the number of passes, the findings in one table, the equations' clocks in the rows of their counts in another
 pub record ToldClocks (gs vs t sites : List ℕ) (told : ToldNode) (k : Clocking) : Type 0 where
-  pub made : k.passes ≡ told.passes
-  pub room : 38 * told.findings ≤ length t
-  pub all : findings_in t told.findings ≡ k.findings
+  pub made : k.passes ≡ told.clocked.passes
+  pub room : 38 * told.clocked.findings ≤ length t
+  pub all : findings_in t told.clocked.findings ≡ k.findings
   pub on : EquationsOn told.names gs vs sites k.equations told.layout.equations.at told.layout.equations.end

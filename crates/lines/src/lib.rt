@@ -1,8 +1,8 @@
 // Texts of faults and lines of a listing, and a node's listing.
 #![tactic(auto)]
 
-ghost use Rattle.std.specs.Prelude.{◌∷◌, ◌++◌, List, map, ◌≤◌, ◌<◌, ℕ, ◌+◌, ◌*◌, min, length, ◌≡◌};
-ghost use Rattle.definitions.specs.Lists.{Letters, bytes, decimal, join, numbered};
+ghost use Rattle.std.specs.Prelude.{◌∷◌, ◌++◌, List, map, ◌≤◌, ◌<◌, ℕ, ◌+◌, ◌*◌, length, ◌≡◌};
+ghost use Rattle.definitions.specs.Lists.{Letters, bytes, join, numbered};
 ghost use Rattle.definitions.specs.Texts.{when_text, test_sign, quoted, condition_text, clock_text, fault_text, clock_key, fault_line};
 ghost use Rattle.clock_tables.specs.Value.{clock_at, value_of};
 ghost use Rattle.findings.specs.Value.{clock_fault_of, fault_of};
@@ -11,7 +11,7 @@ ghost use Rattle.spelling.specs.Writing.{Put, farthest};
 ghost use Rattle.spelling.specs.Written.{Wrote};
 ghost use Rattle.lines.specs.Pieces.{words, on_another, head_line, equation_line, chain_line};
 ghost use Rattle.lines.specs.Lending.{Gives, PutsFront};
-ghost use Rattle.lines.specs.Spelled.{Spells};
+ghost use Rattle.lines.specs.Spelled.{Spells, Stays};
 ghost use Rattle.definitions.specs.InferClocks.{Clocked, clock_faults, left_elsewhere, used_elsewhere, when_elsewhere, clock_name_elsewhere, undeclared, no_default, no_output_default};
 ghost use Rattle.definitions.specs.Output.{ClockedNode};
 ghost use Rattle.findings.specs.Findings.{findings_in};
@@ -22,8 +22,9 @@ ghost use Rattle.lines.specs.Listed.{Lists, AreChains, IsSmall, listed};
 use chain_order::OrderedClocks;
 use clock_tables::Clock;
 use definitions::{Condition, Refusal, Test};
-use findings::{ClockFault, Fault, Finding, FindingList};
+use findings::{ClockFault, Elsewhere, Fault, Finding, FindingList};
 use grammar::Source;
+use infer_clocks::NodeClocked;
 use layout::NodeLayout;
 use spelling::{Spelling, TextWriter};
 
@@ -50,11 +51,11 @@ fn put_sign(text: &mut TextWriter<'_>, test: Test)
 }
 
 // A text, and the spelling of the names in it.
-// Stays (no plainer): no `write!`, which puts `str`s alone: that letters are text is known where a sheet is checked, and not of these bytes.
+// Stays (no plainer): no `write!`, which puts `str`s alone: that letters are text is known where a sheet is checked, not of these bytes.
 #[derive(Drop)]
-struct NamedText<'a, 'b> {
-    text: &'a mut TextWriter<'b>,
-    spelling: Spelling<'a>,
+pub struct NamedText<'a, 'b> {
+    pub text: &'a mut TextWriter<'b>,
+    pub spelling: Spelling<'a>,
 }
 
 impl NamedText<'_, '_> {
@@ -101,22 +102,21 @@ impl NamedText<'_, '_> {
     }
 
     // That a name is on one clock, and, behind the letters between, another clock.
-    fn put_on_another(&mut self, name: u32, on: Clock, between: &[u8], expected: Clock)
-        ensures { Spells (λ n. on_another n name (value_of on) between.now (value_of expected)) self.old self.new }
+    fn put_on_another(&mut self, elsewhere: Elsewhere, between: &[u8])
+        ensures { Spells (λ n. on_another n elsewhere.name (value_of elsewhere.on) between.now (value_of elsewhere.expected)) self.old self.new }
     {
-        self.put_quoted(name);
+        self.put_quoted(elsewhere.name);
         self.text.put_all(b" is on ");
-        self.put_clock_text(on);
+        self.put_clock_text(elsewhere.on);
         self.text.put_all(between);
-        self.put_clock_text(expected);
+        self.put_clock_text(elsewhere.expected);
     }
 
     // Fault 1: a left name on another clock than its equation.
-    fn put_left_elsewhere(&mut self, name: u32, on: Clock, expected: Clock, port: bool)
-        ensures { Spells (λ n. fault_text n (left_elsewhere name (value_of on) (value_of expected) port)) self.old self.new }
+    fn put_left_elsewhere(&mut self, elsewhere: Elsewhere, port: bool)
+        ensures { Spells (λ n. fault_text n (left_elsewhere elsewhere.name (value_of elsewhere.on) (value_of elsewhere.expected) port)) self.old self.new }
     {
-        let between = b" but its defining equation runs on ";
-        self.put_on_another(name, on, between, expected);
+        self.put_on_another(elsewhere, b" but its defining equation runs on ");
         if port {
             self.text.put_all(
                 b" \xe2\x80\x94 inputs and outputs are always base-clocked; use merge(...) to bring the stream back up",
@@ -125,11 +125,10 @@ impl NamedText<'_, '_> {
     }
 
     // Fault 2: a name used on another clock.
-    fn put_used_elsewhere(&mut self, name: u32, on: Clock, expected: Clock)
-        ensures { Spells (λ n. fault_text n (used_elsewhere name (value_of on) (value_of expected))) self.old self.new }
+    fn put_used_elsewhere(&mut self, elsewhere: Elsewhere)
+        ensures { Spells (λ n. fault_text n (used_elsewhere elsewhere.name (value_of elsewhere.on) (value_of elsewhere.expected))) self.old self.new }
     {
-        let between = b" but is used here on ";
-        self.put_on_another(name, on, between, expected);
+        self.put_on_another(elsewhere, b" but is used here on ");
         self.text.put_all(b" \xe2\x80\x94 sample it with `when` or join it with `merge` first");
     }
 
@@ -146,12 +145,11 @@ impl NamedText<'_, '_> {
     }
 
     // Fault 4: a clock name on another clock.
-    fn put_clock_name_elsewhere(&mut self, name: u32, on: Clock, expected: Clock)
-        ensures { Spells (λ n. fault_text n (clock_name_elsewhere name (value_of on) (value_of expected))) self.old self.new }
+    fn put_clock_name_elsewhere(&mut self, elsewhere: Elsewhere)
+        ensures { Spells (λ n. fault_text n (clock_name_elsewhere elsewhere.name (value_of elsewhere.on) (value_of elsewhere.expected))) self.old self.new }
     {
         self.text.put_all(b"clock variable ");
-        let between = b" but samples a stream on ";
-        self.put_on_another(name, on, between, expected);
+        self.put_on_another(elsewhere, b" but samples a stream on ");
     }
 
     // The text of a clock fault.
@@ -159,22 +157,15 @@ impl NamedText<'_, '_> {
         ensures { Spells (λ n. fault_text n (clock_fault_of fault)) self.old self.new }
     {
         match fault {
-            ClockFault::LeftElsewhere {
-                name,
-                on,
-                expected,
-                port,
-            } => self.put_left_elsewhere(name, on, expected, port),
-            ClockFault::UsedElsewhere { name, on, expected } => {
-                self.put_used_elsewhere(name, on, expected)
+            ClockFault::LeftElsewhere { elsewhere, port } => {
+                self.put_left_elsewhere(elsewhere, port)
             }
+            ClockFault::UsedElsewhere(elsewhere) => self.put_used_elsewhere(elsewhere),
             ClockFault::WhenElsewhere {
                 condition,
                 expected,
             } => self.put_when_elsewhere(condition, expected),
-            ClockFault::ClockNameElsewhere { name, on, expected } => {
-                self.put_clock_name_elsewhere(name, on, expected)
-            }
+            ClockFault::ClockNameElsewhere(elsewhere) => self.put_clock_name_elsewhere(elsewhere),
         }
     }
 
@@ -240,63 +231,59 @@ impl NamedText<'_, '_> {
             self.put_key_part(*k);
         }
     }
-}
 
-// A fault of a node in a line of its own.
-pub fn put_fault_line(
-    text: &mut TextWriter<'_>,
-    spelling: Spelling<'_>,
-    node: usize,
-    equation: usize,
-    fault: Fault,
-)
-    ensures { Wrote (fault_line (letters_in spelling.entry) node (record { equation = equation; fault = fault_of fault })) text.old text.new }
-{
-    let number = findings::fault_number(fault) as usize;
-    text.put_all(b"fault");
-    text.put_number(node);
-    text.put_number(number);
-    text.put_number(equation);
-    text.put(b' ');
-    NamedText { text, spelling }.put_fault_text(fault);
-    text.put(b'\n');
-}
+    // A fault of a node in a line of its own.
+    pub fn put_fault_line(&mut self, node: usize, equation: usize, fault: Fault)
+        ensures { Spells (λ n. fault_line n node (record { equation = equation; fault = fault_of fault })) self.old self.new }
+    {
+        let number = findings::fault_number(fault) as usize;
+        self.text.put_all(b"fault");
+        self.text.put_number(node);
+        self.text.put_number(number);
+        self.text.put_number(equation);
+        self.text.put(b' ');
+        self.put_fault_text(fault);
+        self.text.put(b'\n');
+    }
 
-// The first line of a listing: a node's name, and how many equations, passes and chains it has.
-pub fn put_head(
-    text: &mut TextWriter<'_>,
-    spelling: Spelling<'_>,
-    name: u32,
-    equations: usize,
-    passes: usize,
-    chains: usize,
-)
-    ensures { Wrote (head_line (letters_in spelling.entry) name equations passes chains) text.old text.new }
-{
-    text.put_name(spelling, name);
-    text.put_number(equations);
-    text.put_number(passes);
-    text.put_number(chains);
-    text.put(b'\n');
-}
+    // The first line of a listing: a node's name, and how many equations, passes and chains it has.
+    pub fn put_head(&mut self, name: u32, equations: usize, passes: usize, chains: usize)
+        ensures { Spells (λ n. head_line n name equations passes chains) self.old self.new }
+    {
+        self.text.put_name(self.spelling, name);
+        self.text.put_number(equations);
+        self.text.put_number(passes);
+        self.text.put_number(chains);
+        self.text.put(b'\n');
+    }
 
-// The line of equation i, with its clock.
-pub fn put_equation_line(text: &mut TextWriter<'_>, spelling: Spelling<'_>, i: usize, c: Clock)
-    ensures { Wrote (equation_line (letters_in spelling.entry) i (value_of c)) text.old text.new }
-{
-    text.put_decimal(i as u64);
-    text.put(b' ');
-    NamedText { text, spelling }.put_clock_key(c);
-    text.put(b'\n');
-}
+    // The line of equation i, with its clock.
+    pub fn put_equation_line(&mut self, i: usize, c: Clock)
+        ensures { Spells (λ n. equation_line n i (value_of c)) self.old self.new }
+    {
+        self.text.put_decimal(i as u64);
+        self.text.put(b' ');
+        self.put_clock_key(c);
+        self.text.put(b'\n');
+    }
 
-// The line of a chain.
-pub fn put_chain_line(text: &mut TextWriter<'_>, spelling: Spelling<'_>, c: Clock)
-    ensures { Wrote (chain_line (letters_in spelling.entry) (value_of c)) text.old text.new }
-{
-    text.put_all(b"chain ");
-    NamedText { text, spelling }.put_clock_key(c);
-    text.put(b'\n');
+    // The line of a chain.
+    pub fn put_chain_line(&mut self, c: Clock)
+        ensures { Spells (λ n. chain_line n (value_of c)) self.old self.new }
+    {
+        self.text.put_all(b"chain ");
+        self.put_clock_key(c);
+        self.text.put(b'\n');
+    }
+
+    // A line for each of some chains.
+    fn put_chains(&mut self, ordered: &OrderedClocks<'_>)
+        ensures { Spells (λ n. join (map (chain_line n) (ordered_clocks ordered.now))) self.old self.new }
+    {
+        for row in ordered.order {
+            self.put_chain_line(ordered.get(*row));
+        }
+    }
 }
 
 // The text of a fault over the front of the lent bytes, as far as they reach: how long it is.
@@ -336,14 +323,13 @@ pub fn text_into(out: &mut [u8], spelling: Spelling<'_>, fault: Fault) -> Result
 
 // ---- A node's clock listing put at a place of lent bytes.
 
-// A node: its layout and its number, how many names its sheet has, and how many passes and findings clock inference told.
+// A node: its layout and its number, how many names its sheet has, and what clock inference told of it.
 #[derive(Clone, Copy)]
 pub struct ToldNode {
     pub layout: NodeLayout,
     pub number: usize,
     pub names: u32,
-    pub passes: usize,
-    pub findings: usize,
+    pub clocked: NodeClocked,
 }
 
 // A clocked node to be listed: the names and tokens of its sheet, what was told of it, the table of what was found, and the clock of each
@@ -353,60 +339,47 @@ pub struct ListedNode<'a> {
     pub spelling: Spelling<'a>,
     pub source: Source<'a>,
     pub told: ToldNode,
-    // Stays (no plainer): apart from its count, which clocking tells while it still writes the table; `findings` has both.
+    // Stays (no plainer): its count is told with the node's passes, by what writes the table; `findings` puts both together.
     pub table: &'a [u32],
     pub sites: &'a [u32],
-}
-
-// A line for each of some chains.
-fn put_chains(text: &mut TextWriter<'_>, spelling: Spelling<'_>, ordered: &OrderedClocks<'_>)
-    ensures { Wrote (join (map (chain_line (letters_in spelling.entry)) (ordered_clocks ordered.now))) text.old text.new }
-{
-    for i in 0..ordered.count {
-        put_chain_line(text, spelling, ordered.get(i));
-    }
 }
 
 impl ListedNode<'_> {
     // What was found in it.
     pub fn findings(&self) -> FindingList<'_>
         ensures words_value { result.words.now ≡ self.now.table.now }
-        ensures count_value { result.count ≡ self.now.told.findings }
+        ensures count_value { result.count ≡ self.now.told.clocked.findings }
     {
         FindingList {
             words: self.table,
-            count: self.told.findings,
+            count: self.told.clocked.findings,
         }
     }
 
     // A line for each of its equations.
-    fn put_equations(&self, text: &mut TextWriter<'_>)
-        ensures same_reference { text.new.out.ghost_name ≡ text.old.out.ghost_name }
-        ensures wrote { (M : ℕ) (cs : List Clocked) (q : ℕ) → EquationsOn M self.now.source.tags.now self.now.source.values.now self.now.sites.now cs self.now.told.layout.equations.at q → length cs ≡ self.now.told.layout.equations.count → Wrote (join (numbered (equation_line (letters_in self.now.spelling)) 0 (map (λ c. c.clock) cs))) text.old text.new }
+    fn put_equations(&self, lines: &mut NamedText<'_, '_>)
+        ensures stays { Stays lines.old lines.new }
+        ensures spelled { (M : ℕ) (cs : List Clocked) (q : ℕ) → EquationsOn M self.now.source.tags.now self.now.source.values.now self.now.sites.now cs self.now.told.layout.equations.at q → length cs ≡ self.now.told.layout.equations.count → Spells (λ n. join (numbered (equation_line n) 0 (map (λ c. c.clock) cs))) lines.old lines.new }
     {
         let s = self.told.layout.equations;
         let mut place = s.at;
         for i in 0..s.count as usize {
             let c = clock_tables::get(self.sites, place);
-            put_equation_line(text, self.spelling, i, c);
+            lines.put_equation_line(i, c);
             place = layout::equation_end(&self.source, place);
         }
     }
 
     // A line for each of its clock faults.
-    fn put_faults(&self, text: &mut TextWriter<'_>)
-        ensures { Wrote (join (map (fault_line (letters_in self.now.spelling) self.now.told.number) (clock_faults (findings_in self.now.table.now self.now.told.findings)))) text.old text.new }
+    // Stays (no plainer): an iterator of findings asks for laws of its own, for this walk and those of `query` and `findings`.
+    fn put_faults(&self, lines: &mut NamedText<'_, '_>)
+        ensures { Spells (λ n. join (map (fault_line n self.now.told.number) (clock_faults (findings_in self.now.table.now self.now.told.clocked.findings)))) lines.old lines.new }
     {
         let found = self.findings();
         for i in 0..found.count {
             if let Finding::Fault { equation, fault } = found.finding_at(i) {
-                put_fault_line(
-                    text,
-                    self.spelling,
-                    self.told.number,
-                    equation as usize,
-                    Fault::Clock(fault),
-                );
+                let fault = Fault::Clock(fault);
+                lines.put_fault_line(self.told.number, equation as usize, fault);
             }
         }
     }
@@ -416,20 +389,20 @@ impl ListedNode<'_> {
         ensures same_reference { text.new.out.ghost_name ≡ text.old.out.ghost_name }
         ensures wrote { (n : ClockedNode) → Lists self.now n → AreChains self.now ordered.now → Wrote (listed self.now n) text.old text.new }
     {
-        let l = self.told.layout;
-        let equations = l.equations.count as usize;
-        let passes = self.told.passes;
-        put_head(
+        let ToldNode {
+            layout,
+            clocked,
+            ..
+        } = self.told;
+        let mut lines = NamedText {
             text,
-            self.spelling,
-            l.name,
-            equations,
-            passes,
-            ordered.count,
-        );
-        self.put_equations(text);
-        put_chains(text, self.spelling, ordered);
-        self.put_faults(text);
+            spelling: self.spelling,
+        };
+        let equations = layout.equations.count as usize;
+        lines.put_head(layout.name, equations, clocked.passes, ordered.order.len());
+        self.put_equations(&mut lines);
+        lines.put_chains(ordered);
+        self.put_faults(&mut lines);
     }
 
     // The same over the front of the lent bytes, as far as they reach: how long it is.
@@ -448,7 +421,7 @@ impl ListedNode<'_> {
         rows: &mut [u32],
         chain: &mut [u32],
     ) -> Result<usize, Refusal>
-        ensures { (n : ClockedNode) → Lists self.now n → 17 * self.now.told.findings ≤ length rows.old → self.now.told.findings ≤ length chain.old → IsSmall self.now → Gives (listed self.now n) out.old result out.new }
+        ensures { (n : ClockedNode) → Lists self.now n → 17 * self.now.told.clocked.findings ≤ length rows.old → self.now.told.clocked.findings ≤ length chain.old → IsSmall self.now → Gives (listed self.now n) out.old result out.new }
     {
         let ordered = infer_clocks::chain_rows(self.spelling, self.findings(), rows, chain);
         lend_put(out, |bytes: &mut [u8]| self.put(bytes, &ordered))

@@ -21,6 +21,7 @@ ghost use Rattle.listings.specs.Answers.{clocks_of, listing_of, nodes_listed, li
 
 use definitions::{FaultRecord, Refusal};
 use grammar::Source;
+use layout::Span;
 use lines::{ListedNode, ToldNode};
 use query::NodeCounts;
 use spelling::Spelling;
@@ -30,7 +31,7 @@ use workspace::Working;
 const ASIDE: usize = 65536;
 
 // The clocks and faults of a node that was clocked in these tables, over three lent lists.
-// Stays (proof): of a table that is lent from behind `Working` into a struct, no length is known when it comes back; here and below.
+// Stays (proof): here and below, tried with `node` made in `clocks_in`: a field's length is untold once it was lent into a struct.
 fn write_clocked(
     spelling: Spelling<'_>,
     source: &Source<'_>,
@@ -66,7 +67,7 @@ fn put_clocked(
     chain: &mut [u32],
     sites: &mut [u32],
 ) -> Result<usize, Refusal>
-    ensures { (n : ClockedNode) → NodeWithClocks source.now.tags.now source.now.values.now table.old sites.old told n → 17 * told.findings ≤ length rows.old → told.findings ≤ length chain.old → length spelling.entry.letters.now ≤ 16384 → length source.now.tags.now ≤ 4096 → told.findings ≤ 4096 → Gives (node_listing (letters_in spelling.entry) told.number n) out.old result out.new }
+    ensures { (n : ClockedNode) → NodeWithClocks source.now.tags.now source.now.values.now table.old sites.old told n → 17 * told.clocked.findings ≤ length rows.old → told.clocked.findings ≤ length chain.old → length spelling.entry.letters.now ≤ 16384 → length source.now.tags.now ≤ 4096 → told.clocked.findings ≤ 4096 → Gives (node_listing (letters_in spelling.entry) told.number n) out.old result out.new }
 {
     let node = ListedNode {
         spelling,
@@ -160,20 +161,19 @@ pub fn lend_put<F: Fn(&mut [u8], &mut Working<'_>) -> Result<usize, Refusal>>(
     put(out, working)
 }
 
-// The listings of n nodes, of which the first stands at `from`, over the front of the lent bytes, if these are enough.
+// The listings of these nodes, over the front of the lent bytes, if these are enough.
 fn listings_lent(
     out: &mut [u8],
     spelling: Spelling<'_>,
     source: &Source<'_>,
-    n: u32,
-    from: usize,
+    nodes: Span,
     working: &mut Working<'_>,
 ) -> Result<usize, Refusal>
     ensures same_room { SameRoom working.old working.new }
-    ensures given { (ns : List Node) (q : ℕ) → times n (node source.now.names) (tokens_of source.now) from ≡ got ns q → RoomToList source.now.names (length source.now.tags.now) working.old → length spelling.entry.letters.now ≤ 16384 → length source.now.tags.now ≤ 4096 → ListingGiven (nodes_listed (letters_in spelling.entry) ns (length out.old)) out.old out.new result }
+    ensures given { (ns : List Node) (q : ℕ) → times nodes.count (node source.now.names) (tokens_of source.now) nodes.at ≡ got ns q → RoomToList source.now.names (length source.now.tags.now) working.old → length spelling.entry.letters.now ≤ 16384 → length source.now.tags.now ≤ 4096 → ListingGiven (nodes_listed (letters_in spelling.entry) ns (length out.old)) out.old out.new result }
 {
     let put = |bytes: &mut [u8], tables: &mut Working<'_>| query::put_listings(
-        bytes, spelling, source, n, from, tables,
+        bytes, spelling, source, nodes, tables,
     );
     lend_put(out, &mut [0u8; ASIDE], working, put)
 }
@@ -196,5 +196,5 @@ pub fn listings_in(
     if nodes.count == 1 {
         return listing_in(out, spelling, source, 0, working);
     }
-    listings_lent(out, spelling, source, nodes.count, nodes.at, working)
+    listings_lent(out, spelling, source, nodes, working)
 }

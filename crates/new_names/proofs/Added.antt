@@ -7,7 +7,7 @@ use mathlib.Core.List.{List, [], ◌∷◌, ◌++◌, map, map-append, map-map}
 use native.Mathlib.Nat.{zero-add}
 use native.Mathlib.Numerals.{add-one}
 use native.Mathlib.Omega.{arith}
-use lib.ListN.{length, get_or, take, set, replicate, length-replicate, length-map, get_or-append}
+use lib.ListN.{length, get_or, take, set, length-map, get_or-append}
 use lib.Seq.{get_or-take, length-take-le}
 use borrow.Author.Tests.{leb-true, leb-false}
 use Rattle.definitions.specs.Lists.{choose, any, place_by, up_from, Letters, decimal, bytes}
@@ -30,7 +30,7 @@ use Rattle.stateless.specs.Need.{Needs}
 use Rattle.stateless.specs.Locals.{ids_in, Agree}
 use Rattle.stateless.specs.Rewritten.{new_names, names_by}
 use Rattle.new_names.specs.declared.NodeNeeds.{NodeNeeds}
-use Rattle.new_names.specs.declared.NodeNames.{NodeNames}
+use Rattle.new_names.specs.declared.node_names.NodeNames.{NodeNames}
 use Rattle.new_names.specs.Filled.{Filled}
 use Rattle.new_names.specs.Names.{name_of, numbered_name, ordered_names, counted_names, ids_of, Numbered, ChainOrdered}
 
@@ -107,13 +107,13 @@ module _ (f : ℕ → ℕ) (out₀ : List ℕ) where
       sym (get_or-take n out j 0 u) ∙ (ap (λ (l : List ℕ). get_or l j 0) t ∙ (up_at f 0 0 n j u ∙ ap f z))
 
 -- the ids of so many names of a stem, by the numbers that a table has for them
-pub ids-cut : (all : List Letters) (stem : Stem) (numbers cut : List ℕ) (n : ℕ) → cut ≡ take n numbers → length cut ≡ min n 1024
-    → over_at 0 (ids_of all stem cut (length cut)) (replicate 1024 0) ≡ over_at 0 (ids_of all stem numbers n) (replicate 1024 0)
-ids-cut all stem numbers cut n e k =
+pub ids-cut : (all : List Letters) (stem : Stem) (numbers cut out₀ : List ℕ) (n : ℕ) → length out₀ ≡ 1024 → cut ≡ take n numbers → length cut ≡ min n 1024
+    → over_at 0 (ids_of all stem cut (length cut)) out₀ ≡ over_at 0 (ids_of all stem numbers n) out₀
+ids-cut all stem numbers cut out₀ n room e k =
     let f : (i : ℕ) → 0 ≤ i → i < 0 + length cut → id_of all (numbered_name stem cut i) ≡ id_of all (numbered_name stem numbers i) =
     λ i u v. ap (λ (j : ℕ). id_of all (stem_letters stem ++ decimal j)) (ap (λ (l : List ℕ). get_or l i 0) e ∙ get_or-take n numbers i 0 (omega (arith, v, k))) in
-    filled-min (λ i. id_of all (numbered_name stem numbers i)) (replicate 1024 0) (length cut) n _ (k ∙ ap (min n) (sym (length-replicate {A = ℕ} 1024 0)))
-    (ap (λ (l : List ℕ). over_at 0 l (replicate 1024 0)) (up_same (λ i. id_of all (numbered_name stem cut i)) (λ i. id_of all (numbered_name stem numbers i)) 0 (length cut) f))
+    filled-min (λ i. id_of all (numbered_name stem numbers i)) out₀ (length cut) n _ (k ∙ ap (min n) (sym room))
+    (ap (λ (l : List ℕ). over_at 0 l out₀) (up_same (λ i. id_of all (numbered_name stem cut i)) (λ i. id_of all (numbered_name stem numbers i)) 0 (length cut) f))
 
 -- the names of so many numbers
 names-cut : (stem : Stem) (numbers cut : List ℕ) (n : ℕ) → cut ≡ take n numbers → length cut ≡ min n 1024 → n ≤ 1024 → counted_names stem cut (length cut) ≡ counted_names stem numbers n
@@ -131,11 +131,11 @@ module _ (names : List Letters) (node : Node) (stem : Stem) where
       g ∙ ap (λ (l : List Letters). new_numbers l stem n) a
 
   -- a table that has them in front has them
-  pub numbers-front : (part rest out : List ℕ) (n : ℕ) → n ≤ length out → part ≡ new_numbers (taken_of names node) stem (length (take n out)) → Numbered names node stem (part ++ rest) n
-  numbers-front part rest out n room e =
+  pub numbers-front : (part rest out : List ℕ) (n m : ℕ) → m ≡ n → n ≤ length out → part ≡ new_numbers (taken_of names node) stem (length (take m out)) → Numbered names node stem (part ++ rest) n
+  numbers-front part rest out n m same room e =
       let f : ℕ → ℕ = new_number (taken_of names node) stem in
-      let g : part ≡ map f (up_from 0 n) = e ∙ ap (new_numbers (taken_of names node) stem) (length-take-le n out room) in
-      let m : length part ≡ n = ap length g ∙ (length-map (up_from 0 n) f ∙ up-length 0 n) in
+      let g : part ≡ map f (up_from 0 n) = e ∙ ap (new_numbers (taken_of names node) stem) (ap (λ (k : ℕ). length (take k out)) same ∙ length-take-le n out room) in
+      let many : length part ≡ n = ap length g ∙ (length-map (up_from 0 n) f ∙ up-length 0 n) in
       record { same = λ j u. let z : 0 + j ≡ j = omega arith in get_or-append part rest 0 j (omega arith) ∙ (ap (λ (l : List ℕ). get_or l j 0) g ∙ (up_at f 0 0 n j u ∙ ap f z)) }
 
   -- a new name is its stem with its number

@@ -1,83 +1,67 @@
 -- The ids that a node declares, put one by one.
-use Rattle.std.specs.Prelude as code
-use Rattle.std.specs.Prelude.{None, Some}
-use Rattle.std.specs.Option.{IsSomeAnd}
 use Prim.Native.Nat.{ℕ, ◌+◌, ◌-◌, ◌≤◌, ◌<◌}
-use mathlib.Core.Path.{◌≡◌, refl, sym, ap, ◌∙◌, subst}
+use mathlib.Core.Path.{◌≡◌, refl, sym, ap, ◌∙◌}
 use mathlib.Core.List.{List, [], ◌∷◌, ◌++◌, map, map-append, append_assoc, append-nil}
 use native.Mathlib.Omega.{arith}
 use lib.ListN.{length, take, set, length-append, length-map}
 use Rattle.definitions.specs.Tokens.{TagValue}
 use Rattle.definitions.specs.Tree.{Declared, Node}
-use Rattle.definitions.specs.Reading.{got, times}
+use Rattle.definitions.specs.Reading.{got}
 use Rattle.definitions.specs.Grammar.{count, declaration, declarations, node}
 use Rattle.definitions.specs.Declock.{declared}
 use Rattle.grammar.proofs.Laws.{times-length}
 use Rattle.grammar.proofs.Parts.{counted-within}
-use Rattle.grammar.proofs.Got.{times-nil, times-cons, declarations-got, node-got}
+use Rattle.grammar.proofs.Got.{declarations-got, node-got}
 use Rattle.layout.specs.declared.DeclarationLayout.{DeclarationLayout}
-use Rattle.layout.specs.Laid.{LaidDeclaration}
+use Rattle.layout.specs.Walk.{LaidAll}
+use Rattle.layout.proofs.Walks.{first-laid, none-laid}
 use Rattle.spelling.specs.Writing.{over_at}
 use Rattle.spelling.proofs.Writing.{over_nothing, over-set, over-then, over-take}
 use Rattle.new_names.specs.Names.{name_of}
 
--- so many declarations are left; the names of those before stand from place k on
-pub record Putting (M : ℕ) (ts : List TagValue) (out₀ out : List ℕ) (k i left place : ℕ) (l : List Declared) (q : ℕ) : Type 0 where
+-- these declarations are left, which stand there; the names of those before stand from place k on
+pub record Putting (M : ℕ) (ts : List TagValue) (out₀ out : List ℕ) (k i : ℕ) (l : List Declared) (ls : List DeclarationLayout) : Type 0 where
   pub so_far : List Declared
   pub rest : List Declared
-  pub items : times left (declaration M) ts place ≡ got rest q
+  pub laid : LaidAll M ts rest ls
   pub whole : so_far ++ rest ≡ l
   pub reached : i ≡ k + length so_far
   pub put : out ≡ over_at k (map name_of so_far) out₀
 
-pub putting-start : (M : ℕ) (ts : List TagValue) (out : List ℕ) (k n left at : ℕ) → left ≡ n → (l : List Declared) (q : ℕ) → times n (declaration M) ts at ≡ got l q → Putting M ts out out k k left at l q
-putting-start M ts out k n left at e l q g = record { so_far = []; rest = l; items = rw e g; whole = refl; reached = omega arith; put = sym (over_nothing k out) }
+module _ (M : ℕ) (ts : List TagValue) where
+  pub putting-start : (out : List ℕ) (k : ℕ) (l : List Declared) (ls : List DeclarationLayout) → LaidAll M ts l ls → Putting M ts out out k k l ls
+  putting-start out k l ls h = record { so_far = []; rest = l; laid = h; whole = refl; reached = omega arith; put = sym (over_nothing k out) }
 
-module _ (M : ℕ) (ts : List TagValue) (out₀ out : List ℕ) (k i left place : ℕ) (l : List Declared) (q : ℕ) (h : Putting M ts out₀ out k i left place l q) where
-  pub putting-end : left ≡ 0 → (i ≡ k + length l) × (out ≡ over_at k (map name_of l) out₀)
-  putting-end z =
-      let n = times-nil (declaration M) ts left place h.rest q z h.items in
-      let e : h.so_far ≡ l = sym (append-nil h.so_far) ∙ (ap (λ (x : List Declared). h.so_far ++ x) (sym n.0) ∙ h.whole) in
-      (h.reached ∙ ap (λ (x : List Declared). k + length x) e, h.put ∙ ap (λ (x : List Declared). over_at k (map name_of x) out₀) e)
+  module _ (out₀ out : List ℕ) (k i : ℕ) (l : List Declared) where
+    pub putting-end : (ls : List DeclarationLayout) → Putting M ts out₀ out k i l ls → ls ≡ [] → (i ≡ k + length l) × (out ≡ over_at k (map name_of l) out₀)
+    putting-end ls h z =
+        let n = none-laid (rw z at h.laid) in
+        let e : h.so_far ≡ l = sym (append-nil h.so_far) ∙ (ap (λ (x : List Declared). h.so_far ++ x) (sym n) ∙ h.whole) in
+        (h.reached ∙ ap (λ (x : List Declared). k + length x) e, h.put ∙ ap (λ (x : List Declared). over_at k (map name_of x) out₀) e)
 
-  -- there is a place for the next
-  pub putting-room : 0 < left → k + length l ≤ 128 → i < 128
-  putting-room z u =
-      let c = times-cons (declaration M) ts left place h.rest q (λ y. omega (arith, y)) h.items in
-      omega (arith, h.reached, length-append h.so_far h.rest, ap length h.whole, ap length c.5)
+    -- there is a place for the next
+    pub putting-room : (x : DeclarationLayout) (ls : List DeclarationLayout) → Putting M ts out₀ out k i l (x ∷ ls) → k + length l ≤ 128 → i < 128
+    putting-room x ls h u =
+        let f = first-laid h.laid in
+        omega (arith, h.reached, length-append h.so_far h.rest, ap length h.whole, ap length f.whole)
 
-  pub putting-none : (o : code.Option DeclarationLayout) → 0 < left → ((d : Declared) (p : ℕ) → declaration M ts place ≡ got d p → IsSomeAnd o (LaidDeclaration M ts place d p)) → o ≡ None → ⊥
-  putting-none o z read b =
-      let c = times-cons (declaration M) ts left place h.rest q (λ y. omega (arith, y)) h.items in
-      subst (λ (y : code.Option DeclarationLayout). IsSomeAnd y (LaidDeclaration M ts place c.0 c.1)) b (read c.0 c.1 c.3)
-
-putting-step : (M : ℕ) (ts : List TagValue) (out₀ out : List ℕ) (k i left place : ℕ) (l : List Declared) (q : ℕ) (o : code.Option DeclarationLayout) (x : DeclarationLayout) → 0 < left
-    → ((d : Declared) (p : ℕ) → declaration M ts place ≡ got d p → IsSomeAnd o (LaidDeclaration M ts place d p)) → o ≡ Some x
-    → Putting M ts out₀ out k i left place l q → Putting M ts out₀ (set out i x.name) k (i + 1) (left - 1) x.end l q
-putting-step M ts out₀ out k i left place l q o x z read b h =
-    let c = times-cons (declaration M) ts left place h.rest q (λ y. omega (arith, y)) h.items in
-    let laid : LaidDeclaration M ts place c.0 c.1 x = subst (λ (y : code.Option DeclarationLayout). IsSomeAnd y (LaidDeclaration M ts place c.0 c.1)) b (read c.0 c.1 c.3) in
-    let w : k + length (map name_of h.so_far) ≡ i = ap (λ (y : ℕ). k + y) (length-map h.so_far name_of) ∙ sym h.reached in
-    record {
-      so_far = h.so_far ++ (c.0 ∷ []);
-      rest = c.2;
-      items = rw laid.ends c.4;
-      whole = append_assoc h.so_far (c.0 ∷ []) c.2 ∙ (ap (λ (y : List Declared). h.so_far ++ y) (sym c.5) ∙ h.whole);
-      reached = omega (arith, h.reached, length-append h.so_far (c.0 ∷ []));
-      put =
-          sym (over-set i x.name out) ∙ (ap (λ (y : List ℕ). over_at i (x.name ∷ []) y) h.put
-          ∙ (ap (λ (y : ℕ). over_at y (x.name ∷ []) (over_at k (map name_of h.so_far) out₀)) (sym w)
-          ∙ (over-then k (map name_of h.so_far) (x.name ∷ []) out₀
-          ∙ ap (λ (y : List ℕ). over_at k y out₀) (ap (λ (y : ℕ). map name_of h.so_far ++ (y ∷ [])) laid.named ∙ sym (map-append name_of h.so_far (c.0 ∷ []))))));
-    }
-
--- the same, where a loop counts how many are put
-pub putting-next : (M : ℕ) (ts : List TagValue) (out₀ out : List ℕ) (k i n j place : ℕ) (l : List Declared) (q : ℕ) (o : code.Option DeclarationLayout) (x : DeclarationLayout) → j < n
-    → ((d : Declared) (p : ℕ) → declaration M ts place ≡ got d p → IsSomeAnd o (LaidDeclaration M ts place d p)) → o ≡ Some x
-    → Putting M ts out₀ out k i (n - j) place l q → Putting M ts out₀ (set out i x.name) k (i + 1) (n - (j + 1)) x.end l q
-putting-next M ts out₀ out k i n j place l q o x z read b h =
-    let less : n - j - 1 ≡ n - (j + 1) = omega arith in
-    subst (λ (m : ℕ). Putting M ts out₀ (set out i x.name) k (i + 1) m x.end l q) less (putting-step M ts out₀ out k i (n - j) place l q o x (omega arith) read b h)
+    -- the next is put
+    pub putting-next : (x : DeclarationLayout) (ls : List DeclarationLayout) → Putting M ts out₀ out k i l (x ∷ ls) → Putting M ts out₀ (set out i x.name) k (i + 1) l ls
+    putting-next x ls h =
+        let f = first-laid h.laid in
+        let w : k + length (map name_of h.so_far) ≡ i = ap (λ (y : ℕ). k + y) (length-map h.so_far name_of) ∙ sym h.reached in
+        record {
+          so_far = h.so_far ++ (f.first ∷ []);
+          rest = f.rest;
+          laid = f.others;
+          whole = append_assoc h.so_far (f.first ∷ []) f.rest ∙ (ap (λ (y : List Declared). h.so_far ++ y) (sym f.whole) ∙ h.whole);
+          reached = omega (arith, h.reached, length-append h.so_far (f.first ∷ []));
+          put =
+              sym (over-set i x.name out) ∙ (ap (λ (y : List ℕ). over_at i (x.name ∷ []) y) h.put
+              ∙ (ap (λ (y : ℕ). over_at y (x.name ∷ []) (over_at k (map name_of h.so_far) out₀)) (sym w)
+              ∙ (over-then k (map name_of h.so_far) (x.name ∷ []) out₀
+              ∙ ap (λ (y : List ℕ). over_at k y out₀) (ap (λ (y : ℕ). map name_of h.so_far ++ (y ∷ [])) f.laid.named ∙ sym (map-append name_of h.so_far (f.first ∷ []))))));
+        }
 
 -- the front of the table has the ids
 pub ids-front : (ids out : List ℕ) (n : ℕ) {after : List ℕ} → n ≡ length ids → n ≤ length out → after ≡ over_at 0 ids out → take n after ≡ ids

@@ -22,7 +22,7 @@ use Rattle.new_names.specs.Names.{Numbered, ChainOrdered}
 use Rattle.new_names.proofs.Added.{rows-ordered}
 use Rattle.new_names.proofs.Apart.{Apart}
 use Rattle.new_names.specs.declared.NodeNeeds.{NodeNeeds}
-use Rattle.new_names.specs.declared.NodeNames.{NodeNames}
+use Rattle.new_names.specs.declared.node_names.NodeNames.{NodeNames}
 use Rattle.new_names.specs.Filled.{Many, Few, HasRows, Sorted, Filled, counted_in}
 
 -- ---- rows in chain order

@@ -20,8 +20,8 @@ use Rattle.stateless.specs.Whole.{no_needs, old_needs}
 use Rattle.new_names.specs.Many as many
 use Rattle.new_names.specs.Names.{Numbered, ChainOrdered}
 use Rattle.new_names.specs.declared.NodeNeeds.{NodeNeeds}
-use Rattle.new_names.specs.declared.FlagNames.{FlagNames}
-use Rattle.new_names.specs.declared.NodeNames.{NodeNames}
+use Rattle.new_names.specs.declared.flag_names.FlagNames.{FlagNames}
+use Rattle.new_names.specs.declared.node_names.NodeNames.{NodeNames}
 use Rattle.new_names.specs.declared.TooMany.{TooMany}
 
 -- so many of a kind are needed

@@ -13,6 +13,7 @@ use grammar::Source;
 use layout::{NodeLayout, Span};
 
 // The ids of the names that a node declares, in order: so many.
+// Stays (fixed memory): nothing is allocated, so the array has a place for each of the most that a node declares.
 #[derive(Drop)]
 pub struct DeclaredIds {
     pub ids: [u32; MOST_DECLARED],
@@ -27,17 +28,12 @@ impl DeclaredIds {
     fn add(&mut self, source: &Source<'_>, s: Span)
         ensures { (l : List Declared) → Spans (declaration source.now.names) (tokens_of source.now) l s → self.old.count + length l ≤ 128 → (self.new.count ≡ self.old.count + length l) × (self.new.ids ≡ over_at self.old.count (map name_of l) self.old.ids) }
     {
-        let mut place = s.at;
-        for _ in 0..s.count {
+        for declared in layout::declarations(source, s) {
             if MOST_DECLARED <= self.count {
                 return;
             }
-            let Some(declared) = layout::declaration_at(source, place) else {
-                return;
-            };
             self.ids[self.count] = declared.name;
             self.count += 1;
-            place = declared.end;
         }
     }
 

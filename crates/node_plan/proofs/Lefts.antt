@@ -28,7 +28,7 @@ use Rattle.typing.specs.Found.{IsFound, place_of}
 use Rattle.typing.proofs.Laws.{placed}
 use Rattle.typing.proofs.Typed.{declared-at}
 use Rattle.findings.specs.declared.Fault as value
-use Rattle.std.specs.Option.{option_map}
+use Rattle.std.specs.Option.{option_map, ok_or}
 use Rattle.std.specs.declared.option.Option as code
 use Rattle.std.specs.declared.option.Option.TheVariants.{None, Some}
 use Rattle.node_plan.specs.Noted.{told_of, Typed}
@@ -126,6 +126,22 @@ module _ (types : List TypeDef) (l : List Node) (node : Node) where
 -- what a `?` passes on
 pub fails : {A : Type 0} (r : Result A value.Fault) (t : value.Fault) → IsErr r × IsErrAnd r (λ y. y ≡ t) → r ≡ Err t
 fails r t e = let p = err_from_is_err_and r e.1 in p.1 ∙ ap Err p.2
+
+-- what an option gave that a `?` reads, with this fault where it gave nothing
+module _ {A : Type 0} (o : code.Option A) (f : value.Fault) (r : Result A value.Fault) (h : r ≡ ok_or o f) where
+  pub given : (a : A) → r ≡ Ok a → o ≡ Some a
+  given a i = go o (sym h ∙ i)
+    where
+      go : (o : code.Option A) → ok_or o f ≡ Ok a → o ≡ Some a
+      go None e = cc
+      go (Some b) e = cc
+
+  pub not-given : (g : value.Fault) → r ≡ Err g → (o ≡ None) × (g ≡ f)
+  not-given g i = go o (sym h ∙ i)
+    where
+      go : (o : code.Option A) → ok_or o f ≡ Err g → (o ≡ None) × (g ≡ f)
+      go None e = (refl, cc)
+      go (Some b) e = (cc, cc)
 
 -- where there is a first: docs/PORT.md names this
 pub first-met : (a b : Result Unit value.Fault) → (a ≡ Ok tt → ⊥) → told_of a ≡ or_else (told_of a) (told_of b)

@@ -19,7 +19,7 @@ ghost use Rattle.node_plan.specs.Noted.{told_of, gates_right, Typed, Flagged};
 ghost use Rattle.node_plan.specs.Equations.{WalksEquation, WalksEquations};
 ghost use Rattle.node_plan.specs.Outcomes.{NodeSited, PlansNode};
 
-use clock_tables::{Clock, ClockTable, put_word, word_past};
+use clock_tables::{Clock, ClockTable, put_at, word_past};
 use findings::{Fault, Found};
 use index::Index;
 use layout::{NodeLayout, PartsTable, Span};
@@ -32,9 +32,7 @@ fn left_fault(planning: &Planning<'_>, x: u32) -> Result<(), Fault>
     ensures { (tys : List TypeDef) (l : List Node) (node : Node) → Typed (arrays_of planning.now) tys node → x < planning.now.index.now.source.names → told_of result ≡ left_fault tys l node x }
 {
     let index = planning.index;
-    let Some(at) = typing::last_type(planning.types, x) else {
-        return Err(Fault::Undeclared(x));
-    };
+    let at = typing::last_type(planning.types, x).ok_or(Fault::Undeclared(x))?;
     if !defaults::type_has_default(&index.type_table(), &index.has, at) {
         return Err(Fault::NoDefault(x));
     }
@@ -57,9 +55,7 @@ fn flagged_fault(planning: &Planning<'_>, left: Span, called: Option<u32>) -> Re
     ensures { (xs : List ℕ) (u : Shape) (tys : List TypeDef) (l : List Node) (node : Node) → called ≡ called_by u → Spans (name planning.now.index.now.source.names) (tokens_of planning.now.index.now.source) xs left → Typed (arrays_of planning.now) tys node → told_of result ≡ flagged_fault tys l node planning.now.index.now.condact xs u }
 {
     if left.count != 1 {
-        let Some(f) = called else {
-            return Err(Fault::NotSingleCall);
-        };
+        let f = called.ok_or(Fault::NotSingleCall)?;
         if f == planning.index.condact {
             return Ok(());
         }
@@ -92,7 +88,7 @@ fn flag_equation(notes: &mut Notes<'_, '_>, c: Clock, left: u32, gated: bool, at
 {
     let row = notes.flags.add_with_parents(c);
     notes.condact |= gated;
-    put_word(notes.plan, at, flag_word(row, left, gated));
+    put_at(notes.plan, at, flag_word(row, left, gated));
 }
 
 // The equation that stands there: where it ends, or the fault that is met.
@@ -104,7 +100,7 @@ fn equation(planning: &Planning<'_>, notes: &mut Notes<'_, '_>, at: usize) -> Re
     let left = layout::names_at(&index.source, at);
     let end = plan::expr(planning, notes, left.end)?;
     if plan::on_base(planning.sites, at) {
-        put_word(notes.plan, at, 0);
+        put_at(notes.plan, at, 0);
         return Ok(end);
     }
     let c = clock_tables::get(planning.sites, at);
@@ -120,6 +116,7 @@ fn equations(planning: &Planning<'_>, notes: &mut Notes<'_, '_>, span: Span) -> 
     ensures still_lent { StillLent notes.old notes.new }
     ensures walks_equations { WalksEquations (arrays_of planning.now) planning.now.index.now.condact (tables_of notes.old) (tables_of notes.new) span.count span.at 0 result }
 {
+    // Stays (no plainer): the walk over an equation says where the next one stands, which an iterator over equations would read again.
     let mut place = span.at;
     for i in 0..span.count {
         place = equation(planning, notes, place).map_err(|fault| Found { fault, equation: i })?;
@@ -129,7 +126,7 @@ fn equations(planning: &Planning<'_>, notes: &mut Notes<'_, '_>, span: Span) -> 
 
 // A node with this layout whose sites have their clocks: the types of its names, and the plan of its equations; how much is needed, or the
 // first fault that is met.
-// Stays (no plainer): the tables singly, since they are taken apart here at once, into `Planning`, `Notes` and the tables it lends.
+// Stays (proof): tried in one struct: behind a `&mut` the borrow check does not cover `words: &mut *tables.flags`, nor by value `plan_of`.
 pub fn plan_laid<'a>(
     index: &Index<'_>,
     parts: &PartsTable,

@@ -7,7 +7,7 @@ ghost use Rattle.grammar.specs.Read.{tokens_of};
 ghost use Rattle.definitions.specs.Tree.{Expr, Exprs};
 ghost use Rattle.definitions.specs.Reading.{got};
 ghost use Rattle.operands.specs.Role.{role_of};
-ghost use Rattle.operands.specs.Spread.{tree, spread, later, operand_at, rest_at};
+ghost use Rattle.operands.specs.Spread.{tree, later, operand_at, rest_at};
 ghost use Rattle.definitions.specs.Grammar.{counted};
 ghost use Rattle.grammar.specs.Shape.{following};
 ghost use Rattle.operands.specs.Leaf.{leaf_at};
@@ -109,6 +109,7 @@ fn role_of(t: ExprToken) -> Role
 }
 
 // The place of the first of the operands that begin there.
+// Stays (no plainer): a place with its gap could be a `Rest`, but of five calls outside one has a `Rest`; `Operands` has both in it.
 pub fn operand_at(tags: &[u8], gap: Gap, at: usize) -> usize
     ensures { result ≡ operand_at (length tags.now) gap at }
 {
@@ -249,7 +250,7 @@ pub fn view_at(source: &Source<'_>, at: usize) -> View
 }
 
 // The leaf that stands there, if one does, by its first token.
-// Stays (speed): by tags; by whole tokens merges of two sites, in equations in reverse order, take 5 instructions in 100 more.
+// Stays (speed): `rewrite` of merges of two sites in reverse order takes 17.1 million instructions unproved, by whole tokens 18.0.
 pub fn leaf_at(source: &Source<'_>, at: usize) -> Option<Leaf>
     ensures { result ≡ leaf_at (length source.now.tags.now) (get_or source.now.tags.now at 0) (get_or source.now.values.now at 0) at }
 {

@@ -3,7 +3,7 @@ use Prim.Native.Nat.{ℕ, suc}
 use mathlib.Core.Path.{◌≡◌, refl, ap}
 use mathlib.Core.List.{List, [], ◌∷◌, ◌++◌, map}
 use native.Mathlib.Omega.{arith}
-use lib.ListN.{length, drop, length-append, take-append-drop, length-drop}
+use lib.ListN.{length, take, drop, length-append, take-append-drop, length-drop}
 use lib.Seq.{length-take-le, take-append_seam, drop-append_seam}
 use Rattle.definitions.specs.Lists.{sum, join, Letters}
 use Rattle.definitions.specs.Tokens.{TagValue}
@@ -11,6 +11,15 @@ use Rattle.definitions.specs.Bytes.{cut, tokens}
 use Rattle.definitions.specs.Output.{word_bytes}
 
 -- ---- names
+pub cut-none : (ns ls : List ℕ) → length ns ≡ 0 → cut ns ls ≡ []
+unfolding cut
+cut-none [] ls h = refl
+cut-none (n ∷ ns) ls h = absurd (omega arith)
+
+pub cut-first : (ns ls : List ℕ) (n : ℕ) (rest : List ℕ) → ns ≡ n ∷ rest → (m : ℕ) → m ≡ n → (name later : List ℕ) → name ≡ take m ls → later ≡ drop m ls → cut ns ls ≡ name ∷ cut rest later
+unfolding cut
+cut-first ns ls n rest s m e name later f g = rw (s, f, g, e) refl
+
 pub cut-count : (ns ls : List ℕ) → length (cut ns ls) ≡ length ns
 unfolding cut
 cut-count [] ls = refl

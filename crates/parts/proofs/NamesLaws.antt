@@ -6,21 +6,17 @@ use mathlib.Core.List.{List, [], ◌∷◌}
 use native.Mathlib.Nat.{zero-add}
 use native.Mathlib.Numerals.{add-one}
 use native.Mathlib.Omega.{arith}
-use lib.ListN.{length, get_or, take, drop, drop_of_length-le, length-drop}
+use lib.ListN.{length, get_or, take, drop, drop_of_length-le}
 use lib.Seq.{drop-cons, drop-drop}
-use lib.Dec.{eqb}
-use borrow.Author.Tests.{le-ltb, lt-ltb, eqb-true, eqb-false}
+use lib.Dec.{eqb, ltb}
+use borrow.Author.Tests.{le-ltb, lt-ltb, ltb-true, ltb-false}
 use Rattle.std.proofs.Math.Bool.{and-false, and-true}
 use Rattle.std.specs.List.{list_all}
 use Rattle.std.specs.Str.{bytes_eq}
 use Rattle.definitions.specs.Lists.{all, any, sum, same_letters}
 use Rattle.definitions.specs.Bytes.{is_letter, is_digit, well_formed, bad_name, cut}
 use Rattle.parts.specs.Places.{start, name_at, before}
-
--- ---- tests
-or-true : (x y : Bool) → y ≡ true → (x || y) ≡ true
-or-true true y e = refl
-or-true false y e = e
+use Rattle.parts.proofs.Cuts.{cut-count}
 
 -- ---- well formed
 -- a letter, underscore or digit
@@ -73,6 +69,48 @@ unfolding start
 start-sum lens zero = zero-add (sum lens)
 start-sum lens (suc i) = omega (arith, start-sum lens i, sum_drop lens i)
 
+uncons : {x : List ℕ} {l : List (List ℕ)} → x ∷ l ≡ [] → ⊥
+uncons {x} {l} e = let n = ap length e in omega (arith, n)
+
+-- ---- one of the first
+or-swap : (a b c : Bool) → (a || (b || c)) ≡ (b || (a || c))
+or-swap true true c = refl
+or-swap true false c = refl
+or-swap false b c = refl
+
+module _ (p : List ℕ → Bool) where
+  any-take : (k : ℕ) (l : List (List ℕ)) → k < length l → any p (take (suc k) l) ≡ (p (get_or l k []) || any p (take k l))
+  any-take k [] h = absurd (omega arith)
+  any-take zero (x ∷ l) h = refl
+  any-take (suc k) (x ∷ l) h = ap (λ r. p x || r) (any-take k l (omega arith)) ∙ or-swap (p x) (p (get_or l k [])) (any p (take k l))
+
+  -- of so many that are left, where the first is taken
+  module _ (n m : ℕ) (l r : List (List ℕ)) (x : List ℕ) (e : m + 1 ≡ n) (f : l ≡ x ∷ r) where
+    pub any-here : p x ≡ true → any p (take n l) ≡ true
+    any-here h = rw (← e, f, add-one m, h) refl
+
+    pub any-on : p x ≡ false → any p (take n l) ≡ any p (take m r)
+    any-on h = rw (← e, f, add-one m, h) refl
+
+  pub any-none : (n : ℕ) (l : List (List ℕ)) → (0 < n → l ≡ []) → any p (take n l) ≡ false
+  any-none zero l f = refl
+  any-none (suc n) l f = rw (f (omega arith)) refl
+
+start-cons : (n : ℕ) (ns : List ℕ) (i : ℕ) → start (n ∷ ns) (suc i) ≡ n + start ns i
+unfolding start
+start-cons n ns zero = omega arith
+start-cons n ns (suc i) = omega (arith, start-cons n ns i)
+
+name-tail : (n : ℕ) (ns letters : List ℕ) (i : ℕ) → name_at ns (drop n letters) i ≡ name_at (n ∷ ns) letters (suc i)
+unfolding name_at
+name-tail n ns letters i = ap (λ l. take (get_or ns i 0) l) (drop-drop (start ns i) n letters ∙ ap (λ k. drop k letters) (sym (start-cons n ns i)))
+
+cut-name : (lens letters : List ℕ) (i : ℕ) → i < length lens → get_or (cut lens letters) i [] ≡ name_at lens letters i
+unfolding cut name_at start
+cut-name [] letters i h = absurd (omega arith)
+cut-name (n ∷ lens) letters zero h = refl
+cut-name (n ∷ lens) letters (suc i) h = cut-name lens (drop n letters) i (omega arith) ∙ name-tail n lens letters i
+
 module _ (lens letters : List ℕ) where
   pub start-next : (i : ℕ) → start lens (i + 1) ≡ start lens i + get_or lens i 0
   unfolding start
@@ -87,31 +125,16 @@ module _ (lens letters : List ℕ) where
       let e : end - at ≡ get_or lens i 0 = omega arith in
       rw (e, p)
 
-  -- the letters from name i on: name i, and the letters from the next one on
-  module _ (i : ℕ) (rest : List ℕ) (r : rest ≡ drop (start lens i) letters) where
-    pub fits-rest : sum lens ≤ length letters → get_or lens i 0 ≤ length rest
-    fits-rest h = rw r (omega (arith, end-within i h, length-drop (start lens i) letters))
-
-    pub first-name : (n : ℕ) (name : List ℕ) → n ≡ get_or lens i 0 → name ≡ take n rest → name ≡ name_at lens letters i
-    unfolding name_at
-    first-name n name e f = f ∙ rw (e, r)
-
-    pub rest-next : (n : ℕ) (later : List ℕ) → n ≡ get_or lens i 0 → later ≡ drop n rest → later ≡ drop (start lens (i + 1)) letters
-    rest-next n later e f = rw (start-next i, ← e) (f ∙ (rw r (drop-drop n (start lens i) letters)))
-
-  -- a name that an earlier one is is found before each later place
-  pub before-found : (p : List ℕ → Bool) (k i : ℕ) → k < i → p (name_at lens letters k) ≡ true → any p (before lens letters i) ≡ true
+  pub any-before : (p : List ℕ → Bool) (k : ℕ) → k ≤ length lens → any p (before lens letters k) ≡ any p (take k (cut lens letters))
   unfolding before
-  before-found p k zero h e = absurd (omega arith)
-  before-found p k (suc i) h e = go (eqb k i) refl (λ l. before-found p k i l e)
-    where
-      go : (t : Bool) → eqb k i ≡ t → (k < i → any p (before lens letters i) ≡ true) → (p (name_at lens letters i) || any p (before lens letters i)) ≡ true
-      go true q f = rw (← eqb-true k i q, e)
-      go false q f = or-true (p (name_at lens letters i)) (any p (before lens letters i)) (f (omega (arith, eqb-false k i q)))
+  any-before p zero h = refl
+  any-before p (suc k) h =
+      rw (any-take p k (cut lens letters) (omega (arith, cut-count lens letters)), cut-name lens letters k (omega arith), any-before p k (omega arith)) refl
 
-  pub before-next : (p : List ℕ → Bool) (k : ℕ) → any p (before lens letters k) ≡ false → p (name_at lens letters k) ≡ false → any p (before lens letters (k + 1)) ≡ false
-  unfolding before
-  before-next p k f e = rw (add-one k, e) f
+  -- the names from name i on
+  unfoldable pub left : ℕ → List (List ℕ)
+  unfolding start cut
+  left i = cut (drop i lens) (drop (start lens i) letters)
 
   -- the place of the first bad name, counted from name i
   unfoldable pub rest : ℕ → ℕ
@@ -121,6 +144,36 @@ module _ (lens letters : List ℕ) where
   cut_at : (i : ℕ) → i < length lens → cut (drop i lens) (drop (start lens i) letters) ≡ name_at lens letters i ∷ cut (drop (suc i) lens) (drop (start lens (suc i)) letters)
   unfolding cut name_at start
   cut_at i h = rw (drop-cons lens i 0 h, drop-drop (get_or lens i 0) (start lens i) letters)
+
+  pub left-start : cut lens letters ≡ left 0
+  unfolding left start
+  left-start = refl
+
+  -- the first of the names that are left, from name i on
+  pub left-first : (i : ℕ) (l : List (List ℕ)) → l ≡ left i → (name : List ℕ) (r : List (List ℕ)) → l ≡ name ∷ r → (i < length lens) × (name ≡ name_at lens letters i) × (r ≡ left (i + 1))
+  unfolding left cut
+  left-first i l e name r f = go (ltb i (length lens)) refl
+    where
+      both : name ∷ r ≡ cut (drop i lens) (drop (start lens i) letters)
+      both = sym f ∙ e
+
+      go : (t : Bool) → ltb i (length lens) ≡ t → (i < length lens) × (name ≡ name_at lens letters i) × (r ≡ cut (drop (i + 1) lens) (drop (start lens (i + 1)) letters))
+      go true q =
+          let h = ltb-true i (length lens) q in
+          let c : name ∷ r ≡ name_at lens letters i ∷ cut (drop (suc i) lens) (drop (start lens (suc i)) letters) = both ∙ cut_at i h in
+          (h, ap (λ (x : List (List ℕ)). get_or x 0 []) c, rw (add-one i) (ap (λ (x : List (List ℕ)). drop 1 x) c))
+      go false q = absurd (uncons (both ∙ none_left (ltb-false i (length lens) q)))
+        where
+          none_left : length lens ≤ i → cut (drop i lens) (drop (start lens i) letters) ≡ []
+          none_left h = rw (drop_of_length-le lens h) refl
+
+  pub left-none : (i : ℕ) (l : List (List ℕ)) → l ≡ left i → l ≡ [] → length lens ≤ i
+  unfolding left
+  left-none i l e f = go (ltb i (length lens)) refl
+    where
+      go : (t : Bool) → ltb i (length lens) ≡ t → length lens ≤ i
+      go true q = absurd (uncons (sym (cut_at i (ltb-true i (length lens) q)) ∙ (sym e ∙ f)))
+      go false q = ltb-false i (length lens) q
 
   pub rest-start : bad_name [] (cut lens letters) ≡ 0 + rest 0
   unfolding rest start before

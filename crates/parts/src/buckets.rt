@@ -40,6 +40,7 @@ struct Entry {
 }
 
 // An entry for each name, and the last name of each bucket.
+// Stays (fixed memory): a map of names takes a heap, which the library has not.
 #[derive(Drop)]
 struct Buckets {
     entries: [Entry; MOST_NAMES],
@@ -55,7 +56,7 @@ impl Buckets {
         ensures { result ≡ any (same_letters name.now) (before names.entry.lengths.now names.entry.letters.now count) }
     {
         let mut earlier = self.lasts[bucket];
-        // Stays (no plainer): a chain of earlier names is followed, each known from the one before.
+        // Stays (no plainer): std's `successors` gives places, so that each entry is looked up to go on and again to compare.
         while let Some(place) = earlier {
             let j = usize::from(place);
             let entry = self.entries[j];

@@ -4,11 +4,10 @@
 mod buckets;
 mod naming;
 
-ghost use Rattle.std.specs.Prelude.{◌≡◌, [], map, ◌+◌, ◌*◌, ◌≤◌, ◌<◌, ◌^◌, length, take, drop};
-ghost use Rattle.definitions.specs.Lists.{sum, over, join};
+ghost use Rattle.std.specs.Prelude.{◌≡◌, map, ◌+◌, ◌*◌, ◌≤◌, ◌<◌, ◌^◌, length};
+ghost use Rattle.definitions.specs.Lists.{sum, join};
 ghost use Rattle.definitions.specs.Bytes.{cut, four_byte_words, parts, tokens};
 ghost use Rattle.parts.specs.Answers.{word_at, SizedParts, SizesTold, parts_answer, tags_after, values_after};
-ghost use Rattle.std.proofs.lemmas.List.Edits.{sets};
 ghost use Rattle.definitions.specs.Output.{word_bytes, sheet_bytes};
 ghost use Rattle.parts.specs.Bytes.{written_answer, written_bytes};
 
@@ -173,7 +172,7 @@ pub fn write(
 }
 
 // As many items as there is room for, each in its place.
-// Stays (C interface): `copy_from_slice` of two parameters calls memmove, and the library calls nothing but memcpy and memset.
+// Stays (C interface): `copy_from_slice` calls memmove where both are parameters after inlining; the library calls memcpy and memset alone.
 pub fn copy_items<T: Copy>(to: &mut [T], from: &[T])
     requires { length from.now ≡ length to.old }
     ensures { to.new ≡ from.now }

@@ -1,7 +1,7 @@
 // A sheet's names: are they well formed and distinct?
 ghost use Rattle.std.specs.Prelude.{◌≡◌, ◌||◌, ◌≤◌, ◌<◌, ◌^◌, length};
 ghost use Rattle.definitions.specs.Lists.{sum, any, same_letters};
-ghost use Rattle.definitions.specs.Bytes.{is_letter, is_digit, well_formed};
+ghost use Rattle.definitions.specs.Bytes.{is_letter, is_digit, well_formed, cut};
 ghost use Rattle.parts.specs.Answers.{FirstBad};
 ghost use Rattle.parts.specs.Places.{before};
 
@@ -44,19 +44,52 @@ pub(crate) fn well_formed(name: &[u8]) -> bool
     rest.iter().all(|b| is_part(*b))
 }
 
+// The names that are left, of which the first one's letters come first.
+#[derive(Clone, Copy)]
+pub(crate) struct EachName<'a> {
+    lengths: &'a [u8],
+    letters: &'a [u8],
+    pub ghost within: { sum lengths.now ≤ length letters.now },
+}
+
+impl<'a> Iterator for EachName<'a> {
+    ghost use Rattle.std.specs.Iterator.{YieldsFirstRef, item_count};
+
+    type Item = &'a [u8];
+
+    ghost next_gives = { YieldsFirstRef (λ s. cut s.lengths.now s.letters.now) };
+
+    ghost remaining = { item_count (λ s. cut s.lengths.now s.letters.now) };
+
+    #[inline(always)]
+    fn next(&mut self) -> Option<&'a [u8]> {
+        let (n, lengths) = self.lengths.split_first()?;
+        let (name, letters) = self.letters.split_at(usize::from(*n));
+        *self = EachName { lengths, letters };
+        Some(name)
+    }
+}
+
 impl<'a> Names<'a> {
+    // One name after another, each as its letters.
+    pub(crate) fn each(self) -> EachName<'a>
+        ensures { cut result.lengths.now result.letters.now ≡ cut self.entry.lengths.now self.entry.letters.now }
+    {
+        EachName {
+            lengths: self.lengths,
+            letters: self.letters,
+        }
+    }
+
     // Is a name one of the first `count`?
     fn has_before(self, count: usize, name: &[u8]) -> bool
         requires { count ≤ length self.lengths.now }
         ensures { result ≡ any (same_letters name.now) (before self.entry.lengths.now self.entry.letters.now count) }
     {
-        let mut letters = self.letters;
-        for n in &self.lengths[..count] {
-            let (earlier, rest) = letters.split_at(usize::from(*n));
+        for earlier in self.each().take(count) {
             if name == earlier {
                 return true;
             }
-            letters = rest;
         }
         false
     }
@@ -65,13 +98,10 @@ impl<'a> Names<'a> {
     fn first_bad_by_pairs(self) -> Option<usize>
         ensures { FirstBad self.entry.lengths.now self.entry.letters.now result }
     {
-        let mut letters = self.letters;
-        for (i, n) in self.lengths.iter().enumerate() {
-            let (name, rest) = letters.split_at(usize::from(*n));
+        for (i, name) in self.each().enumerate() {
             if !well_formed(name) || self.has_before(i, name) {
                 return Some(i);
             }
-            letters = rest;
         }
         None
     }

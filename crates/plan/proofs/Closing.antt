@@ -119,7 +119,7 @@ gate-clock s plan' flags' p w n i e word d c j b A finds y B = subst (λ (x : Cl
 module _ (s : Tables) (flags' : List ℕ) (p n : ℕ) (d : Clock) (A : (cs : List Clock) → RowsHold s.flags s.counts.flags cs → RowsHold flags' n (add_with_parents d cs)) (y : Needs) (B : Begun s y) where
   -- its place and its row
   module _ (i : ℕ) (finds : (cs : List Clock) → 17 * n ≤ length flags' → RowsHold flags' n cs → i ≡ clock_place d cs) (plan' : List ℕ) (holds' : List HeldOperand) (j k₁ w : ℕ) (one : HeldOperand) (c : j ≡ s.counts.holds) (more : k₁ ≡ j + 1) (o : j < 4294967295) (e : plan' ≡ set s.plan p w) (word : w ≡ suc j)
-      (f : holds' ≡ set s.holds j one) (stored : one ≡ record { at = p + 1; row = i }) where
+      (f : holds' ≡ set s.holds j one) (stored : p + 1 < 4294967296 → i < 4294967296 → one ≡ record { at = p + 1; row = i }) where
     s' : Tables
     s' = record { plan = plan'; flags = flags'; firsts = s.firsts; holds = holds'; counts = record { flags = n; firsts = s.counts.firsts; holds = k₁; condact = s.counts.condact } }
 
@@ -142,9 +142,9 @@ module _ (s : Tables) (flags' : List ℕ) (p n : ℕ) (d : Clock) (A : (cs : Lis
         let found = row-found flags' n i w d finds (add_with_parents d y.flags) D.flagged in
         let least = row-least flags' n i w d finds (add_with_parents d y.flags) D.flagged in
         let told : p < length s.plan → y.holds < 4294967295 → get_or plan' p 0 ≡ suc y.holds = λ u v. there s.plan plan' p w e u ∙ (word ∙ ap suc m) in
-        let rows : y.holds < length s.holds → 17 * length (add_with_parents d y.flags) ≤ length flags' → hold_at holds' y.holds ≡ record { at = p + 1; row = clock_place d (add_with_parents d y.flags) } =
-        λ v x. ap (hold_at holds') (sym m) ∙ (ap (λ (l : List HeldOperand). hold_at l j) f ∙ (get_or-set_same s.holds j one _ (omega arith) ∙ (stored ∙ ap {B = HeldOperand} (λ r. record { at = p + 1; row = r }) (found x)))) in
-        record { begun = rw k D; beside = beside s.plan plan' p w e; kept = rw k apart; word = rw k told; row = λ z v l g x. rows g x }
+        let rows : p + 1 < 4294967296 → y.holds < length s.holds → 17 * length (add_with_parents d y.flags) ≤ length flags' → length (add_with_parents d y.flags) < 4294967296 → hold_at holds' y.holds ≡ record { at = p + 1; row = clock_place d (add_with_parents d y.flags) } =
+        λ u v x t. ap (hold_at holds') (sym m) ∙ (ap (λ (l : List HeldOperand). hold_at l j) f ∙ (get_or-set_same s.holds j one _ (omega arith) ∙ (stored u (omega (arith, least x)) ∙ ap {B = HeldOperand} (λ r. record { at = p + 1; row = r }) (found x)))) in
+        record { begun = rw k D; beside = beside s.plan plan' p w e; kept = rw k apart; word = rw k told; row = λ z v u l g x t. rows u g x t }
 
     pub hold-next : (x : Clock) → d ≡ x → is_base x ≡ false → Preceded s (record { plan = plan'; flags = flags'; firsts = s.firsts; holds = holds'; counts = record { flags = n; firsts = s.counts.firsts; holds = k₁; condact = s.counts.condact } }) x false y p
     unfolding s'

@@ -304,7 +304,7 @@ module _ (G : Ground) where
 
     module _ (count : (ids : Ids) → j + length (hs ids) ≡ y.holds) (S : Says G plan holds y (p + 1) 1 q (λ ids. map code_of (expr_tokens (value ids))) j hs) (stands : tree G.names (tokens G.tags G.values) (p + 1) ≡ got a q)
         (typed : is_base c ≡ false → bare ≡ false → operand_type (declared G.node) a ≡ some type) (kept : HoldsKept holds holds' y.holds (settled (pre_turn c bare) c y).holds)
-        (row : is_base c ≡ false → bare ≡ false → y.holds < 4294967295 → y.holds < G.hold_room → 17 * length (add_with_parents c y.flags) ≤ G.flag_room → hold_at holds' y.holds ≡ record { at = p + 1; row = clock_place c (add_with_parents c y.flags) }) where
+        (few : length G.tags < 4294967296) (row : is_base c ≡ false → bare ≡ false → p + 1 < 4294967296 → y.holds < 4294967295 → y.holds < G.hold_room → 17 * length (add_with_parents c y.flags) ≤ G.flag_room → length (add_with_parents c y.flags) < 4294967296 → hold_at holds' y.holds ≡ record { at = p + 1; row = clock_place c (add_with_parents c y.flags) }) where
       held-last : is_base c ≡ false → bare ≡ false → (w : Needs) (x : ℕ) (F f H : List ℕ) → Whole G.flag_room G.first_room G.hold_room w → Ahead (settled Turn.Hold c y) w → (plan'' : List ℕ) (holds'' : List HeldOperand) → Agrees plan plan'' (p + 1) q → HoldsAgree holds' holds'' j (settled Turn.Hold c y).holds →
           HeldAt G.names G.tags G.values (writer G x F f H) plan'' holds'' y.holds (hold_of (ids_in w.flags w.firsts F f H x))
       held-last e v w x F f H W A plan'' holds'' agree same =
@@ -316,7 +316,7 @@ module _ (G : Ground) where
           let u = W.holds-fit in
           let z = W.flags-fit in
           let d = W.few-flags in
-          let r = same y.holds (omega arith) (omega arith) ∙ row e v (omega arith) (omega arith) (omega arith) in
+          let r = same y.holds (omega arith) (omega arith) ∙ row e v (omega arith) (omega arith) (omega arith) (omega arith) (omega arith) in
           let place : (hold_at holds'' y.holds).at ≡ p + 1 = ap (λ (h : HeldOperand). h.at) r in
           let flag : (hold_at holds'' y.holds).row ≡ clock_place c w.flags = ap (λ (h : HeldOperand). h.row) r ∙ held-there c y w A e in
           let alone = S.say w x F f H W (ahead-trans y (settled Turn.Hold c y) w (ahead-settled Turn.Hold c y) A) plan'' agree 0 q [] Writes.done in

@@ -4,7 +4,7 @@ use mathlib.Core.Path.{◌≡◌, refl, sym, ◌∙◌, ap}
 use mathlib.Core.Bool.{Bool, true, false, true≢false}
 use mathlib.Core.List.{List, [], ◌∷◌}
 use mathlib.Core.Option.{Option, none, some}
-use Prim.Native.Nat.{ℕ, zero, suc, ◌+◌, ◌-◌}
+use Prim.Native.Nat.{ℕ, zero, suc, ◌+◌}
 use lib.Dec.{eqb}
 use native.Mathlib.Omega.{arith}
 use borrow.Author.Tests.{ne_eqb}
@@ -12,8 +12,8 @@ use Rattle.std.specs.Prelude as rust
 use Rattle.std.specs.declared.option.Option as code
 use Rattle.std.specs.declared.option.Option.TheVariants.{None, Some}
 use Rattle.definitions.specs.Lists.{or_else}
-use Rattle.definitions.specs.Reading.{got, times}
-use Rattle.definitions.specs.Grammar.{declaration, ty}
+use Rattle.definitions.specs.Reading.{got}
+use Rattle.definitions.specs.Grammar.{ty}
 use Rattle.definitions.specs.Tokens.{TagValue}
 use Rattle.definitions.specs.Tree.{Ty, Declared, TypeDef, Node}
 use Rattle.definitions.specs.Clock.{is_base}
@@ -26,12 +26,10 @@ use Rattle.typing.specs.declared.TypeFound.{TypeFound}
 use Rattle.typing.specs.Found.{IsFound}
 use Rattle.stateless.specs.Faults.{unless, outputs_fault}
 use Rattle.grammar.specs.Read.{tokens_of}
-use Rattle.grammar.proofs.Got.{times-nil}
-use Rattle.std.specs.Option.{IsSomeAnd}
 use Rattle.layout.specs.declared.DeclarationLayout.{DeclarationLayout}
-use Rattle.layout.specs.Laid.{LaidDeclaration}
+use Rattle.layout.specs.Walk.{LaidAll}
 use Rattle.layout.specs.Table.{Table}
-use Rattle.layout.proofs.TypedefsLaws.{FirstField, declared-there, declared-first}
+use Rattle.layout.proofs.Walks.{first-laid, none-laid}
 use Rattle.cycles.specs.declared.TypeTable.{TypeTable}
 use Rattle.defaults.specs.Has.{is_some, DefaultsKnown}
 use Rattle.index.specs.declared.Index.{Index}
@@ -66,46 +64,36 @@ unless-there none f b i j = let z : ◌≡◌ {A = Bool} true false = sym j ∙ 
 unless-there (some a) f b i j = refl
 
 module _ (types : List TypeDef) (l : List Node) (node : Node) (f : ℕ) (ds : List Declared) where
-  pub outputs-none : ds ≡ [] → none ≡ outputs_fault types l node f ds
+  outputs-none : ds ≡ [] → none ≡ outputs_fault types l node f ds
   unfolding outputs_fault
   outputs-none i = rw i
 
-  module _ (x : ℕ) (t : Ty) (rest : List Declared) (w : ds ≡ record { name = x; type = t } ∷ rest) (b : Bool) (i : b ≡ is_some (default types t)) where
-    pub outputs-lack : b ≡ false → (y : ℕ) → y ≡ x → some (no_output_default y f) ≡ outputs_fault types l node f ds
+  module _ (d : Declared) (rest : List Declared) (w : ds ≡ d ∷ rest) (b : Bool) (i : b ≡ is_some (default types d.type)) where
+    outputs-lack : b ≡ false → (y : ℕ) → y ≡ d.name → some (no_output_default y f) ≡ outputs_fault types l node f ds
     unfolding outputs_fault
-    outputs-lack j y k = rw (w, k) (sym (ap (λ (o : Option Fault). or_else o (outputs_fault types l node f rest)) (unless-none (default types t) (no_output_default x f) b i j)))
+    outputs-lack j y k = rw (w, k) (sym (ap (λ (o : Option Fault). or_else o (outputs_fault types l node f rest)) (unless-none (default types d.type) (no_output_default d.name f) b i j)))
 
-    pub outputs-more : b ≡ true → (o : Option Fault) → o ≡ outputs_fault types l node f rest → o ≡ outputs_fault types l node f ds
+    outputs-more : b ≡ true → outputs_fault types l node f ds ≡ outputs_fault types l node f rest
     unfolding outputs_fault
-    outputs-more j o k = rw w (k ∙ ap (λ (m : Option Fault). or_else m (outputs_fault types l node f rest)) (unless-there (default types t) (no_output_default x f) b i j))
+    outputs-more j = rw w (ap (λ (m : Option Fault). or_else m (outputs_fault types l node f rest)) (sym (unless-there (default types d.type) (no_output_default d.name f) b i j)))
 
--- what so many outputs from p on lack
-module _ (types : List TypeDef) (l : List Node) (node : Node) (M : ℕ) (ts : List TagValue) where
-  pub record Lacking (k p : ℕ) (r : code.Option ℕ) : Type 0 where
-    pub all : (f : ℕ) (ds : List Declared) (q : ℕ) → times k (declaration M) ts p ≡ got ds q → lack_fault f r ≡ outputs_fault types l node f ds
+-- the outputs that a walk has still to give: what they lack is what all lack
+module _ (types : List TypeDef) (l : List Node) (node : Node) (f M : ℕ) (ts : List TagValue) where
+  pub record LackLeft (ls : List DeclarationLayout) (all : Option Fault) : Type 0 where
+    pub rest : List Declared
+    pub laid : LaidAll M ts rest ls
+    pub same : all ≡ outputs_fault types l node f rest
 
-  pub lacking-none : (k p : ℕ) → k ≡ 0 → Lacking k p None
-  lacking-none k p z = record { all = λ f ds q g. outputs-none types l node f ds (times-nil (declaration M) ts k p ds q z g).0 }
+  -- h is whether the first has a default
+  module _ (a : DeclarationLayout) (ls : List DeclarationLayout) (all : Option Fault) (h : Bool) (has : (t : Ty) (q : ℕ) → ty M 8 ts a.type_at ≡ got t q → h ≡ is_some (default types t)) (k : LackLeft (a ∷ ls) all) where
+    pub lack-first : h ≡ false → lack_fault f (Some a.name) ≡ all
+    lack-first b = let u = first-laid k.laid in outputs-lack types l node f k.rest u.first u.rest u.whole h (has u.first.type u.to u.laid.typed) b a.name u.laid.named ∙ sym k.same
 
-  module _ (k p : ℕ) (some_left : k ≡ 0 → ⊥) (r : code.Option DeclarationLayout) (read : (d : Declared) (q : ℕ) → declaration M ts p ≡ got d q → IsSomeAnd r (LaidDeclaration M ts p d q)) where
-    pub lacking-refused : r ≡ None → (o : code.Option ℕ) → Lacking k p o
-    lacking-refused j o = record { all = λ f ds q g. absurd (declared-there M ts k p ds q some_left g (λ d s i. let z : ⊥ = rw j at read d s i in z)) }
+    pub lack-next : h ≡ true → LackLeft ls all
+    lack-next b = let u = first-laid k.laid in record { rest = u.rest; laid = u.others; same = k.same ∙ outputs-more types l node f k.rest u.first u.rest u.whole h (has u.first.type u.to u.laid.typed) b }
 
-    -- h is whether the first has a default
-    module _ (a : DeclarationLayout) (e : r ≡ Some a) (h : Bool) (has : (t : Ty) (q : ℕ) → ty M 8 ts a.type_at ≡ got t q → h ≡ is_some (default types t)) where
-      first-declared : (ds : List Declared) (q : ℕ) → times k (declaration M) ts p ≡ got ds q → (u : FirstField M ts k p a.type_at ds q) × (times (k - 1) (declaration M) ts a.end ≡ got u.rest q) × (a.name ≡ u.id)
-      first-declared ds q g = declared-first M ts k p ds q some_left g a (λ d s i. rw e at read d s i)
-
-      pub lacking-first : h ≡ false → Lacking k p (Some a.name)
-      lacking-first b = record { all = λ f ds q g. let w = first-declared ds q g in let u = w.0 in outputs-lack types l node f ds u.id u.type u.rest u.whole h (has u.type u.next u.typed) b a.name w.2 }
-
-      pub lacking-more : h ≡ true → (n : ℕ) → n ≡ k - 1 → (o : code.Option ℕ) → Lacking n a.end o → Lacking k p o
-      lacking-more b n c o x = record {
-        all = λ f ds q g.
-            let w = first-declared ds q g in
-            let u = w.0 in
-            outputs-more types l node f ds u.id u.type u.rest u.whole h (has u.type u.next u.typed) b (lack_fault f o) (x.all f u.rest q (ap (λ (y : ℕ). times y (declaration M) ts a.end) c ∙ w.1));
-      }
+  pub lack-none : (ls : List DeclarationLayout) (all : Option Fault) → ls ≡ [] → LackLeft ls all → lack_fault f None ≡ all
+  lack-none ls all e k = outputs-none types l node f k.rest (none-laid (rw e at k.laid)) ∙ sym k.same
 
 -- whether a type has a default, by the table that the index lends
 pub lent-has : (t : TypeTable) (d : Index) → (t.source ≡ d.source) × (t.places.now ≡ d.types) → (at : ℕ) (has : List Bool) (b : Bool) →

@@ -474,7 +474,7 @@ module _ (A : Arrays) where
             retold G s s'' w w p 1 q _ _ y.holds _ _ refl (pre-codes G c a y) (pre_held G c a y)
             (closed G s s' s'' z w p 1 q _ _ y.holds _ _ u k n P D.beside D.kept D.begun
             (says-previous G s'.plan s''.plan s'.holds s''.holds z c bare p q a type value y.holds (tree_holds G c y.holds a) there u D.beside (counted T a c y) P.says inner.1.stands (typed-when c bare (operand_type (declared T.node) a) Q.0) D.kept
-            (λ b f h l m. D.row b f h (omega (arith, near.holds)) (omega (arith, room.flags))) o.2 (lies-owed o.3) (λ h. D.word (omega arith) h)))));
+            K.few (λ b f g h l m n. D.row b f g h (omega (arith, near.holds)) (omega (arith, room.flags)) n) o.2 (lies-owed o.3) (λ h. D.word (omega arith) h)))));
       }
         where
           with_none : (o : Option Fault) → {q : ℕ} {r : Result ℕ value.Fault} {P : Type 0} → Ended q r P o → Ended q r ((o ≡ none) × P) o

@@ -63,7 +63,7 @@ pub record Preceded (s s' : Tables) (c : Clock) (bare : Bool) (y : Needs) (p : �
   pub beside : Beside s.plan s'.plan p
   pub kept : HoldsKept s.holds s'.holds y.holds (settled (pre_turn c bare) c y).holds
   pub word : p < length s.plan → y.holds < 4294967295 → get_or s'.plan p 0 ≡ pre_word c bare y.holds
-  pub row : is_base c ≡ false → bare ≡ false → y.holds < 4294967295 → y.holds < length s.holds → 17 * length (add_with_parents c y.flags) ≤ length s'.flags → hold_at s'.holds y.holds ≡ record { at = p + 1; row = clock_place c (add_with_parents c y.flags) }
+  pub row : is_base c ≡ false → bare ≡ false → p + 1 < 4294967296 → y.holds < 4294967295 → y.holds < length s.holds → 17 * length (add_with_parents c y.flags) ≤ length s'.flags → length (add_with_parents c y.flags) < 4294967296 → hold_at s'.holds y.holds ≡ record { at = p + 1; row = clock_place c (add_with_parents c y.flags) }
 
 -- closing a call at p whose arguments end there; r is the answer
 pub record ClosesCall (A : Arrays) (s s' : Tables) (end p : ℕ) (r : Result ℕ value.Fault) : Type 0 where

@@ -1,6 +1,6 @@
 -- Defaults of outputs, which are few.
 -- Assumes nothing.
-use mathlib.Core.Path.{◌≡◌, refl, sym, ◌∙◌, ap}
+use mathlib.Core.Path.{◌≡◌, refl, sym, ◌∙◌}
 use mathlib.Core.List.{List, [], ◌∷◌}
 use mathlib.Core.Bool.{Bool, true, false}
 use mathlib.Core.Option.{Option, none, some}
@@ -12,7 +12,7 @@ use Rattle.definitions.specs.Lists.{choose, find, or_else, join}
 use Rattle.definitions.specs.Tokens.{TagValue}
 use Rattle.definitions.specs.Bytes.{tokens}
 use Rattle.definitions.specs.Tree.{Ty, Declared, TypeDef, Expr, Node}
-use Rattle.definitions.specs.Reading.{got, times}
+use Rattle.definitions.specs.Reading.{got}
 use Rattle.definitions.specs.Grammar.{declaration, ty}
 use Rattle.definitions.specs.Types.{default}
 use Rattle.definitions.specs.Declock.{is_operator_kind, operator_outputs}
@@ -20,15 +20,14 @@ use Rattle.definitions.specs.InferClocks.{Fault, no_output_default}
 use Rattle.definitions.specs.Output.{expr_tokens, operand_tokens}
 use Rattle.std.specs.declared.option.Option as code
 use Rattle.std.specs.declared.option.Option.TheVariants.{None, Some}
-use Rattle.std.specs.Option.{IsSomeAnd}
 use Rattle.layout.specs.declared.Span.{Span}
 use Rattle.layout.specs.declared.DeclarationLayout.{DeclarationLayout}
 use Rattle.layout.specs.Spans.{Spans}
-use Rattle.layout.specs.Laid.{LaidDeclaration}
-use Rattle.layout.proofs.TypedefsLaws.{declared-there, declared-first}
+use Rattle.layout.specs.Walk.{LaidAll}
+use Rattle.layout.proofs.Walks.{first-laid, none-laid}
 use Rattle.planned.specs.Opening.{Behind}
 use Rattle.grammar.proofs.Laws.{times-length}
-use Rattle.grammar.proofs.Got.{times-nil, declarations-got, node-got}
+use Rattle.grammar.proofs.Got.{declarations-got, node-got}
 use Rattle.operands.proofs.Laws.{count-place}
 use Rattle.index.specs.Callees.{NodesStand}
 use Rattle.stateless.specs.Yield.{output_trees}
@@ -47,46 +46,45 @@ module _ (types : List TypeDef) (nodes : List Node) (node : Node) (f : ℕ) wher
   unfolding outputs_fault
   first-default ds d rest w h = default-there (default types d.type) (no_output_default d.name f) (outputs_fault types nodes node f rest) (rw w at h)
 
-  pub no-defaults : (M : ℕ) (ts : List TagValue) (k p : ℕ) (ds : List Declared) (q : ℕ) (o : Output) → k ≡ 0 → times k (declaration M) ts p ≡ got ds q → o ≡ emits o (join (operand_tokens (output_trees types nodes node ds)))
+  no-defaults : (ds : List Declared) (o : Output) → ds ≡ [] → o ≡ emits o (join (operand_tokens (output_trees types nodes node ds)))
   unfolding output_trees operand_tokens
-  no-defaults M ts k p ds q o z g = let n = times-nil (declaration M) ts k p ds q z g in rw n.0 (sym (emits_none o))
+  no-defaults ds o z = rw z (sym (emits_none o))
 
   pub more-defaults : (ds : List Declared) (d : Declared) (rest : List Declared) (a : Expr) (o o₁ o₂ : Output) → ds ≡ d ∷ rest → default types d.type ≡ some a → o₁ ≡ emits o (expr_tokens a) → o₂ ≡ emits o₁ (join (operand_tokens (output_trees types nodes node rest))) →
       o₂ ≡ emits o (join (operand_tokens (output_trees types nodes node ds)))
   unfolding output_trees operand_tokens
   more-defaults ds d rest a o o₁ o₂ w i e g = after o o₁ o₂ (expr_tokens a) (join (operand_tokens (output_trees types nodes node rest))) e g ∙ rw (w, i)
 
--- so many outputs from p on, whose defaults are written
-module _ (types : List TypeDef) (nodes : List Node) (node : Node) (M : ℕ) (ts : List TagValue) where
-  pub record Defaulting (k p : ℕ) (o o₁ : Output) : Type 0 where
-    pub all : (f : ℕ) (ds : List Declared) (q : ℕ) → times k (declaration M) ts p ≡ got ds q → outputs_fault types nodes node f ds ≡ none → o₁ ≡ emits o (join (operand_tokens (output_trees types nodes node ds)))
+-- the outputs that a walk has still to give, whose defaults are to be written behind what is written
+module _ (types : List TypeDef) (nodes : List Node) (node : Node) (f M : ℕ) (ts : List TagValue) where
+  pub record DefaultsLeft (ls : List DeclarationLayout) (all o : Output) : Type 0 where
+    pub rest : List Declared
+    pub laid : LaidAll M ts rest ls
+    pub faultless : outputs_fault types nodes node f rest ≡ none
+    pub whole : all ≡ emits o (join (operand_tokens (output_trees types nodes node rest)))
 
-  pub defaulting-none : (k p : ℕ) (o : Output) → k ≡ 0 → Defaulting k p o o
-  defaulting-none k p o z = record { all = λ f ds q g h. no-defaults types nodes node f M ts k p ds q o z g }
+  pub defaults-next : (l : DeclarationLayout) (ls : List DeclarationLayout) (all o o₁ : Output) → ((t : Ty) (q : ℕ) (e : Expr) → ty M 8 ts l.type_at ≡ got t q → default types t ≡ some e → o₁ ≡ emits o (expr_tokens e)) → DefaultsLeft (l ∷ ls) all o → DefaultsLeft ls all o₁
+  defaults-next l ls all o o₁ put h =
+      let a = first-laid h.laid in
+      let b = first-default types nodes node f h.rest a.first a.rest a.whole h.faultless in
+      record {
+        rest = a.rest;
+        laid = a.others;
+        faultless = b.1;
+        whole = h.whole ∙ sym (more-defaults types nodes node f h.rest a.first a.rest b.0.0 o o₁ _ a.whole b.0.1 (put a.first.type a.to b.0.0 a.laid.typed b.0.1) refl);
+      }
 
-  -- where there are such outputs, and where there are none
-  pub defaulted : (s : Span) (u : code.Option Span) → u ≡ Some s → (o o₁ : Output) → Defaulting s.count s.at o o₁ → (f : ℕ) (ds : List Declared) → Behind M ts u ds → outputs_fault types nodes node f ds ≡ none → o₁ ≡ emits o (join (operand_tokens (output_trees types nodes node ds)))
+  pub defaults-end : (ls : List DeclarationLayout) (all o : Output) → ls ≡ [] → DefaultsLeft ls all o → o ≡ all
+  defaults-end ls all o e h = no-defaults types nodes node f h.rest o (none-laid (rw e at h.laid)) ∙ sym h.whole
+
+  -- where there are outputs, and where there are none
+  pub spans-behind : (s : Span) (u : code.Option Span) → u ≡ Some s → (ds : List Declared) → Behind M ts u ds → Spans (declaration M) ts ds s
   unfolding Behind
-  defaulted s u i o o₁ x f ds d h = let g : Spans (declaration M) ts ds s = rw i at d in x.all f ds s.end g.items h
+  spans-behind s u i ds d = rw i at d
 
   pub none-behind : (u : code.Option Span) → u ≡ None → (o : Output) (ds : List Declared) → Behind M ts u ds → o ≡ emits o (join (operand_tokens (output_trees types nodes node ds)))
-  unfolding Behind output_trees operand_tokens
-  none-behind u i o ds d = let g : ds ≡ [] = rw i at d in rw g (sym (emits_none o))
-
-module _ (types : List TypeDef) (nodes : List Node) (node : Node) (M : ℕ) (ts : List TagValue) (k p : ℕ) (o : Output) (some_left : k ≡ 0 → ⊥) (r : code.Option DeclarationLayout)
-    (read : (d : Declared) (q : ℕ) → declaration M ts p ≡ got d q → IsSomeAnd r (LaidDeclaration M ts p d q)) where
-  pub defaulting-refused : r ≡ None → (o₁ : Output) → Defaulting types nodes node M ts k p o o₁
-  defaulting-refused j o₁ = record { all = λ f ds q g h. absurd (declared-there M ts k p ds q some_left g (λ d s i. let z : ⊥ = rw j at read d s i in z)) }
-
-  pub defaulting-step : (l : DeclarationLayout) → r ≡ Some l → (o₁ o₂ : Output) → ((t : Ty) (q : ℕ) (e : Expr) → ty M 8 ts l.type_at ≡ got t q → default types t ≡ some e → o₁ ≡ emits o (expr_tokens e)) → (n : ℕ) → n ≡ k - 1 →
-      Defaulting types nodes node M ts n l.end o₁ o₂ → Defaulting types nodes node M ts k p o o₂
-  defaulting-step l b o₁ o₂ put n c x = record {
-    all = λ f ds q g h.
-        let u = declared-first M ts k p ds q some_left g l (λ d s i. rw b at read d s i) in
-        let d = u.0 in
-        let a = first-default types nodes node f ds _ d.rest d.whole h in
-        more-defaults types nodes node f ds _ d.rest a.0.0 o o₁ o₂ d.whole a.0.1 (put d.type d.next a.0.0 d.typed a.0.1) (x.all f d.rest q (ap (λ (y : ℕ). times y (declaration M) ts l.end) c ∙ u.1) a.1);
-  }
+  unfolding Behind
+  none-behind u i o ds d = no-defaults types nodes node f ds o (rw i at d)
 
 -- the outputs of an operator are few
 find-there : (p : Node → Bool) (l : List Node) (n : Node) → find p l ≡ some n → (i : ℕ) × (get_elem? l i ≡ some n)

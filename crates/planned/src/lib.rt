@@ -1,7 +1,7 @@
 // A planned node as tokens: its expressions, holds, left names, what stands around a right side, its equations.
 #![tactic(auto)]
 
-ghost use Rattle.std.specs.Prelude.{◌≡◌, List, [], ◌∷◌, map, ℕ, ◌+◌, ◌-◌, ◌≤◌, ◌<◌, ◌*◌, length, get_or, None};
+ghost use Rattle.std.specs.Prelude.{◌≡◌, List, [], ◌∷◌, map, ℕ, ◌+◌, ◌-◌, ◌≤◌, ◌<◌, length, get_or, None};
 ghost use Rattle.std.proofs.Math.Option.{none, some};
 ghost use Rattle.grammar.specs.Read.{tokens_of};
 ghost use Rattle.definitions.specs.Lists.{join};
@@ -14,7 +14,7 @@ ghost use Rattle.layout.specs.Table.{Table};
 ghost use Rattle.layout.specs.Owed.{Owed};
 ghost use Rattle.stateless.specs.Yield.{output_trees, Ids, left_tree, left_trees, right_yield, old_yield};
 ghost use Rattle.stateless.specs.Faults.{outputs_fault, left_fault, lefts_fault, right_fault, old_fault};
-ghost use Rattle.emit.specs.Out.{puts, emits};
+ghost use Rattle.emit.specs.Out.{emits};
 ghost use Rattle.planned.specs.Writes.{Writer, plan_of};
 ghost use Rattle.planned.specs.Opening.{two_more, Behind, plan_in, WritesIn, WriterStands, OpenedAs, WrittenAs};
 ghost use Rattle.definitions.specs.Declock.{Hold, declared, operand_type};
@@ -41,17 +41,17 @@ use typing::TypeFound;
 // ---- Writing an expression of an accepted sheet by its plan: an array that has a word for each token. Of a `pre` the word is 0, or the
 // number of its hold and one more; of a `->` 0, or the row of its first-tick flag and one more; of a call 0, or the row of its activation
 // flag and one more; of a when and a merge, and of all else, the tag says what becomes of it. `output` is what is written so far.
-// Stays (fixed memory): words and no options, since the plan lies in a working table of words, which has chains for other questions.
 
 // A hold: where its operand stands, and the row of its flag.
 #[derive(Clone, Copy)]
 pub struct HeldOperand {
-    pub at: usize,
-    pub row: usize,
+    pub at: u32,
+    pub row: u32,
 }
 
 // What writing a node's equations reads: the sheet's index, the plan, the table of parts, the ids of new names by row and by number, the
 // holds, and the declared types of the node's names.
+// Stays (fixed memory): `plan` and `types` are words and no options, since they are working tables of words, for other questions too.
 #[derive(Clone, Copy)]
 pub struct WriteInput<'a> {
     pub index: &'a Index<'a>,
@@ -102,7 +102,7 @@ fn id_of(ids: &[u32], word: u32) -> u32
 }
 
 // What becomes of a token with this tag, value and word. The two `when` are apart, since of `a | b` over numbers the goals are by bounds.
-// Stays (speed): a look at the tag; by whole tokens 32 counters take 5 instructions in 100 more.
+// Stays (speed): the tag alone: `rewrite` of 32 counters takes 3.56 million instructions, 3.74 by whole tokens, and the bar is 3.65.
 fn plan_of(written: &WriteInput<'_>, tag: u8, value: u32, word: u32) -> Plan
     ensures { result ≡ plan_of written.now.flag_ids.now written.now.first_ids.now written.now.hold_ids.now tag value word }
 {
@@ -147,76 +147,71 @@ fn put_defaults(index: &Index<'_>, outputs: Option<Span>, output: &mut Output)
         return;
     };
     let table = index.type_table();
-    let mut place = outputs.at;
-    for _ in 0..outputs.count {
-        let Some(declared) = layout::declaration_at(&index.source, place) else {
-            return;
-        };
+    for declared in layout::declarations(&index.source, outputs) {
         defaults::emit_default(&table, declared.type_at, output);
-        place = declared.end;
     }
 }
 
-// The end of the part behind a token.
+// The end of the part that stands there.
 fn part_end(source: &Source<'_>, at: usize) -> usize
-    requires at_in_bounds { at < length source.now.tags.now }
-    ensures lower_bound { at < result }
-    ensures by_index { (q : ℕ) → Owed source.now.tags.now source.now.values.now (at + 1) 1 q → result ≡ q }
+    ensures lower_bound { at ≤ result }
+    ensures by_index { (q : ℕ) → Owed source.now.tags.now source.now.values.now at 1 q → result ≡ q }
 {
-    let end = layout::past(source, 1, at + 1);
-    if end <= at { at + 1 } else { end }
+    layout::past(source, 1, at).max(at)
 }
 
-// What is written before the parts of a call that is gated under this flag.
-fn open_gate(written: &WriteInput<'_>, at: usize, flag: u32, output: &mut Output) -> Opened
-    requires at_in_bounds { at < length written.now.index.now.source.tags.now }
-    ensures from_value { (result.from ≡ at + 1) × (result.many ≡ 0 → result.outputs ≡ None) }
-    ensures opened_as { (W : Writer) (q : ℕ) (l : List TagValue) → WriterStands written.now W → plan_in written.now W at ≡ Plan.Gate flag → WritesIn written.now W at 1 q l → OpenedAs written.now W q l result output.old output.new }
+// What is written before the parts, which stand from a place on, of a call with this tag and value that is gated under this flag.
+fn open_gate(
+    written: &WriteInput<'_>,
+    tag: u8,
+    value: u32,
+    from: usize,
+    flag: u32,
+    output: &mut Output,
+) -> Opened
+    ensures from_value { (result.from ≡ from) × (result.many ≡ 0 → result.outputs ≡ None) }
+    ensures opened_as { let s = written.now.index.now.source in (W : Writer) (at q : ℕ) (l : List TagValue) → WriterStands written.now W → from ≡ at + 1 → tag ≡ get_or s.tags.now at 0 → value ≡ get_or s.values.now at 0 → plan_in written.now W at ≡ Plan.Gate flag → WritesIn written.now W at 1 q l → OpenedAs written.now W q l result output.old output.new }
 {
     let index = written.index;
-    let tags = index.source.tags;
-    let values = index.source.values;
-    let value = values[at];
     let Some(outputs) = index.operator_of(value) else {
-        return bare(0, at + 1);
+        return bare(0, from);
     };
     put_gate(output, index.condact, outputs.count, flag);
-    output.put(tags[at], value);
+    output.put(tag, value);
     Opened {
         many: 1,
-        from: at + 1,
+        from,
         outputs: Some(outputs),
     }
 }
 
-// What is written before the parts of a token, by what becomes of it.
-fn opening(written: &WriteInput<'_>, at: usize, p: Plan, output: &mut Output) -> Opened
-    requires at_in_bounds { at < length written.now.index.now.source.tags.now }
-    ensures at_lt_from { (at < result.from) × (result.many ≡ 0 → result.outputs ≡ None) }
-    ensures opened_as { (W : Writer) (q : ℕ) (l : List TagValue) → WriterStands written.now W → plan_in written.now W at ≡ p → WritesIn written.now W at 1 q l → OpenedAs written.now W q l result output.old output.new }
+// What is written before the parts, which stand from a place on, of a token with this tag and value, by what becomes of it.
+fn opening(
+    written: &WriteInput<'_>,
+    tag: u8,
+    value: u32,
+    from: usize,
+    p: Plan,
+    output: &mut Output,
+) -> Opened
+    ensures from_bound { (from ≤ result.from) × (result.many ≡ 0 → result.outputs ≡ None) }
+    ensures opened_as { let s = written.now.index.now.source in (W : Writer) (at q : ℕ) (l : List TagValue) → WriterStands written.now W → from ≡ at + 1 → tag ≡ get_or s.tags.now at 0 → value ≡ get_or s.values.now at 0 → plan_in written.now W at ≡ p → WritesIn written.now W at 1 q l → OpenedAs written.now W q l result output.old output.new }
 {
-    let source = &written.index.source;
-    let tags = source.tags;
-    let values = source.values;
     match p {
         Plan::Stay => {
-            let tag = tags[at];
-            let value = values[at];
             output.put(tag, value);
-            let many = written.parts.follow(tag, value);
-            bare(many, at + 1)
+            bare(written.parts.follow(tag, value), from)
         }
-        Plan::Drop => bare(1, at + 1),
+        Plan::Drop => bare(1, from),
         Plan::Choose(x) => {
             put_named(output, ExprToken::If, x);
-            bare(2, at + 1)
+            bare(2, from)
         }
         Plan::Hold(x) => {
             put_named(output, ExprToken::Pre, x);
-            let end = part_end(source, at);
-            bare(0, end)
+            bare(0, part_end(&written.index.source, from))
         }
-        Plan::Gate(x) => open_gate(written, at, x, output),
+        Plan::Gate(x) => open_gate(written, tag, value, from, x, output),
     }
 }
 
@@ -231,9 +226,11 @@ fn expr(written: &WriteInput<'_>, at: usize, output: &mut Output) -> usize
     if tags.len() <= at {
         return at;
     }
+    let tag = tags[at];
+    let value = values[at];
     let word = clock_tables::word_at(written.plan, at);
-    let p = plan_of(written, tags[at], values[at], word);
-    let o = opening(written, at, p, output);
+    let p = plan_of(written, tag, value, word);
+    let o = opening(written, tag, value, at + 1, p, output);
     if o.many == 0 {
         return o.from;
     }
@@ -280,16 +277,13 @@ fn put_type_at(source: &Source<'_>, at: usize, output: &mut Output)
 }
 
 // The tokens of a type that was found.
-// Stays (proof): one pattern after another; tried in one `match`, whose equation of the inner variant no lemma of `IsFound` takes.
 fn put_type(source: &Source<'_>, found: Option<TypeFound>, output: &mut Output)
     ensures { (a : Ty) → IsFound source.now.names (tokens_of source.now) (some a) found → output.new ≡ emits output.old (ty_tokens a) }
 {
-    let Some(f) = found else {
-        return;
-    };
-    match f {
-        TypeFound::At(p) => put_type_at(source, p, output),
-        TypeFound::Basic(b) => output.emit(Token::Type(TypeToken::Basic(b))),
+    match found {
+        Some(TypeFound::At(p)) => put_type_at(source, p, output),
+        Some(TypeFound::Basic(b)) => output.emit(Token::Type(TypeToken::Basic(b))),
+        None => {}
     }
 }
 
@@ -313,13 +307,20 @@ fn hold_at(holds: &[HeldOperand], j: usize) -> HeldOperand
 }
 
 // The declarations of so many holds.
+// Stays (no plainer): a count beside `written.holds`, here and below: `write_planned` is lent a table of any length, of which a plan counts.
 pub fn put_hold_declarations(written: &WriteInput<'_>, count: usize, output: &mut Output)
     ensures { let s = written.now.index.now.source in (W : Writer) (plan : List ℕ) (hs : List Hold) (ids : Ids) → length hs ≡ count → HeldFrom s.names s.tags.now s.values.now W plan written.now.holds.now 0 hs → Declares s.names (tokens_of s) written.now.types.now (declared W.node) → ((j : ℕ) → ids.hold j ≡ get_or written.now.hold_ids.now j 0) → output.new ≡ emits output.old (hold_declarations ids 0 hs) }
 {
     for j in 0..count {
         let x = clock_tables::word_at(written.hold_ids, j);
         let held = hold_at(written.holds, j);
-        put_declaration(&written.index.source, written.types, held.at, x, output);
+        put_declaration(
+            &written.index.source,
+            written.types,
+            held.at as usize,
+            x,
+            output,
+        );
     }
 }
 
@@ -341,9 +342,9 @@ fn put_equation(written: &WriteInput<'_>, j: usize, output: &mut Output)
 {
     let x = clock_tables::word_at(written.hold_ids, j);
     let held = hold_at(written.holds, j);
-    let flag = clock_tables::word_at(written.flag_ids, held.row);
+    let flag = clock_tables::word_at(written.flag_ids, held.row as usize);
     put_hold(output, x, flag);
-    expr(written, held.at, output);
+    expr(written, held.at as usize, output);
     put_named(output, ExprToken::Pre, x);
 }
 
@@ -464,11 +465,12 @@ fn one_equation(written: &WriteInput<'_>, at: usize, output: &mut Output) -> usi
 }
 
 // So many equations of the node, which stand there, in order.
-pub fn old_equations(written: &WriteInput<'_>, count: u32, at: usize, output: &mut Output)
-    ensures { let s = written.now.index.now.source in (W : Writer) (ids : Ids) (layout : NodeLayout) (cs : List Clocked) (end : ℕ) → Grounds written.now layout W → ids.condact ≡ W.condact → old_fault W.types W.nodes W.node W.condact 0 cs ≡ none → length cs ≡ count → EquationsPlanned s.names s.tags.now s.values.now W written.now.plan.now W.condact ids 0 cs at end → output.new ≡ emits output.old (join (map equation_tokens (old_yield W.types W.nodes W.node ids 0 cs).value)) }
+pub fn old_equations(written: &WriteInput<'_>, equations: Span, output: &mut Output)
+    ensures { let s = written.now.index.now.source in (W : Writer) (ids : Ids) (layout : NodeLayout) (cs : List Clocked) (end : ℕ) → Grounds written.now layout W → ids.condact ≡ W.condact → old_fault W.types W.nodes W.node W.condact 0 cs ≡ none → length cs ≡ equations.count → EquationsPlanned s.names s.tags.now s.values.now W written.now.plan.now W.condact ids 0 cs equations.at end → output.new ≡ emits output.old (join (map equation_tokens (old_yield W.types W.nodes W.node ids 0 cs).value)) }
 {
-    let mut place = at;
-    for _ in 0..count {
+    // Stays (no plainer): the walk over an equation says where the next one stands, which an iterator over equations would read again.
+    let mut place = equations.at;
+    for _ in 0..equations.count {
         place = one_equation(written, place, output);
     }
 }

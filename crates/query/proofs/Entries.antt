@@ -15,12 +15,12 @@ use Rattle.definitions.specs.Tree.{Equation}
 use Rattle.definitions.specs.Reading.{got}
 use Rattle.definitions.specs.Grammar.{equation}
 use Rattle.definitions.specs.Clock.{Clock, base}
-use Rattle.definitions.specs.InferClocks.{Clocked, Finding, found, NodeFault, fault_number, chains, clock_faults}
+use Rattle.definitions.specs.InferClocks.{Clocked, Finding, found, NodeFault, chains, clock_faults}
 use Rattle.definitions.specs.Output.{ClockedNode}
 use Rattle.definitions.specs.declared.FaultRecord.{FaultRecord}
 use Rattle.definitions.specs.Answer.{fault_record, node_clocks}
 use Rattle.lines.specs.declared.ToldNode.{ToldNode}
-use Rattle.lines.proofs.Laws.{picked-length, node-many}
+use Rattle.lines.proofs.Laws.{node-many}
 use Rattle.query.specs.declared.NodeCounts.{NodeCounts}
 use Rattle.query.specs.Standing.{NodeWithClocks}
 use Rattle.clock_tables.specs.Flat.{clock_in, clock_words, with_clock}
@@ -28,10 +28,11 @@ use Rattle.clock_tables.proofs.FlatLaws.{over-long, words_long}
 use Rattle.skeleton.specs.Sites.{EquationsOn}
 use Rattle.findings.specs.Findings.{finding_in, findings_in}
 use Rattle.findings.proofs.Laws.{none_yet, count-more, faults-one, faults-no}
-use Rattle.chain_order.specs.Order.{row_of, picked}
-use Rattle.spelling.specs.Writing.{over_at}
+use Rattle.spelling.specs.Writing.{over_at, last_place}
 use Rattle.spelling.proofs.Writing.{over-front, over-parts, over-set, over-then}
 use Rattle.query.specs.Words.{clocks_over, found_counts, Written}
+use Rattle.query.specs.Faults.{Pushed}
+use Rattle.query.specs.declared.fault_list.FaultList.{FaultList}
 use Rattle.query.proofs.Words.{join_last}
 
 -- one item more
@@ -107,30 +108,26 @@ module _ (l : List Clock) (lent : List ℕ) where
   clocks-entered i now h g = g ∙ ap (λ (k : List Clock). clocks_over k lent) (take_all i l h)
 
 -- ---- the rows of chains
-picked-item : (f : ℕ → Clock) (o : List ℕ) (i n j : ℕ) → j < n → get_or (picked f o i n) j base ≡ f (get_or o (i + j) 0)
-unfolding picked
-picked-item f o i zero j h = absurd (omega arith)
-picked-item f o i (suc n) zero h = let e : i + 0 ≡ i = omega arith in rw e
-picked-item f o i (suc n) (suc j) h = let e : i + suc j ≡ i + 1 + j = omega arith in rw e (picked-item f o (i + 1) n j (omega arith))
+mapped-item : (f : ℕ → Clock) (o : List ℕ) (i : ℕ) → i < length o → get_or (map f o) i base ≡ f (get_or o i 0)
+mapped-item f [] i h = absurd (omega arith)
+mapped-item f (x ∷ o) zero h = refl
+mapped-item f (x ∷ o) (suc i) h = mapped-item f o i (omega arith)
 
-module _ (rows chain : List ℕ) (m : ℕ) (lent : List ℕ) where
-  pub row-entered : (i : ℕ) (v : Clock) (now after : List ℕ) → i < m → v ≡ row_of rows (get_or chain i 0)
+module _ (f : ℕ → Clock) (chain lent : List ℕ) where
+  pub row-entered : (i : ℕ) (v : Clock) (now after : List ℕ) → i < length chain → v ≡ f (get_or chain i 0)
       → (17 * i + 17 ≤ length now → after ≡ with_clock (17 * i) v now) → (length now < 17 * i + 17 → after ≡ now)
-      → now ≡ clocks_over (take i (picked (row_of rows) chain 0 m)) lent → after ≡ clocks_over (take (i + 1) (picked (row_of rows) chain 0 m)) lent
-  row-entered i v now after h e put kept g =
-      let o : 0 + i ≡ i = omega arith in
-      let w : v ≡ get_or (picked (row_of rows) chain 0 m) i base = e ∙ (ap (λ (j : ℕ). row_of rows (get_or chain j 0)) (sym o) ∙ sym (picked-item (row_of rows) chain 0 m i h)) in
-      clock-entered (picked (row_of rows) chain 0 m) lent v i now after (omega (arith, h, picked-length (row_of rows) chain 0 m)) w put kept g
+      → now ≡ clocks_over (take i (map f chain)) lent → after ≡ clocks_over (take (i + 1) (map f chain)) lent
+  row-entered i v now after h e put kept g = clock-entered (map f chain) lent v i now after (omega (arith, h, length-map chain f)) (e ∙ sym (mapped-item f chain i h)) put kept g
 
-  pub rows-entered : (i : ℕ) (now : List ℕ) → m ≤ i → now ≡ clocks_over (take i (picked (row_of rows) chain 0 m)) lent → now ≡ clocks_over (picked (row_of rows) chain 0 m) lent
-  rows-entered i now h g = clocks-entered (picked (row_of rows) chain 0 m) lent i now (omega (arith, h, picked-length (row_of rows) chain 0 m)) g
+  pub rows-entered : (i : ℕ) (now : List ℕ) → length chain ≤ i → now ≡ clocks_over (take i (map f chain)) lent → now ≡ clocks_over (map f chain) lent
+  rows-entered i now h g = clocks-entered (map f chain) lent i now (omega (arith, h, length-map chain f)) g
 
 -- the rows are these chains
-module _ (rows chain : List ℕ) (m : ℕ) (cs : List Clock) (h : picked (row_of rows) chain 0 m ≡ cs) where
-  pub chains-many : m ≡ length cs
-  chains-many = sym (picked-length (row_of rows) chain 0 m) ∙ ap length h
+module _ (f : ℕ → Clock) (chain : List ℕ) (cs : List Clock) (h : map f chain ≡ cs) where
+  pub chains-many : length chain ≡ length cs
+  chains-many = sym (length-map chain f) ∙ ap length h
 
-  pub chains-written : (lent now : List ℕ) → now ≡ clocks_over (picked (row_of rows) chain 0 m) lent → now ≡ clocks_over cs lent
+  pub chains-written : (lent now : List ℕ) → now ≡ clocks_over (map f chain) lent → now ≡ clocks_over cs lent
   chains-written lent now e = e ∙ ap (λ (l : List Clock). clocks_over l lent) h
 
 -- ---- the clocks of equations
@@ -174,41 +171,39 @@ module _ (M : ℕ) (gs vs sites : List ℕ) (cs : List Clocked) (q : ℕ) (lent 
   equations-entered i place now h u = clocks-entered (map (λ (c : Clocked). c.clock) cs) lent i now (omega (arith, h, length-map cs (λ (c : Clocked). c.clock))) u.entered
 
 -- ---- faults
-module _ (node : ℕ) (fs : List NodeFault) (f : NodeFault) (lent : List FaultRecord) where
-  -- one fault more, if there is a place for it
-  fault-next : (m : ℕ) (now : List FaultRecord) → m ≡ length fs → now ≡ over (map (fault_record node) fs) lent → set now m (fault_record node f) ≡ over (map (fault_record node) (fs ++ (f ∷ []))) lent
-  fault-next m now e g =
-      let p = map (fault_record node) fs in
-      let n : m ≡ 0 + length (map (fault_record node) fs) = omega (arith, e, length-map fs (fault_record node)) in
-      sym (over-set m (fault_record node f) now)
-      ∙ (ap (λ (l : List FaultRecord). over_at m (fault_record node f ∷ []) l) (g ∙ sym (over-front p lent))
-      ∙ (ap (λ (j : ℕ). over_at j (fault_record node f ∷ []) (over_at 0 p lent)) n
-      ∙ (over-then 0 p (fault_record node f ∷ []) lent
-      ∙ (over-front (p ++ (fault_record node f ∷ [])) lent
-      ∙ ap (λ (l : List FaultRecord). over l lent) (sym (map_last (fault_record node) fs f))))))
+-- one record more behind others that stand over the front of a list, if there is a place for it
+pub set-behind : (l : List FaultRecord) (a : FaultRecord) (lent : List FaultRecord) (m : ℕ) (now : List FaultRecord) → m ≡ length l → now ≡ over l lent → set now m a ≡ over (l ++ (a ∷ [])) lent
+set-behind l a lent m now e g =
+    let n : m ≡ 0 + length l = omega (arith, e) in
+    sym (over-set m a now)
+    ∙ (ap (λ (s : List FaultRecord). over_at m (a ∷ []) s) (g ∙ sym (over-front l lent))
+    ∙ (ap (λ (j : ℕ). over_at j (a ∷ []) (over_at 0 l lent)) n
+    ∙ (over-then 0 l (a ∷ []) lent
+    ∙ over-front (l ++ (a ∷ [])) lent)))
 
--- the faults of the first i rows are written, m in all
-pub record Faults (node : ℕ) (t : List ℕ) (lent : List FaultRecord) (i m : ℕ) (now : List FaultRecord) : Type 0 where
-  pub count : m ≡ length (clock_faults (findings_in t i))
-  pub written : now ≡ over (map (fault_record node) (clock_faults (findings_in t i))) lent
+-- the faults of the first i rows are in the list
+pub record Faults (node : ℕ) (t : List ℕ) (lent : List FaultRecord) (i : ℕ) (l : FaultList) : Type 0 where
+  pub few : l.count ≤ i
+  pub count : l.count ≡ length (clock_faults (findings_in t i))
+  pub written : l.records.now ≡ over (map (fault_record node) (clock_faults (findings_in t i))) lent
 
 module _ (node : ℕ) (t : List ℕ) (lent : List FaultRecord) where
-  pub faults-none : Faults node t lent 0 0 lent
-  faults-none = let e = (none_yet t).0 in record { count = rw e refl; written = rw e refl }
+  pub faults-none : (l : FaultList) → l.count ≡ 0 → l.records.now ≡ lent → Faults node t lent 0 l
+  faults-none l z w = let e = (none_yet t).0 in record { few = omega (arith, z); count = rw e z; written = rw e w }
 
-  module _ (i m : ℕ) (now : List FaultRecord) (z : Faults node t lent i m now) where
-    module _ (f : Finding) (e : f ≡ finding_in t (38 * i)) where
-      pub fault-written : (g : NodeFault) (number : ℕ) (after : List FaultRecord) → f ≡ found g → number ≡ fault_number g.fault → after ≡ set now m (record { node = node; fault = number; equation = g.equation }) → Faults node t lent (i + 1) (m + 1) after
-      fault-written g number after h k a =
-          let w : after ≡ set now m (fault_record node g) = a ∙ ap (λ (j : ℕ). set now m (record { node = node; fault = j; equation = g.equation })) k in
-          let s : clock_faults (findings_in t (i + 1)) ≡ clock_faults (findings_in t i) ++ (g ∷ []) = faults-one t i f e h in
-          record {
-            count = rw s (count-more (clock_faults (findings_in t i)) g m z.count);
-            written = rw s (w ∙ fault-next node (clock_faults (findings_in t i)) g lent m now z.count z.written);
-          }
+  module _ (i : ℕ) (l : FaultList) (z : Faults node t lent i l) (f : Finding) (e : f ≡ finding_in t (38 * i)) where
+    pub fault-written : (g : NodeFault) (l₁ : FaultList) → f ≡ found g → i < last_place → Pushed (fault_record node g) l l₁ → Faults node t lent (i + 1) l₁
+    fault-written g l₁ h few p =
+        let s : clock_faults (findings_in t (i + 1)) ≡ clock_faults (findings_in t i) ++ (g ∷ []) = faults-one t i f e h in
+        let n : l₁.count ≡ l.count + 1 = omega (arith, p.next, z.few, few) in
+        record {
+          few = omega (arith, n, z.few);
+          count = rw s (n ∙ count-more (clock_faults (findings_in t i)) g l.count z.count);
+          written = rw s (p.put ∙ (set-behind (map (fault_record node) (clock_faults (findings_in t i))) (fault_record node g) lent l.count l.records.now (z.count ∙ sym (length-map (clock_faults (findings_in t i)) (fault_record node))) z.written ∙ ap (λ (k : List FaultRecord). over k lent) (sym (map_last (fault_record node) (clock_faults (findings_in t i)) g))));
+        }
 
-      pub fault-passed : clock_faults (f ∷ []) ≡ [] → Faults node t lent (i + 1) m now
-      fault-passed h = let s = faults-no t i f e h in record { count = rw s z.count; written = rw s z.written }
+    pub fault-passed : clock_faults (f ∷ []) ≡ [] → Faults node t lent (i + 1) l
+    fault-passed h = let s = faults-no t i f e h in record { few = omega (arith, z.few); count = rw s z.count; written = rw s z.written }
 
 -- ---- a node
 counts_same : (a a' b b' c c' d d' e e' : ℕ) → a ≡ a' → b ≡ b' → c ≡ c' → d ≡ d' → e ≡ e'
@@ -218,7 +213,7 @@ counts_same a a' b b' c c' d d' e e' p q r s t = rw (p, q, r, s, t)
 module _ (letters : ℕ → Letters) (gs vs t sites : List ℕ) (told : ToldNode) (n : ClockedNode) (z : NodeWithClocks gs vs t sites told n) where
   pub node-written : (es cs : List ℕ) (fs : List FaultRecord) (es' cs' : List ℕ) (fs' : List FaultRecord) (r : NodeCounts)
       → ((M : ℕ) (ks : List Clocked) (q : ℕ) → EquationsOn M gs vs sites ks told.layout.equations.at q → length ks ≡ told.layout.equations.count → es' ≡ clocks_over (map (λ (c : Clocked). c.clock) ks) es)
-      → r ≡ found_counts letters t told → cs' ≡ clocks_over (chains letters (findings_in t told.findings)) cs → fs' ≡ over (map (fault_record told.number) (clock_faults (findings_in t told.findings))) fs
+      → r ≡ found_counts letters t told → cs' ≡ clocks_over (chains letters (findings_in t told.clocked.findings)) cs → fs' ≡ over (map (fault_record told.number) (clock_faults (findings_in t told.clocked.findings))) fs
       → Written told.number (node_clocks letters n) es cs fs es' cs' fs' r
   unfolding node_clocks
   node-written es cs fs es' cs' fs' r E R C F =

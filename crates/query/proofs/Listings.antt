@@ -1,21 +1,21 @@
 -- Listings put one behind another. Assumes nothing.
 use mathlib.Core.Path.{◌≡◌, refl, sym, subst, ◌∙◌, ap}
 use mathlib.Core.List.{List, [], ◌∷◌, ◌++◌, append_assoc, append-nil}
-use Prim.Native.Nat.{ℕ, suc, ◌+◌, ◌-◌, ◌*◌, ◌≤◌, ◌<◌}
+use Prim.Native.Nat.{ℕ, suc, ◌+◌, ◌*◌, ◌≤◌, ◌<◌}
 use native.Mathlib.Omega.{arith}
-use native.Mathlib.Numerals.{add-one}
 use lib.ListN.{length, length-append}
+use Rattle.std.specs.Prelude.{None, Some}
 use Rattle.std.proofs.Common.{Result, Ok, Err}
 use Rattle.definitions.specs.Lists.{join, numbered, Letters}
-use Rattle.definitions.specs.Tokens.{TagValue}
-use Rattle.definitions.specs.Bytes.{tokens}
 use Rattle.definitions.specs.Tree.{Node}
-use Rattle.definitions.specs.Reading.{got, times}
-use Rattle.definitions.specs.Grammar.{node}
 use Rattle.definitions.specs.Refusals.{Answer, accepted, refused, faulty, ◌>>=◌}
 use Rattle.definitions.specs.Output.{ClockedNode}
 use Rattle.definitions.specs.Answer.{clockings, node_listing}
-use Rattle.grammar.proofs.Got.{times-nil, times-cons}
+use Rattle.grammar.specs.declared.source.Source.{Source}
+use Rattle.grammar.specs.Read.{tokens_of}
+use Rattle.layout.specs.declared.walk.Nodes.{Nodes}
+use Rattle.layout.specs.Walk.{GivesNode, NodesLeft}
+use Rattle.layout.proofs.Walks.{FirstNode, first-node, no-node}
 use Rattle.layout.specs.declared.NodeLayout.{NodeLayout}
 use Rattle.layout.specs.Laid.{LaidNode}
 use Rattle.definitions.specs.declared.Refusal.{Refusal}
@@ -49,11 +49,12 @@ wrote-put text {w} {w₁} lent now z e f few u =
     record { long = omega (arith, u.next, z, few); bytes = f ∙ (u.put.bytes ∙ (ap (λ (p : ℕ). over_at p text w.out.now) z ∙ ap (λ (l : List ℕ). over_at 0 text l) (sym e))) }
 
 -- ---- all nodes
--- the listings so far are put, and the nodes left; `v` is what is answered of all
-pub record Putting (M : ℕ) (ts : List TagValue) (letters : ℕ → Letters) (left i place q : ℕ) (from now : TextWriter) (v : Answer (List ClockedNode)) : Type 0 where
+-- the listings so far are put, and the nodes left, of n in all; `v` is what is answered of all
+pub record Putting (source : Source) (letters : ℕ → Letters) (n i q : ℕ) (s : Nodes) (from now : TextWriter) (v : Answer (List ClockedNode)) : Type 0 where
   pub rest : List Node
   pub so_far : List ClockedNode
-  pub items : times left (node M) ts place ≡ got rest q
+  pub left : NodesLeft source rest q s
+  pub total : i + s.left ≡ n
   pub many : i ≡ length so_far
   pub whole : v ≡ (clockings i rest >>= λ l. accepted (so_far ++ l))
   pub put : Wrote (join (numbered (node_listing letters) 0 so_far)) from now
@@ -65,59 +66,56 @@ one-behind so_far a (accepted l) = ap accepted (sym (append_assoc so_far (a ∷ 
 one-behind so_far a (refused r) = refl
 one-behind so_far a (faulty l) = refl
 
-module _ (M : ℕ) (gs vs : List ℕ) (letters : ℕ → Letters) (from : TextWriter) where
-  pub putting-none : (n at q : ℕ) (ns : List Node) → times n (node M) (tokens gs vs) at ≡ got ns q → Putting M (tokens gs vs) letters (n - 0) 0 at q from from (clockings 0 ns)
-  putting-none n at q ns g =
-      let k : n - 0 ≡ n = omega arith in
-      record { rest = ns; so_far = []; items = rw k g; many = refl; whole = all_left (clockings 0 ns); put = wrote_none from; few = omega arith }
+module _ (source : Source) (letters : ℕ → Letters) (n q : ℕ) (from : TextWriter) where
+  pub putting-none : (s : Nodes) (ns : List Node) → s.left ≡ n → NodesLeft source ns q s → Putting source letters n 0 q s from from (clockings 0 ns)
+  putting-none s ns e h = record { rest = ns; so_far = []; left = h; total = omega (arith, e); many = refl; whole = all_left (clockings 0 ns); put = wrote_none from; few = omega arith }
 
-  module _ (n i place q : ℕ) (now : TextWriter) (v : Answer (List ClockedNode)) (l : NodeLayout) (z : i < n) (L : (x : Node) (q : ℕ) → node M (tokens gs vs) place ≡ got x q → LaidNode M (tokens gs vs) x q l) (h : Putting M (tokens gs vs) letters (n - i) i place q from now v) where
+  module _ (i : ℕ) (s t : Nodes) (now : TextWriter) (v : Answer (List ClockedNode)) (l : NodeLayout) (h : Putting source letters n i q s from now v) (g : GivesNode s (Some l) t) where
     -- the node that stands there
-    node-here : (x : Node) × (s : ℕ) × (xs : List Node) × LaidNode M (tokens gs vs) x s l × (times (n - (i + 1)) (node M) (tokens gs vs) l.end ≡ got xs q) × (h.rest ≡ x ∷ xs)
-    node-here =
-        let c = times-cons (node M) (tokens gs vs) (n - i) place h.rest q (λ y. omega (arith, y)) h.items in
-        let d = L c.0 c.1 c.3 in
-        let w : n - (i + 1) ≡ n - i - 1 = omega arith in
-        (c.0, c.1, c.2, d, rw (d.ends, w) c.4, c.5)
+    here : FirstNode source h.rest q s l t
+    here = first-node h.left g
 
-    module _ (k : ℕ) (e : k ≡ i) (t sites : List ℕ) where
-      pub putting-deep : (r : Refusal) → ((x : Node) (s : ℕ) → LaidNode M (tokens gs vs) x s l → ClockedAs M gs vs t sites k x (Err r)) → v ≡ refused r
+    lefts : s.left ≡ suc t.left
+    unfolding GivesNode
+    lefts = g.0
+
+    module _ (k : ℕ) (e : k ≡ i) (table sites : List ℕ) where
+      pub putting-deep : (r : Refusal) → ((x : Node) (e : ℕ) → LaidNode source.names (tokens_of source) x e l → ClockedAs source.names source.tags.now source.values.now table sites k x (Err r)) → v ≡ refused r
       unfolding ClockedAs
       putting-deep r C =
-          let d = C node-here.0 node-here.1 node-here.3 in
-          let w : clockings i h.rest ≡ refused (Refusal.Deep i) = ap (clockings i) node-here.5 ∙ node-deep i node-here.0 node-here.2 d.0 in
+          let d = C here.first here.to here.laid in
+          let w : clockings i h.rest ≡ refused (Refusal.Deep i) = ap (clockings i) here.whole ∙ node-deep i here.first here.rest d.0 in
           h.whole ∙ (ap (λ (y : Answer (List ClockedNode)). y >>= λ l. accepted (h.so_far ++ l)) w ∙ (ap (λ (j : ℕ). refused (Refusal.Deep j)) (sym e) ∙ ap refused (sym d.1)))
 
-      pub putting-more : (told : ToldNode) (after : TextWriter) → ((x : Node) (s : ℕ) → LaidNode M (tokens gs vs) x s l → ClockedAs M gs vs t sites k x (Ok told)) → ((y : ClockedNode) → NodeWithClocks gs vs t sites told y → Wrote (node_listing letters told.number y) now after) → ((y : ClockedNode) → NodeWithClocks gs vs t sites told y → length (node_listing letters told.number y) ≤ farthest)
-          → Putting M (tokens gs vs) letters (n - (i + 1)) (i + 1) l.end q from after v
+      pub putting-more : (j : ℕ) → j ≡ i + 1 → (told : ToldNode) (after : TextWriter) → ((x : Node) (e : ℕ) → LaidNode source.names (tokens_of source) x e l → ClockedAs source.names source.tags.now source.values.now table sites k x (Ok told)) → ((y : ClockedNode) → NodeWithClocks source.tags.now source.values.now table sites told y → Wrote (node_listing letters told.number y) now after) → ((y : ClockedNode) → NodeWithClocks source.tags.now source.values.now table sites told y → length (node_listing letters told.number y) ≤ farthest)
+          → Putting source letters n j q t from after v
       unfolding ClockedAs
-      putting-more told after C P F =
-          let d = C node-here.0 node-here.1 node-here.3 in
-          let y : ClockedNode = record { node = node-here.0; clocking = d.0 } in
-          let w : clockings i h.rest ≡ (clockings (suc i) node-here.2 >>= λ l. accepted (y ∷ l)) = ap (clockings i) node-here.5 ∙ node-formed i node-here.0 node-here.2 d.0 d.1 in
-          let b : v ≡ (clockings (suc i) node-here.2 >>= λ l. accepted ((h.so_far ++ (y ∷ [])) ++ l)) =
-          h.whole ∙ (ap (λ (x : Answer (List ClockedNode)). x >>= λ l. accepted (h.so_far ++ l)) w ∙ one-behind h.so_far y (clockings (suc i) node-here.2)) in
-          let g = P y d.2 in
+      putting-more j next told after C P F =
+          let d = C here.first here.to here.laid in
+          let y : ClockedNode = record { node = here.first; clocking = d.0 } in
+          let w : clockings i h.rest ≡ (clockings (suc i) here.rest >>= λ l. accepted (y ∷ l)) = ap (clockings i) here.whole ∙ node-formed i here.first here.rest d.0 d.1 in
+          let b : v ≡ (clockings (suc i) here.rest >>= λ l. accepted ((h.so_far ++ (y ∷ [])) ++ l)) =
+          h.whole ∙ (ap (λ (x : Answer (List ClockedNode)). x >>= λ l. accepted (h.so_far ++ l)) w ∙ one-behind h.so_far y (clockings (suc i) here.rest)) in
           let o : told.number ≡ 0 + length h.so_far = omega (arith, d.3, h.many) in
           let f : join (numbered (node_listing letters) 0 h.so_far) ++ node_listing letters told.number y ≡ join (numbered (node_listing letters) 0 (h.so_far ++ (y ∷ []))) =
           ap (λ (x : ℕ). join (numbered (node_listing letters) 0 h.so_far) ++ node_listing letters x y) o ∙ sym (numbered-last (node_listing letters) 0 h.so_far y) in
           record {
-            rest = node-here.2;
+            rest = here.rest;
             so_far = h.so_far ++ (y ∷ []);
-            items = node-here.4;
-            many = simp length-append (omega (arith, h.many));
-            whole = rw (add-one i) b;
-            put = wrote_as f (wrote_then h.put g);
-            few = subst (λ (x : Letters). length x ≤ farthest * (i + 1)) f (simp length-append (omega (arith, h.few, F y d.2)));
+            left = here.others;
+            total = omega (arith, h.total, lefts, next);
+            many = simp length-append (omega (arith, h.many, next));
+            whole = let u : j ≡ suc i = omega (arith, next) in rw u b;
+            put = wrote_as f (wrote_then h.put (P y d.2));
+            few = subst (λ (x : Letters). length x ≤ farthest * j) f (simp length-append (omega (arith, h.few, next, F y d.2)));
           }
 
-  pub putting-all : (ns : List Node) (left i place q : ℕ) (now : TextWriter) (lent after : List ℕ) → left ≡ 0 → from.at ≡ 0 → lent ≡ from.out.now → after ≡ now.out.now → i < 4294967296 → Putting M (tokens gs vs) letters left i place q from now (clockings 0 ns) → TextStands (listings_text letters ns) lent after (Ok now.at)
+  pub putting-all : (ns : List Node) (i : ℕ) (s t : Nodes) (now : TextWriter) (lent after : List ℕ) → from.at ≡ 0 → lent ≡ from.out.now → after ≡ now.out.now → n < 4294967296 → Putting source letters n i q s from now (clockings 0 ns) → GivesNode s None t → TextStands (listings_text letters ns) lent after (Ok now.at)
   unfolding TextStands clockings
-  putting-all ns left i place q now lent after z e f g small h =
-      let n = times-nil (node M) (tokens gs vs) left place h.rest q z h.items in
-      let w : clockings 0 ns ≡ accepted h.so_far = h.whole ∙ (ap (λ (l : List Node). clockings i l >>= λ r. accepted (h.so_far ++ r)) n.0 ∙ ap accepted (append-nil h.so_far)) in
+  putting-all ns i s t now lent after e f g small h z =
+      let w : clockings 0 ns ≡ accepted h.so_far = h.whole ∙ (ap (λ (l : List Node). clockings i l >>= λ r. accepted (h.so_far ++ r)) (no-node h.left t z).0 ∙ ap accepted (append-nil h.so_far)) in
       let text = join (numbered (node_listing letters) 0 h.so_far) in
-      (text, rw w refl, wrote-put text lent after e f g (omega (arith, h.few, small)) h.put)
+      (text, rw w refl, wrote-put text lent after e f g (omega (arith, h.few, h.total, small)) h.put)
 
 -- refusal 9
 pub stands-deep : (letters : ℕ → Letters) (ns : List Node) (lent now : List ℕ) (r : Refusal) → clockings 0 ns ≡ refused r → TextStands (listings_text letters ns) lent now (Err r)

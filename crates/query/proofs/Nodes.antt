@@ -27,7 +27,9 @@ use Rattle.lines.specs.declared.ToldNode.{ToldNode}
 use Rattle.clock_tables.specs.declared.TooDeep.{TooDeep}
 use Rattle.infer_clocks.specs.declared.NodeClocked.{NodeClocked}
 use Rattle.infer_clocks.specs.Clocked.{SitesTold, ClockedOrDeep, Deeply}
-use Rattle.query.specs.Standing.{first_from, NodeWithClocks, ClockedAs, NodeTold}
+use Rattle.grammar.specs.declared.source.Source.{Source}
+use Rattle.query.specs.declared.FoundNode.{FoundNode}
+use Rattle.query.specs.Standing.{first_from, NodeWithClocks, ClockedAs, FoundAt, NodeFound, NodeTold}
 
 -- ---- an item of a list
 item-missing : {A : Type 0} (l : List A) (k : ℕ) → length l ≤ k → item_at l k ≡ refused Refusal.Missing
@@ -188,6 +190,24 @@ module _ (M : ℕ) (ts : List TagValue) (r : Input) (k count before at q : ℕ) 
         let x : Deeply s.place (Ok p) (clockings 0 s.front) = rw f at (D s.front s.place s.before) in
         (s.item, s.next, s.rest, ap (node M ts) x.0 ∙ s.here, s.after, node-after r k s.front s.item s.rest s.whole (s.many ∙ e) x.1 x.2)
 
+-- what was found of node k
+module _ (source : Source) (r : Input) (k : ℕ) where
+  pub found-none : (x : Refusal) → node_at r k ≡ refused x → NodeFound source r k (Err x)
+  unfolding NodeFound
+  found-none x e = e
+
+  pub found-turned : (x : Refusal) → NodeFound source r k (Err x) → node_at r k ≡ refused x
+  unfolding NodeFound
+  found-turned x h = h
+
+  pub found-there : (f : FoundNode) → FoundAt source r k f → NodeFound source r k (Ok f)
+  unfolding NodeFound
+  found-there f h = h
+
+  pub found-at : (f : FoundNode) → NodeFound source r k (Ok f) → FoundAt source r k f
+  unfolding NodeFound
+  found-at f h = h
+
 -- what is told is that
 pub told-as : (M : ℕ) (gs vs t sites : List ℕ) (k : ℕ) (a : Result ToldNode Refusal) (v w : Answer ClockedNode) → v ≡ w → NodeTold M gs vs t sites k a w → NodeTold M gs vs t sites k a v
 told-as M gs vs t sites k a v w e h = rw e h
@@ -265,7 +285,7 @@ module _ (M : ℕ) (gs vs env t sites : List ℕ) (k : ℕ) (n : Node) (r : Resu
 
   pub clocked-node : (q : ℕ) (l : NodeLayout) (a : NodeClocked) → r ≡ Ok a → LaidNode M (tokens gs vs) n q l
       → ((c : Clocking) → clocking n ≡ formed c → SitesTold M gs vs sites c.findings c.equations l.equations.at l.equations.end)
-      → ClockedAs M gs vs t sites k n (Ok (record { layout = l; number = k; names = M; passes = a.passes; findings = a.findings }))
+      → ClockedAs M gs vs t sites k n (Ok (record { layout = l; number = k; names = M; clocked = a }))
   unfolding ClockedOrDeep ClockedAs
   clocked-node q l a e d S =
       let x : ClockedOrDeep env t M (Ok a) (clocking n) = rw e at h in

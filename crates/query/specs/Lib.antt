@@ -2,3 +2,4 @@
 pub mod Standing
 pub mod Listed
 pub mod Words
+pub mod Faults

@@ -1,5 +1,5 @@
 -- A sheet in the working tables, and what is told of its nodes.
-use Rattle.std.specs.Prelude.{ℕ, ◌≤◌, ◌<◌, ◌≡◌, List, length, Result, Ok, Err}
+use Rattle.std.specs.Prelude.{ℕ, ◌+◌, ◌≤◌, ◌<◌, ◌≡◌, List, ◌∷◌, length, Result, Ok, Err}
 use Rattle.definitions.specs.declared.Refusal.{Refusal}
 use Rattle.definitions.specs.Tree.{Node}
 use Rattle.definitions.specs.Bytes.{tokens}
@@ -8,14 +8,16 @@ use Rattle.definitions.specs.Grammar.{sheet}
 use Rattle.definitions.specs.Refusals.{Answer, accepted, refused, ◌>>=◌}
 use Rattle.definitions.specs.InferClocks.{deep, formed, Clocking, clocking}
 use Rattle.definitions.specs.Output.{letters_of, ClockedNode}
-use Rattle.definitions.specs.Answer.{Input, clockings, item_at}
+use Rattle.definitions.specs.Answer.{Input, clockings, item_at, node_at}
 use Rattle.grammar.specs.declared.source.Source.{Source}
 use Rattle.grammar.specs.Read.{tokens_of}
 use Rattle.spelling.specs.declared.names.Spelling.{Spelling}
 use Rattle.spelling.specs.Places.{letters_in}
 use Rattle.layout.specs.Laid.{LaidNode}
+use Rattle.infer_clocks.specs.Clocked.{Deeply}
 use Rattle.lines.specs.declared.ToldNode.{ToldNode}
 use Rattle.lines.specs.ToldClocks.{ToldClocks}
+use Rattle.query.specs.declared.FoundNode.{FoundNode}
 
 -- the sheet r stands here: the letters of its names, and its tokens
 pub record Standing (spelling : Spelling) (source : Source) (r : Input) : Type 0 where
@@ -28,6 +30,22 @@ pub record Standing (spelling : Spelling) (source : Source) (r : Input) : Type 0
 -- the first of these nodes with its clocks, where it is node k and no clock of them is too deep
 abbrev pub first_from : ℕ → List Node → Answer ClockedNode
 first_from k ns = clockings k ns >>= λ l. item_at l 0
+
+-- node k of a sheet laid out, no clock before it being too deep; and the nodes behind it, or 9 at one of them
+pub record FoundAt (source : Source) (r : Input) (k : ℕ) (f : FoundNode) : Type 0 where
+  pub few : k < length r.sheet.nodes
+  pub node : Node
+  pub rest : List Node
+  pub end : ℕ
+  pub last : ℕ
+  pub laid : LaidNode source.names (tokens_of source) node end f.layout
+  pub asked : node_at r k ≡ first_from k (node ∷ rest)
+  pub behind : Deeply last f.behind (clockings (k + 1) rest)
+
+-- the same, or 8, or 9 at a node before it
+unfoldable pub NodeFound : Source → Input → ℕ → Result FoundNode Refusal → Type 0
+NodeFound source r k (Err e) = node_at r k ≡ refused e
+NodeFound source r k (Ok f) = FoundAt source r k f
 
 -- a node laid out, with its clocks in the working tables
 pub record NodeWithClocks (gs vs t sites : List ℕ) (told : ToldNode) (n : ClockedNode) : Type 0 where

@@ -23,7 +23,7 @@ counts_of q = record { name = q.name; passes = q.passes; equations = length q.eq
 -- the same by what was told of a node, and what was found in it
 abbrev pub found_counts : (ℕ → Letters) → List ℕ → ToldNode → NodeCounts
 found_counts letters t told =
-    record { name = told.layout.name; passes = told.passes; equations = told.layout.equations.count; chains = length (chains letters (findings_in t told.findings)); faults = length (clock_faults (findings_in t told.findings)) }
+    record { name = told.layout.name; passes = told.clocked.passes; equations = told.layout.equations.count; chains = length (chains letters (findings_in t told.clocked.findings)); faults = length (clock_faults (findings_in t told.clocked.findings)) }
 
 -- the clocks and faults of node k, over three lent lists
 pub record Written (k : ℕ) (q : NodeClocks) (es cs : List ℕ) (fs : List FaultRecord) (es' cs' : List ℕ) (fs' : List FaultRecord) (r : NodeCounts) : Type 0 where

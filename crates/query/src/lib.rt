@@ -3,13 +3,13 @@
 // the row of its first token.
 #![tactic(auto)]
 
-ghost use Rattle.std.specs.Prelude.{◌≡◌, List, [], ◌∷◌, map, ℕ, ◌+◌, ◌*◌, ◌≤◌, ◌<◌, length, get_or, set};
+ghost use Rattle.std.specs.Prelude.{◌≡◌, List, map, ℕ, ◌+◌, ◌*◌, ◌≤◌, ◌<◌, length, IfOk, IfErr};
 ghost use Rattle.grammar.specs.Read.{tokens_of};
 ghost use Rattle.definitions.specs.Lists.{over};
 ghost use Rattle.definitions.specs.Tree.{Node};
 ghost use Rattle.definitions.specs.Reading.{got, times};
 ghost use Rattle.definitions.specs.Grammar.{node, sheet};
-ghost use Rattle.definitions.specs.InferClocks.{Clocked, chains, clock_faults};
+ghost use Rattle.definitions.specs.InferClocks.{Clocked, Clocking, formed, clocking, chains, clock_faults};
 ghost use Rattle.definitions.specs.InferClocks as clocks;
 ghost use Rattle.definitions.specs.Output.{ClockedNode};
 ghost use Rattle.definitions.specs.Answer.{Input, clockings, fault_record, node_at, node_clocks, node_listing};
@@ -19,21 +19,26 @@ ghost use Rattle.chain_order.specs.Order.{ordered_clocks};
 ghost use Rattle.spelling.specs.Writing.{farthest};
 ghost use Rattle.spelling.specs.Written.{Wrote};
 ghost use Rattle.layout.specs.Laid.{LaidNode};
+ghost use Rattle.layout.specs.Spans.{Spans};
 ghost use Rattle.skeleton.specs.Sites.{EquationsOn};
-ghost use Rattle.infer_clocks.specs.Clocked.{Deeply};
+ghost use Rattle.infer_clocks.specs.Clocked.{Deeply, SitesTold};
 ghost use Rattle.workspace.specs.Room.{SameRoom, Roomy, Ample, RoomToList};
-ghost use Rattle.query.specs.Standing.{first_from, NodeWithClocks, ClockedAs, NodeTold};
+ghost use Rattle.query.specs.Standing.{NodeWithClocks, ClockedAs, NodeFound, NodeTold};
 ghost use Rattle.query.specs.Listed.{TextStands, listings_text};
 ghost use Rattle.query.specs.Words.{clocks_over, found_counts, Written};
 
 use chain_order::OrderedClocks;
 use definitions::{FaultRecord, MOST_NAMES, Refusal};
-use findings::{Fault, Finding, FindingList};
+use findings::{Fault, Finding, FindingList, Found};
 use grammar::Source;
 use layout::{NodeLayout, Span};
 use lines::{ListedNode, ToldNode};
 use spelling::{Spelling, TextWriter};
 use workspace::Working;
+
+pub mod fault_list;
+
+pub use fault_list::FaultList;
 
 // A node's name and passes, and how many equations, chains and clock faults it has.
 #[derive(Clone, Copy)]
@@ -47,7 +52,7 @@ pub struct NodeCounts {
 
 // Where so many nodes end, the first of which stands there and has this number; or refusal 9 at the first in which too deep a clock is
 // formed.
-pub fn deep_among(
+fn deep_among(
     source: &Source<'_>,
     number: u32,
     count: u32,
@@ -72,7 +77,7 @@ pub fn deep_among(
 }
 
 // Node k, which has this layout, clocked; or refusal 9 at it. The marks, which are cleared for each node, are lent as far as names go.
-fn clock_laid(
+pub fn clock_laid(
     source: &Source<'_>,
     layout: NodeLayout,
     k: usize,
@@ -81,6 +86,9 @@ fn clock_laid(
     ensures same_room { SameRoom working.old working.new }
     ensures others_stay { (working.new.rows.now ≡ working.old.rows.now) × (working.new.chain.now ≡ working.old.chain.now) }
     ensures clocked_as { (n : Node) (q : ℕ) → LaidNode source.now.names (tokens_of source.now) n q layout → Roomy source.now.names (length source.now.tags.now) working.old → ClockedAs source.now.names source.now.tags.now source.now.values.now working.new.table.now working.new.sites.now k n result }
+    ensures refused_at { IfErr result (λ r. r ≡ Refusal.Deep k) }
+    ensures layout_value { IfOk result (λ told. told.layout ≡ layout) }
+    ensures sites_told { IfOk result (λ told. (n : Node) (q : ℕ) (c : Clocking) → LaidNode source.now.names (tokens_of source.now) n q layout → clocking n ≡ formed c → Roomy source.now.names (length source.now.tags.now) working.old → SitesTold source.now.names source.now.tags.now source.now.values.now working.new.sites.now c.findings c.equations layout.equations.at layout.equations.end) }
 {
     let n = (source.names as usize).min(MOST_NAMES);
     let mut marks = [false; MOST_NAMES];
@@ -92,38 +100,47 @@ fn clock_laid(
         working.table,
         working.sites,
     );
-    let told = clocked.map_err(|_| Refusal::Deep(k))?;
+    let clocked = clocked.map_err(|_| Refusal::Deep(k))?;
     Ok(ToldNode {
         layout,
         number: k,
         names: source.names,
-        passes: told.passes,
-        findings: told.findings,
+        clocked,
     })
 }
 
-// Node k, which stands there, laid out and clocked; or the first of it and so many nodes behind it in which too deep a clock is formed. It
-// is clocked last, so that its clocks stand in the working tables.
-fn clock_before(
-    source: &Source<'_>,
-    k: usize,
-    at: usize,
-    behind: u32,
-    working: &mut Working<'_>,
-) -> Result<ToldNode, Refusal>
-    requires k_bound { k < 4294967295 }
-    ensures same_room { SameRoom working.old working.new }
-    ensures others_stay { (working.new.rows.now ≡ working.old.rows.now) × (working.new.chain.now ≡ working.old.chain.now) }
-    ensures node_told { (n : Node) (p : ℕ) (ns : List Node) (q : ℕ) → node source.now.names (tokens_of source.now) at ≡ got n p → times behind (node source.now.names) (tokens_of source.now) p ≡ got ns q → Roomy source.now.names (length source.now.tags.now) working.old → k < 16 → NodeTold source.now.names source.now.tags.now source.now.values.now working.new.table.now working.new.sites.now k result (first_from k (n ∷ ns)) }
-{
-    let layout = layout::node_at(source, at);
-    let deep = deep_among(source, k as u32 + 1, behind, layout.end, working);
-    let told = clock_laid(source, layout, k, working)?;
-    deep?;
-    Ok(told)
+// A node that was asked for: its layout, and where the nodes behind it end, or refusal 9 at the first of them in which too deep a clock is
+// formed.
+#[derive(Clone, Copy)]
+pub struct FoundNode {
+    pub layout: NodeLayout,
+    pub behind: Result<usize, Refusal>,
 }
 
-// Node k laid out and clocked; refusal 8 is told before 9.
+// Node k of a sheet, whose nodes stand there; or 8, or refusal 9 at the first before it.
+pub fn find_node(
+    source: &Source<'_>,
+    nodes: Span,
+    k: usize,
+    working: &mut Working<'_>,
+) -> Result<FoundNode, Refusal>
+    ensures same_room { SameRoom working.old working.new }
+    ensures others_stay { (working.new.rows.now ≡ working.old.rows.now) × (working.new.chain.now ≡ working.old.chain.now) }
+    ensures node_found { (i : Input) → Spans (node source.now.names) (tokens_of source.now) i.sheet.nodes nodes → Roomy source.now.names (length source.now.tags.now) working.old → NodeFound source.now i k result }
+{
+    let n = nodes.count;
+    if n as usize <= k {
+        return Err(Refusal::Missing);
+    }
+    let before = k as u32;
+    let at = deep_among(source, 0, before, nodes.at, working)?;
+    let layout = layout::node_at(source, at);
+    let behind = deep_among(source, before + 1, n - before - 1, layout.end, working);
+    Ok(FoundNode { layout, behind })
+}
+
+// Node k laid out and clocked; refusal 8 is told before 9, and 9 in node order. The node is clocked last, so that its clocks stand in the
+// working tables.
 pub fn clock_at(
     source: &Source<'_>,
     k: usize,
@@ -134,17 +151,14 @@ pub fn clock_at(
     ensures node_told { (i : Input) (q : ℕ) → sheet source.now.names (tokens_of source.now) 0 ≡ got i.sheet q → Roomy source.now.names (length source.now.tags.now) working.old → NodeTold source.now.names source.now.tags.now source.now.values.now working.new.table.now working.new.sites.now k result (node_at i k) }
 {
     let whole = layout::sheet_at(source);
-    let nodes = whole.nodes;
-    let n = nodes.count;
-    if n as usize <= k {
-        return Err(Refusal::Missing);
-    }
-    let before = k as u32;
-    let at = deep_among(source, 0, before, nodes.at, working)?;
-    clock_before(source, k, at, n - before - 1, working)
+    let FoundNode { layout, behind } = find_node(source, whole.nodes, k, working)?;
+    let told = clock_laid(source, layout, k, working)?;
+    behind?;
+    Ok(told)
 }
 
 // The clocks of the equations that stand there.
+// Stays (no plainer): of each equation only where it stands is read, which an iterator over equations would give among its parts.
 fn write_equations(source: &Source<'_>, sites: &[u32], s: Span, list: &mut [u32])
     ensures { (M : ℕ) (cs : List Clocked) (q : ℕ) → EquationsOn M source.now.tags.now source.now.values.now sites.now cs s.at q → length cs ≡ s.count → list.new ≡ clocks_over (map (λ c. c.clock) cs) list.old }
 {
@@ -159,12 +173,13 @@ fn write_equations(source: &Source<'_>, sites: &[u32], s: Span, list: &mut [u32]
 fn write_rows(ordered: &OrderedClocks<'_>, list: &mut [u32])
     ensures { list.new ≡ clocks_over (ordered_clocks ordered.now) list.old }
 {
-    for i in 0..ordered.count {
-        clock_tables::put_row(list, i, ordered.get(i));
+    for (i, row) in ordered.order.iter().enumerate() {
+        clock_tables::put_row(list, i, ordered.get(*row));
     }
 }
 
 // The chains of a node by its findings, put in their rows and then written: how many there are.
+// Stays (no plainer): `rows` and `chain`, here and below, are tables of `Working` that planning lends apart, as types and as the plan.
 fn write_chains(
     spelling: Spelling<'_>,
     findings: FindingList<'_>,
@@ -177,40 +192,22 @@ fn write_chains(
 {
     let ordered = infer_clocks::chain_rows(spelling, findings, rows, chain);
     write_rows(&ordered, list);
-    ordered.count
-}
-
-// Record m of a list, if that has a place for it.
-fn put_fault(list: &mut [FaultRecord], m: usize, fault: FaultRecord)
-    ensures { list.new ≡ set list.old m fault }
-{
-    if m < list.len() {
-        list[m] = fault;
-    }
+    ordered.order.len()
 }
 
 // The clock faults of a node by its findings: how many there are.
-fn write_faults(findings: FindingList<'_>, node: u32, list: &mut [FaultRecord]) -> usize
+fn write_faults(findings: FindingList<'_>, node: u32, records: &mut [FaultRecord]) -> usize
     ensures value { result ≡ length (clock_faults (findings_in findings.entry.words.now findings.entry.count)) }
-    ensures list_after { list.new ≡ over (map (fault_record node) (clock_faults (findings_in findings.entry.words.now findings.entry.count))) list.old }
+    ensures list_after { records.new ≡ over (map (fault_record node) (clock_faults (findings_in findings.entry.words.now findings.entry.count))) records.old }
 {
-    let mut m: usize = 0;
+    let mut list = FaultList { records, count: 0 };
     for i in 0..findings.count {
         if let Finding::Fault { equation, fault } = findings.finding_at(i) {
-            let fault = findings::fault_number(Fault::Clock(fault));
-            put_fault(
-                list,
-                m,
-                FaultRecord {
-                    node,
-                    fault,
-                    equation,
-                },
-            );
-            m += 1;
+            let fault = Fault::Clock(fault);
+            list.push(node, Found { fault, equation });
         }
     }
-    m
+    list.count
 }
 
 // The chains and clock faults of a node by what was found in it, over two lent lists, and its counts.
@@ -221,19 +218,16 @@ fn write_found(
     chains: &mut [u32],
     faults: &mut [FaultRecord],
 ) -> NodeCounts
-    ensures counted { 17 * node.now.told.findings ≤ length rows.old → node.now.told.findings ≤ length chain.old → node.now.told.findings < 4294967296 → result ≡ found_counts (letters_in node.now.spelling) node.now.table.now node.now.told }
-    ensures chains_after { 17 * node.now.told.findings ≤ length rows.old → node.now.told.findings ≤ length chain.old → node.now.told.findings < 4294967296 → chains.new ≡ clocks_over (clocks.chains (letters_in node.now.spelling) (findings_in node.now.table.now node.now.told.findings)) chains.old }
-    ensures faults_after { node.now.told.number < 4294967296 → faults.new ≡ over (map (fault_record node.now.told.number) (clock_faults (findings_in node.now.table.now node.now.told.findings))) faults.old }
+    ensures counted { 17 * node.now.told.clocked.findings ≤ length rows.old → node.now.told.clocked.findings ≤ length chain.old → node.now.told.clocked.findings < 4294967296 → result ≡ found_counts (letters_in node.now.spelling) node.now.table.now node.now.told }
+    ensures chains_after { 17 * node.now.told.clocked.findings ≤ length rows.old → node.now.told.clocked.findings ≤ length chain.old → node.now.told.clocked.findings < 4294967296 → chains.new ≡ clocks_over (clocks.chains (letters_in node.now.spelling) (findings_in node.now.table.now node.now.told.clocked.findings)) chains.old }
+    ensures faults_after { node.now.told.number < 4294967296 → faults.new ≡ over (map (fault_record node.now.told.number) (clock_faults (findings_in node.now.table.now node.now.told.clocked.findings))) faults.old }
 {
     let told = node.told;
-    let findings = FindingList {
-        words: node.table,
-        count: told.findings,
-    };
+    let findings = node.findings();
     let number = u32::try_from(told.number).unwrap_or(0);
     NodeCounts {
         name: told.layout.name,
-        passes: told.passes,
+        passes: told.clocked.passes,
         equations: told.layout.equations.count as usize,
         chains: write_chains(node.spelling, findings, rows, chain, chains),
         faults: write_faults(findings, number, faults),
@@ -241,6 +235,7 @@ fn write_found(
 }
 
 // The clocks and faults of a clocked node, over three lent lists.
+// Stays (C interface): `equations`, `chains` and `faults`, here and in what calls this, are the three lists that C lends, each singly.
 pub fn write_clocks(
     node: &ListedNode<'_>,
     rows: &mut [u32],
@@ -257,7 +252,7 @@ pub fn write_clocks(
 }
 
 // The listing of a node that was clocked in these tables.
-// Stays (proof): of a table that is lent from behind `Working` into a struct, no length is known when it comes back.
+// Stays (proof): tried with `node` made from a `&mut Working`: a field's length is untold once it was lent into a struct (`same_room`).
 fn write_listing(
     text: &mut TextWriter<'_>,
     spelling: Spelling<'_>,
@@ -283,25 +278,22 @@ fn write_listing(
     node.write(text, &ordered);
 }
 
-// The listings of n nodes, of which the first stands at `from`, and where they end: each node is clocked and its listing written, up to the
-// first in which too deep a clock is formed.
+// The listings of these nodes, and where they end: each node is clocked and its listing written, up to the first in which too deep a
+// clock is formed.
 fn write_listings(
     text: &mut TextWriter<'_>,
     spelling: Spelling<'_>,
     source: &Source<'_>,
-    n: u32,
-    from: usize,
+    nodes: Span,
     working: &mut Working<'_>,
 ) -> Result<usize, Refusal>
     requires { text.old.at ≡ 0 }
     ensures same_reference { text.new.out.ghost_name ≡ text.old.out.ghost_name }
     ensures same_room { SameRoom working.old working.new }
-    ensures listings_stand { (ns : List Node) (q : ℕ) → times n (node source.now.names) (tokens_of source.now) from ≡ got ns q → RoomToList source.now.names (length source.now.tags.now) working.old → length spelling.entry.letters.now ≤ 16384 → length source.now.tags.now ≤ 4096 → TextStands (listings_text (letters_in spelling.entry) ns) text.old.out.now text.new.out.now result }
+    ensures listings_stand { (ns : List Node) (q : ℕ) → times nodes.count (node source.now.names) (tokens_of source.now) nodes.at ≡ got ns q → RoomToList source.now.names (length source.now.tags.now) working.old → length spelling.entry.letters.now ≤ 16384 → length source.now.tags.now ≤ 4096 → TextStands (listings_text (letters_in spelling.entry) ns) text.old.out.now text.new.out.now result }
 {
-    let mut place = from;
-    for i in 0..n {
-        let layout = layout::node_at(source, place);
-        let told = clock_laid(source, layout, i as usize, working)?;
+    for (i, layout) in layout::nodes(source, nodes).enumerate() {
+        let told = clock_laid(source, layout, i, working)?;
         write_listing(
             text,
             spelling,
@@ -312,7 +304,6 @@ fn write_listings(
             working.chain,
             working.sites,
         );
-        place = layout.end;
     }
     Ok(text.at)
 }
@@ -322,13 +313,12 @@ pub fn put_listings(
     out: &mut [u8],
     spelling: Spelling<'_>,
     source: &Source<'_>,
-    n: u32,
-    from: usize,
+    nodes: Span,
     working: &mut Working<'_>,
 ) -> Result<usize, Refusal>
     ensures same_room { SameRoom working.old working.new }
-    ensures listings_stand { (ns : List Node) (q : ℕ) → times n (node source.now.names) (tokens_of source.now) from ≡ got ns q → RoomToList source.now.names (length source.now.tags.now) working.old → length spelling.entry.letters.now ≤ 16384 → length source.now.tags.now ≤ 4096 → TextStands (listings_text (letters_in spelling.entry) ns) out.old out.new result }
+    ensures listings_stand { (ns : List Node) (q : ℕ) → times nodes.count (node source.now.names) (tokens_of source.now) nodes.at ≡ got ns q → RoomToList source.now.names (length source.now.tags.now) working.old → length spelling.entry.letters.now ≤ 16384 → length source.now.tags.now ≤ 4096 → TextStands (listings_text (letters_in spelling.entry) ns) out.old out.new result }
 {
     let mut text = TextWriter { out, at: 0 };
-    write_listings(&mut text, spelling, source, n, from, working)
+    write_listings(&mut text, spelling, source, nodes, working)
 }

@@ -10,10 +10,10 @@ use lib.ListN.{length, get_or, take, drop, replicate, get_or-eq_default}
 use Rattle.std.proofs.lemmas.List.{length-replicate}
 use Rattle.definitions.specs.Lists.{sum, over}
 use Rattle.definitions.specs.Bytes.{T, lengths, letters, cut, tokens}
-use Rattle.definitions.specs.Reading.{got}
 use Rattle.definitions.specs.Grammar.{sheet}
 use Rattle.definitions.specs.Output.{letters_of}
-use Rattle.definitions.specs.Answer.{Input}
+use Rattle.definitions.specs.Refusals.{accepted}
+use Rattle.definitions.specs.Answer.{Input, input}
 use Rattle.spelling.specs.Writing.{over_at}
 use Rattle.spelling.proofs.Writing.{over-front}
 use Rattle.spelling.specs.declared.names.Spelling.{Spelling}
@@ -25,6 +25,7 @@ use Rattle.parts.specs.declared.Sizes.{Sizes}
 use Rattle.parts.specs.Answers.{sizes_of, SizedParts, Accepted}
 use Rattle.parts.proofs.Laws.{lengths-part, letters-part, few-lengths, lengths-long, letters-long, names-told, tokens-told}
 use Rattle.grammar.specs.declared.source.Source.{Source}
+use Rattle.sheet.specs.Answers.{Stands}
 use Rattle.questions.specs.Asked.{TokensRead}
 use Rattle.query.specs.Standing.{Standing}
 
@@ -80,6 +81,23 @@ module _ (b : List ℕ) (s : Sizes) (a : Accepted b × (s ≡ sizes_of b)) where
 
   pub few-letters : length (take (12 + s.names + s.letters - (12 + s.names)) (drop (12 + s.names) b)) ≤ 16384
   few-letters = omega (arith, ap length (letters-part b s sized), letters-long b s sized, sized.letters)
+
+  -- the tokens at the front of the working arrays are the sheet's
+  pub tokens-read : (ts vs : List ℕ) (source : Source) → source.tags.now ≡ take s.tokens ts → source.values.now ≡ take s.tokens vs → source.names ≡ s.names →
+      (i : Input) → input b ≡ accepted i → Stands b ts vs i → TokensRead b source i
+  tokens-read ts vs source et ev en i h z =
+      let t = tokens-told b s sized in
+      let n = en ∙ names-told b s sized in
+      let f = et ∙ ap (λ (k : ℕ). take k ts) t in
+      let g = ev ∙ ap (λ (k : ℕ). take k vs) t in
+      let m : length source.tags.now ≡ T b = ap length f ∙ z.tags-count in
+      record {
+        reading = h;
+        names = z.names;
+        count = n;
+        few = omega (arith, m, z.few-tokens);
+        tree = rw (n, f, g, z.tags-count) z.tree;
+      }
 
   -- the sheet stands in the tables
   module _ (source : Source) (i : Input) (z : TokensRead b source i) where

@@ -1,5 +1,5 @@
 -- How a sheet is asked: what answers a question is called once on the sheet's names and tokens, with working tables, or not at all.
-use Rattle.std.specs.Prelude.{ℕ, ◌*◌, ◌≤◌, ◌≡◌, ◌⊎◌, List, length, Result, Err}
+use Rattle.std.specs.Prelude.{ℕ, ◌*◌, ◌≤◌, ◌≡◌, List, length, Result, Err}
 use Rattle.std.specs.Borrow.{Bor, MutBor}
 use Rattle.definitions.specs.declared.Refusal.{Refusal}
 use Rattle.definitions.specs.Bytes.{M, lengths, letters, cut}

@@ -3,7 +3,7 @@
 // copied. Each question has an entry point. What is answered and written is said for all inputs.
 #![tactic(auto)]
 
-ghost use Rattle.std.specs.Prelude.{◌≡◌, ◌⊎◌, List, true, false, ℕ, ◌≤◌, ◌<◌, ◌^◌, length, take, Ok};
+ghost use Rattle.std.specs.Prelude.{◌≡◌, ◌⊎◌, List, false, ℕ, ◌≤◌, ◌<◌, length, take, Ok};
 ghost use Rattle.definitions.specs.declared.FaultRecord.{FaultRecord};
 ghost use Rattle.definitions.specs.Lists.{any};
 ghost use Rattle.definitions.specs.Bytes.{lengths, letters, cut};
@@ -13,7 +13,6 @@ ghost use Rattle.definitions.specs.Refusals.{accepted};
 ghost use Rattle.definitions.specs.Answer.{Input, input, rewrite_answer, clocks_answer, listing_answer, listings_answer, text_answer, fault_lines_answer};
 ghost use Rattle.spelling.specs.Places.{letters_at};
 ghost use Rattle.parts.specs.Answers.{Accepted, sizes_of};
-ghost use Rattle.sheet.specs.Answers.{Stands};
 ghost use Rattle.runs.specs.Demand.{DemandThreeAt};
 ghost use Rattle.listings.specs.Answers.{clocks_of, ClocksGiven, ListingGiven};
 ghost use Rattle.query.specs.Standing.{Standing};
@@ -22,8 +21,8 @@ ghost use Rattle.declock_project.specs.Given.{RewriteGiven, Read};
 ghost use Rattle.questions.specs.Asked.{CalledOn, Called, NotCalled, Enough, TokensRead};
 
 use definitions::{
-    CHAIN_TABLE, CLOCK_TABLE, FINDING_TABLE, FaultRecord, MOST_TOKENS, Refusal, SMALL_CLOCK_TABLE,
-    SMALL_FINDING_TABLE, SMALL_TOKENS,
+    CHAIN_TABLE, CLOCK_TABLE, FINDING_TABLE, FaultRecord, MOST_NAMES, MOST_TOKENS, Refusal,
+    SMALL_CLOCK_TABLE, SMALL_FINDING_TABLE, SMALL_TOKENS,
 };
 use grammar::Source;
 use parts::Sizes;
@@ -84,12 +83,12 @@ fn answer_standing<
 }
 
 // Where the letters of an accepted sheet's names start.
-fn starts_of(sheet: &[u8], sizes: Sizes) -> [u32; 1025]
+fn starts_of(sheet: &[u8], sizes: Sizes) -> [u32; MOST_NAMES + 1]
     requires { Accepted sheet.now × (sizes ≡ sizes_of sheet.now) }
     ensures { letters_at result (letters sheet.now) ≡ letters_of (cut (lengths sheet.now) (letters sheet.now)) }
 {
     let from = 12 + sizes.names;
-    let mut starts = [0u32; 1025];
+    let mut starts = [0u32; MOST_NAMES + 1];
     spelling::fill_starts(&sheet[12..from], &mut starts);
     starts
 }
@@ -118,21 +117,8 @@ fn answer_read<T, F: FnMut(SheetNames<'_>, &Source<'_>, &mut Working<'_>) -> Res
     answer_standing(names, source, answer)
 }
 
-// The tokens of a sheet of these sizes, which stand at the front of the working arrays.
-fn source_of<'a>(tags: &'a [u8], values: &'a [u32], sizes: Sizes) -> Source<'a>
-    requires in_bounds { (4096 ≤ length tags.now) × (4096 ≤ length values.now) }
-    requires few { (sizes.tokens ≤ 4096) × (sizes.names ≤ 1024) }
-    ensures { (bytes : List ℕ) (i : Input) → Accepted bytes → sizes ≡ sizes_of bytes → input bytes ≡ accepted i → Stands bytes tags.now values.now i → TokensRead bytes result i }
-{
-    Source {
-        tags: &tags[..sizes.tokens],
-        values: &values[..sizes.tokens],
-        names: sizes.names as u32,
-    }
-}
-
 // Asks a question of a sheet: what answers it is called with the sheet's names and tokens, and with working tables.
-// Stays (no plainer): `rewrite` reads a sheet so too, and looks at its tokens before there are tables.
+// Stays (no plainer): one reading for `rewrite` too would take a closure of sizes and tokens, for four lines that stand twice.
 fn ask<T, F: FnMut(SheetNames<'_>, &Source<'_>, &mut Working<'_>) -> Result<T, Refusal>>(
     sheet: &[u8],
     answer: &mut F,
@@ -143,7 +129,7 @@ fn ask<T, F: FnMut(SheetNames<'_>, &Source<'_>, &mut Working<'_>) -> Result<T, R
     let mut tags = [0u8; MOST_TOKENS];
     let mut values = [0u32; MOST_TOKENS];
     let sizes = sheet::read(sheet, &mut tags, &mut values)?;
-    let source = source_of(&tags, &values, sizes);
+    let source = sheet::source_of(&tags, &values, sizes);
     answer_read(sheet, sizes, &source, answer)
 }
 
@@ -164,7 +150,7 @@ pub fn rewrite(sheet: &[u8], out: &mut [u8], faults: &mut [FaultRecord]) -> Resu
     let mut tags = [0u8; MOST_TOKENS];
     let mut values = [0u32; MOST_TOKENS];
     let sizes = sheet::read(sheet, &mut tags, &mut values)?;
-    let source = source_of(&tags, &values, sizes);
+    let source = sheet::source_of(&tags, &values, sizes);
     if !sheet::uses_clocks(&source) {
         return as_it_came(sheet, out);
     }

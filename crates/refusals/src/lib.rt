@@ -1,4 +1,5 @@
 // The refusals of document 01: each one's number, place and count, and the lines that tell it with its reason.
+// Stays (no plainer): lines are put as bytes and by no `Display`, since these bytes are what is promised, and `vectors` compares them.
 #![tactic(auto)]
 
 ghost use Rattle.std.specs.Prelude.{◌≡◌};
@@ -65,6 +66,7 @@ pub fn put_refused(text: &mut TextWriter<'_>, r: Refusal)
 }
 
 // What a refusal means, and what to do.
+#[tactic(auto, unfolding(definitions::specs::Lists::bytes))]
 fn reason(r: Refusal) -> &'static [u8]
     ensures { result.now ≡ reason_of r }
 {

@@ -3,7 +3,7 @@
 
 ghost use Rattle.std.specs.Prelude.{◌≤◌};
 
-use arguments::Word;
+use arguments::Asked;
 use definitions::Refusal;
 use std::io;
 use std::io::Write;
@@ -47,7 +47,7 @@ const FEW: usize = 4096;
 fn show_faults(errors: &mut impl Write, sheet: &[u8]) -> io::Result<()> {
     let mut lines = [0u8; 16384];
     if let Ok(n) = questions::fault_lines(sheet, &mut lines) {
-        arguments::show(errors, &lines, n)?;
+        errors.write_all(arguments::front(&lines, n))?;
     }
     Ok(())
 }
@@ -70,7 +70,7 @@ fn rewrite(
 ) -> io::Result<()> {
     let told = clock_pass::rewrite_told(sheet, out);
     match told.answer {
-        Ok(n) => arguments::show(output, out, n),
+        Ok(n) => output.write_all(arguments::front(out, n)),
         Err(r) => refuse(errors, sheet, r),
     }
 }
@@ -106,17 +106,14 @@ fn answer(
 fn main(rt: HostRuntime) -> io::Result<()> {
     let mut output = rt.stdout();
     let mut errors = rt.stderr();
-    if arguments::argument(&rt, 2).is_some() {
-        return errors.write_all(WRONG);
+    let first = arguments::argument(&rt, 1);
+    let second = arguments::argument(&rt, 2);
+    match arguments::optional_number(first, second) {
+        Asked::Help => output.write_all(HELP),
+        Asked::For(lent) => arguments::with_sheet(
+            &mut rt.stdin(),
+            |sheet| answer(&mut output, &mut errors, sheet, lent.unwrap_or(ENOUGH)),
+        ),
+        Asked::Other => errors.write_all(WRONG),
     }
-    let lent = match arguments::argument(&rt, 1) {
-        None => ENOUGH,
-        Some(Word::Help) => return output.write_all(HELP),
-        Some(Word::Number(lent)) => lent,
-        Some(Word::Other) => return errors.write_all(WRONG),
-    };
-    arguments::with_sheet(
-        &mut rt.stdin(),
-        |sheet| answer(&mut output, &mut errors, sheet, lent),
-    )
 }

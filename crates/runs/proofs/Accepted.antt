@@ -1,4 +1,4 @@
--- What accepting says of a sheet: its names are its own, each node has its clocks and no fault, and the output keeps names, kinds and ports.
+-- What accepting says of a sheet: its names are its own, each node has clocks and no fault, and the output keeps names, kinds and ports.
 use mathlib.Core.Path.{◌≡◌, refl, sym, ap, ◌∙◌, subst, subst⁻¹}
 use mathlib.Core.Bool.{Bool, true, false, true≢false}
 use mathlib.Core.List.Memᴰ

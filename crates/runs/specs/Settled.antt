@@ -10,7 +10,7 @@ use Rattle.definitions.specs.Tree.{Expr, Exprs, Node}
 use Rattle.definitions.specs.InferClocks.{Clocks, clock_of}
 use Rattle.runs.specs.Callees.{is_declared, Callees}
 
--- "from constants, fixed functions and .. names": no `pre`, `->`, when or merge, no call of an operator or of `condact`; the names pass a test
+-- "from constants, fixed functions and .. names": no `pre`, `->`, when or merge, no call of an operator or of `condact`; names pass a test
 module _ (C : Callees) (name : ℕ → Bool) where
   unfoldable mutual
     pub built : Expr → Bool

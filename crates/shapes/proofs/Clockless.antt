@@ -1,4 +1,4 @@
--- A node that uses no clocks is on base throughout: no clock is too deep, nothing is found but ticks on base, and rewriting leaves it as it is.
+-- A node that uses no clocks is on base throughout: no clock is too deep, only ticks on base are found, and rewriting leaves it as it is.
 use mathlib.Core.Path.{◌≡◌, refl, sym, ap, ◌∙◌, subst, subst⁻¹}
 use mathlib.Core.Bool.{Bool, true, false, true≢false}
 use mathlib.Core.List.Memᴰ

@@ -1,4 +1,4 @@
--- What was read is a tree that the format can say, and is written back as it came: `read-shaped`, `read-written`, `round_trip`, `read-once`.
+-- What was read is a tree that the format says, and is written back as it came: `read-shaped`, `read-written`, `round_trip`, `read-once`.
 use mathlib.Core.Path.{◌≡◌, sym, ap, ◌∙◌, subst}
 use mathlib.Core.List.{List, [], map}
 use Prim.Native.Nat.{ℕ, ◌≤◌}

@@ -1,4 +1,4 @@
--- The trees that the sheet format can say, whatever the limits on an input (how many, how long, how deep): an output may pass some of these.
+-- The trees that the sheet format says, whatever an input's limits (how many, how long, how deep): an output may pass some of these.
 use Rattle.std.specs.Prelude.{◌≡◌, ℕ, zero, suc, ◌<◌, length}
 use mathlib.Core.List.{List, Memᴰ}
 use Rattle.definitions.specs.declared.Literal.{Literal}

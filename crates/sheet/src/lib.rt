@@ -1,19 +1,19 @@
 // A sheet's bytes are read: refusals 1 to 7, in checking order, of document 01, or its tokens stand in the working arrays.
 #![tactic(auto)]
 
-ghost use Rattle.std.specs.Prelude.{◌≡◌, List, ℕ, ◌≤◌, ◌<◌, ◌^◌, length, take};
+ghost use Rattle.std.specs.Prelude.{◌≡◌, ℕ, ◌≤◌, ◌<◌, take};
 ghost use Rattle.definitions.specs.Bytes.{tokens};
 ghost use Rattle.grammar.specs.Read.{tokens_of};
 ghost use Rattle.definitions.specs.Lists.{any};
-ghost use Rattle.definitions.specs.Tree.{TypeDef, Equation, Node, Sheet};
-ghost use Rattle.definitions.specs.Reading.{got, times};
-ghost use Rattle.definitions.specs.Grammar.{equation, node, sheet};
+ghost use Rattle.definitions.specs.Tree.{Sheet};
+ghost use Rattle.definitions.specs.Reading.{got};
+ghost use Rattle.definitions.specs.Grammar.{node, sheet};
 ghost use Rattle.definitions.specs.Refusals.{told};
 ghost use Rattle.definitions.specs.InferClocks.{uses_clocks};
 ghost use Rattle.sheet.specs.Answers.{tokens_answer, checked_told, SheetRead};
 
 use cycles::TypeTable;
-use definitions::{MOST_TOKENS, MOST_TYPES, Refusal};
+use definitions::{MOST_TOKENS, Refusal};
 use grammar::Source;
 use parts::Sizes;
 
@@ -22,10 +22,9 @@ fn check_types(source: &Source<'_>) -> Result<(), Refusal>
     ensures { (s : Sheet) (q : ℕ) → sheet source.now.names (tokens_of source.now) 0 ≡ got s q → checked_told result ≡ told (tokens_answer source.now.names (tokens_of source.now)) }
 {
     let types = layout::sheet_at(source).types;
-    let count = MOST_TYPES.min(types.count as usize);
     let table = TypeTable {
         source: *source,
-        places: &layout::definition_places(source, count, types.at),
+        places: &layout::definition_places(source, types),
     };
     match cycles::first_cycle(&table) {
         Some(cycle) => Err(Refusal::Cycle(cycle)),
@@ -41,6 +40,24 @@ fn check_tokens(source: &Source<'_>) -> Result<(), Refusal>
     check_types(source)
 }
 
+// The tokens of a sheet of these sizes, which stand at the front of the working arrays.
+pub fn source_of<'a>(
+    tags: &'a [u8; MOST_TOKENS],
+    values: &'a [u32; MOST_TOKENS],
+    sizes: Sizes,
+) -> Source<'a>
+    requires { (sizes.tokens ≤ 4096) × (sizes.names ≤ 1024) }
+    ensures tags { result.tags.now ≡ take sizes.tokens tags.now }
+    ensures values { result.values.now ≡ take sizes.tokens values.now }
+    ensures names { result.names ≡ sizes.names }
+{
+    Source {
+        tags: &tags[..sizes.tokens],
+        values: &values[..sizes.tokens],
+        names: sizes.names as u32,
+    }
+}
+
 // A sheet is read: what it is refused for, or its sizes, and its tokens stand at the front of the working arrays.
 pub fn read(
     sheet: &[u8],
@@ -50,36 +67,18 @@ pub fn read(
     ensures { SheetRead sheet.now tags.old values.old tags.new values.new result }
 {
     let sizes = parts::read_parts(sheet, tags, values)?;
-    let source = Source {
-        tags: &tags[..sizes.tokens],
-        values: &values[..sizes.tokens],
-        names: sizes.names as u32,
-    };
-    check_tokens(&source)?;
+    check_tokens(&source_of(tags, values, sizes))?;
     Ok(sizes)
-}
-
-// Does the node that stands at a place use clocks?
-pub fn node_uses_clocks(source: &Source<'_>, at: usize) -> bool
-    ensures { (n : Node) (q : ℕ) → node source.now.names (tokens_of source.now) at ≡ got n q → result ≡ uses_clocks n }
-{
-    let equations = layout::node_at(source, at).equations;
-    layout::equations_use_clocks(source, equations.count, equations.at)
 }
 
 // Does a node of a sheet that was read use clocks?
 pub fn uses_clocks(source: &Source<'_>) -> bool
     ensures { (s : Sheet) (q : ℕ) → sheet source.now.names (tokens_of source.now) 0 ≡ got s q → result ≡ any uses_clocks s.nodes }
 {
-    let nodes = layout::sheet_at(source).nodes;
-    let count = nodes.count;
-    let mut place = nodes.at;
-    for _ in 0..count {
-        let l = layout::node_at(source, place);
-        if layout::equations_use_clocks(source, l.equations.count, l.equations.at) {
+    for node in layout::nodes(source, layout::sheet_at(source).nodes) {
+        if node.uses_clocks(source) {
             return true;
         }
-        place = l.end;
     }
     false
 }

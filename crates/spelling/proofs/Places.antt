@@ -3,13 +3,18 @@ use Prim.Native.Nat.{ℕ, zero, suc, ◌+◌, ◌-◌, ◌≤◌, ◌<◌}
 use mathlib.Core.Path.{◌≡◌, refl, sym, ap, ◌∙◌}
 use mathlib.Core.Bool.{Bool, true, false, ◌&&◌}
 use mathlib.Core.List.{List, [], ◌∷◌, map}
+use mathlib.Core.Logic.{inl, inr}
 use native.Mathlib.Nat.{add-zero}
 use native.Mathlib.Numerals.{add-one}
 use native.Mathlib.Omega.{arith}
 use lib.Dec.{eqb, leb, ltb}
 use lib.ListN.{length, get_or, take, drop, set, drop_of_length-le, get_or-eq_default}
 use lib.Seq.{drop-cons, drop-drop, take-suc, take_all, length-take-le}
-use borrow.Author.Tests.{le-leb, lt-leb, ltb-true, ltb-false}
+use borrow.Author.Tests.{le-leb, lt-leb, leb-true, leb-false, ltb-true, ltb-false}
+use Rattle.std.specs.Borrow.{Bor}
+use Rattle.std.specs.Option.{unwrap_or}
+use Rattle.std.specs.Prelude.{Option, None, Some}
+use Rattle.std.specs.Slice.{IsGetRangeResult}
 use Rattle.std.proofs.Common.{nat_eq}
 use Rattle.std.specs.Cmp.Lexicographic.{pointwise}
 use Rattle.std.specs.List.{list_any}
@@ -70,11 +75,11 @@ module _ (letters : List ℕ) (a b : ℕ) where
   unfolding between
   between-fit h k = rw (le-leb a b h, le-leb b (length letters) k)
 
-  pub between-down : b < a → [] ≡ between letters a b
+  between-down : b < a → [] ≡ between letters a b
   unfolding between
   between-down h = rw (lt-leb a b h)
 
-  pub between-long : a ≤ b → length letters < b → [] ≡ between letters a b
+  between-long : a ≤ b → length letters < b → [] ≡ between letters a b
   unfolding between
   between-long h k = rw (le-leb a b h, lt-leb b (length letters) k)
 
@@ -86,20 +91,20 @@ module _ (letters : List ℕ) (a b : ℕ) where
       go true = let z : b - a ≡ 0 = omega arith in rw z
       go false = refl
 
--- a span between two words
+-- the span between two words, where it is one, else no letters
 module _ (starts letters : List ℕ) (x a b : ℕ) (p : a ≡ get_or starts x 0) (q : b ≡ get_or starts (x + 1) 0) where
   at_words : between letters a b ≡ letters_at starts letters x
   unfolding letters_at
   at_words = rw (p, q)
 
-  pub span-fit : a ≤ b → b ≤ length letters → take (b - a) (drop a letters) ≡ letters_at starts letters x
-  span-fit h k = between-fit letters a b h k ∙ at_words
-
-  pub span-down : b < a → [] ≡ letters_at starts letters x
-  span-down h = between-down letters a b h ∙ at_words
-
-  pub span-long : a ≤ b → length letters < b → [] ≡ letters_at starts letters x
-  span-long h k = between-long letters a b h k ∙ at_words
+  pub span-read : (r : Option (Bor (List ℕ))) (none : Bor (List ℕ)) → none.now ≡ [] → IsGetRangeResult letters a b r → (unwrap_or r none).now ≡ letters_at starts letters x
+  span-read (Some l) none z ((h, k, e, n), there) = e ∙ (between-fit letters a b h k ∙ at_words)
+  span-read None none z (inl h, there) = z ∙ (between-down letters a b h ∙ at_words)
+  span-read None none z (inr h, there) = z ∙ (go (leb a b) refl ∙ at_words)
+    where
+      go : (t : Bool) → leb a b ≡ t → [] ≡ between letters a b
+      go true e = between-long letters a b (leb-true a b e) h
+      go false e = between-down letters a b (leb-false a b e)
 
 -- ---- names cut out of letters
 name-tail : (n : ℕ) (ns letters : List ℕ) (i : ℕ) → name_at ns (drop n letters) i ≡ name_at (n ∷ ns) letters (suc i)

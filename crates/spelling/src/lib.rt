@@ -62,9 +62,10 @@ pub fn fill_starts(lengths: &[u8], starts: &mut [u32])
     ensures { starts.new ≡ over_at 0 (starts_from 0 lengths.now) starts.old }
 {
     let mut at: u32 = 0;
+    // Stays (proof): a place in both: behind a loop over `starts.iter_mut().zip(lengths)` nothing was known of `starts` (goal `returns`).
     for (i, &n) in lengths.iter().enumerate() {
         starts[i] = at;
-        at += n as u32;
+        at += u32::from(n);
     }
     starts[lengths.len()] = at;
 }

@@ -14,10 +14,7 @@ impl<'a> Spelling<'a> {
     fn start(self, i: usize) -> usize
         ensures { result ≡ get_or self.entry.starts.now i 0 }
     {
-        match self.starts.get(i) {
-            Some(&at) => at as usize,
-            None => 0,
-        }
+        self.starts.get(i).map_or(0, |at| *at as usize)
     }
 
     // The letters of name x; none past the last name.
@@ -26,10 +23,6 @@ impl<'a> Spelling<'a> {
     {
         let from = self.start(x as usize);
         let to = self.start(x as usize + 1);
-        if from <= to && to <= self.letters.len() {
-            &self.letters[from..to]
-        } else {
-            &[]
-        }
+        self.letters.get(from..to).unwrap_or(&[])
     }
 }

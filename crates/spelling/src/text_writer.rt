@@ -63,6 +63,7 @@ impl TextWriter<'_> {
     }
 
     // A number in decimal.
+    // Stays (no plainer): `write!` answers an error that never is one here, and asks for an `impl fmt::Write`, whose text is `str`s.
     pub fn put_decimal(&mut self, n: u64)
         ensures { Wrote (decimal n) self.old self.new }
     {

@@ -1,7 +1,7 @@
 // Prints the text of one fault of a node of the sheet on standard input; or what it is refused for.
 #![tactic(auto)]
 
-use arguments::Word;
+use arguments::{Asked, Word};
 use std::io;
 use std::io::{Read, Write};
 
@@ -14,15 +14,6 @@ struct WantedText {
     node: usize,
     fault: usize,
     lent: usize,
-}
-
-// What is asked for: help, a text, or nothing that is understood.
-// Stays (no plainer): each of the three is answered in a way of its own.
-#[derive(Clone, Copy)]
-enum Asked {
-    Help,
-    Text(WantedText),
-    Other,
 }
 
 const HELP: &[u8] =
@@ -47,7 +38,7 @@ fn tell(
 ) -> io::Result<()> {
     match questions::text(sheet, asked.node, asked.fault, out) {
         Ok(n) => {
-            arguments::show(output, out, n)?;
+            output.write_all(arguments::front(out, n))?;
             output.write_all(b"\n")
         }
         Err(r) => arguments::refuse(errors, r),
@@ -60,28 +51,28 @@ fn answer(
     errors: &mut impl Write,
     asked: WantedText,
 ) -> io::Result<()> {
-    let mut sheet = [0u8; 65536];
-    let n = arguments::read_full(input, &mut sheet)?;
-    let mut out = [0u8; ENOUGH];
-    tell(
-        output,
-        errors,
-        &sheet[..n],
-        asked,
-        &mut out[..asked.lent.min(ENOUGH)],
-    )
+    arguments::with_sheet(input, |sheet| {
+        let mut out = [0u8; ENOUGH];
+        tell(
+            output,
+            errors,
+            sheet,
+            asked,
+            &mut out[..asked.lent.min(ENOUGH)],
+        )
+    })
 }
 
 // What the words NODE, FAULT and BYTES ask for.
-fn question(node: Option<Word>, fault: Option<Word>, lent: Option<Word>) -> Asked {
+fn question(node: Option<Word>, fault: Option<Word>, lent: Option<Word>) -> Asked<WantedText> {
     match (node, fault, lent) {
-        (Some(Word::Help), _, _) => Asked::Help,
-        (Some(Word::Number(_)), Some(Word::Help), _) => Asked::Help,
-        (Some(Word::Number(_)), Some(Word::Number(_)), Some(Word::Help)) => Asked::Help,
-        (Some(Word::Number(node)), Some(Word::Number(fault)), Some(Word::Number(lent))) => {
-            Asked::Text(WantedText { node, fault, lent })
+        (Some(Asked::Help), _, _) => Asked::Help,
+        (Some(Asked::For(_)), Some(Asked::Help), _) => Asked::Help,
+        (Some(Asked::For(_)), Some(Asked::For(_)), Some(Asked::Help)) => Asked::Help,
+        (Some(Asked::For(node)), Some(Asked::For(fault)), Some(Asked::For(lent))) => {
+            Asked::For(WantedText { node, fault, lent })
         }
-        (Some(Word::Number(node)), Some(Word::Number(fault)), None) => Asked::Text(WantedText {
+        (Some(Asked::For(node)), Some(Asked::For(fault)), None) => Asked::For(WantedText {
             node,
             fault,
             lent: ENOUGH,
@@ -100,7 +91,7 @@ fn main(rt: HostRuntime) -> io::Result<()> {
     let lent = arguments::argument(&rt, 3);
     match question(node, fault, lent) {
         Asked::Help => rt.stdout().write_all(HELP),
-        Asked::Text(asked) => answer(&mut rt.stdin(), &mut rt.stdout(), &mut errors, asked),
+        Asked::For(asked) => answer(&mut rt.stdin(), &mut rt.stdout(), &mut errors, asked),
         Asked::Other => errors.write_all(WRONG),
     }
 }

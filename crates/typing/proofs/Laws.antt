@@ -21,15 +21,16 @@ use Rattle.definitions.specs.Lists.{choose, or_else}
 use Rattle.definitions.specs.Tokens.{TagValue, expr_token_of, type_token_of}
 use Rattle.definitions.specs.Bytes.{tokens}
 use Rattle.definitions.specs.Tree.{Ty, Declared, Head, Expr, Exprs, Node}
-use Rattle.definitions.specs.Reading.{got, token, times}
-use Rattle.definitions.specs.Grammar.{name, high, ty, declaration, constant, form}
+use Rattle.definitions.specs.Reading.{got, token}
+use Rattle.definitions.specs.Grammar.{name, high, ty, constant, form}
 use Rattle.definitions.specs.Declock.{declared, last_type, literal_type, element, operand_type}
 use Rattle.grammar.specs.Outcome.{told}
 use Rattle.grammar.proofs.Laws.{wrap-got, tokens-length}
-use Rattle.grammar.proofs.Got.{tagged-value, times-nil}
-use Rattle.layout.proofs.TypedefsLaws.{type-not-refused, type-is-basic, type-is-named, type-is-array, FirstField, declared-there, declared-first}
+use Rattle.grammar.proofs.Got.{tagged-value}
+use Rattle.layout.proofs.TypedefsLaws.{type-not-refused, type-is-basic, type-is-named, type-is-array}
+use Rattle.layout.proofs.Walks.{first-laid, none-laid}
 use Rattle.layout.specs.declared.DeclarationLayout.{DeclarationLayout}
-use Rattle.layout.specs.Laid.{LaidDeclaration}
+use Rattle.layout.specs.Walk.{LaidAll}
 use Rattle.operands.specs.declared.Gap.{Gap}
 use Rattle.operands.specs.declared.Operand.{Operand}
 use Rattle.operands.specs.declared.Role.{Role}
@@ -135,33 +136,21 @@ module _ (M : ℕ) (ts : List TagValue) where
           rw b.4 (a.0 - 1, a.1, b.3)
 
   -- ---- words of names
-  -- no declaration
-  pub declares-none : (t : List ℕ) (k p : ℕ) (ds all : List Declared) (q : ℕ) → k ≡ 0 → times k (declaration M) ts p ≡ got ds q → Declares M ts t all → Declares M ts t (all ++ ds)
-  declares-none t k p ds all q z g h = rw (times-nil (declaration M) ts k p ds q z g).0 (rw (append-nil all) h)
-
   -- one declaration more
-  pub declares-more : (t : List ℕ) (k p first : ℕ) (ds all : List Declared) (q : ℕ) (f : FirstField M ts k p first ds q) → f.id < M → M ≤ length t → (w : ℕ) → w ≡ suc first → Declares M ts t all → Declares M ts (set t f.id w) (all ++ (record { name = f.id; type = f.type } ∷ []))
+  pub declares-more : (t : List ℕ) (all : List Declared) (d : Declared) (first q : ℕ) → ty M 8 ts first ≡ got d.type q → d.name < M → M ≤ length t → (w : ℕ) → w ≡ suc first → Declares M ts t all → Declares M ts (set t d.name w) (all ++ (d ∷ []))
   unfolding last_type IsFound
-  declares-more t k p first ds all q f low room w i h = record { each = λ x b. go x b (eqb f.id x) refl }
+  declares-more t all d first q typed low room w i h = record { each = λ x b. go x b (eqb d.name x) refl }
     where
-      go : (x : ℕ) → x < M → (b : Bool) → eqb f.id x ≡ b → IsFound M ts (last_type (all ++ (record { name = f.id; type = f.type } ∷ [])) x) (found_by (get_or (set t f.id w) x 0))
+      go : (x : ℕ) → x < M → (b : Bool) → eqb d.name x ≡ b → IsFound M ts (last_type (all ++ (d ∷ [])) x) (found_by (get_or (set t d.name w) x 0))
       go x b true e =
-          let j : f.id ≡ x = eqb-true f.id x e in
-          let v : get_or (set t f.id w) x 0 ≡ suc first = ap (λ (y : ℕ). get_or (set t f.id w) y 0) (sym j) ∙ (get_or-set_same t f.id w 0 (omega arith) ∙ i) in
+          let j : d.name ≡ x = eqb-true d.name x e in
+          let v : get_or (set t d.name w) x 0 ≡ suc first = ap (λ (y : ℕ). get_or (set t d.name w) y 0) (sym j) ∙ (get_or-set_same t d.name w 0 (omega arith) ∙ i) in
           let o : first ≡ suc first - 1 = omega arith in
-          let m : Some (TypeFound.At first) ≡ found_by (get_or (set t f.id w) x 0) = ap (λ (y : ℕ). Some (TypeFound.At y)) o ∙ word-place (suc first) _ (sym v) (λ z. omega arith) in
-          subst (λ (z : code.Option TypeFound). IsFound M ts (last_type (all ++ (record { name = f.id; type = f.type } ∷ [])) x) z) m (rw (last-append all (record { name = f.id; type = f.type } ∷ []) x, e) (8, f.next, f.typed))
+          let m : Some (TypeFound.At first) ≡ found_by (get_or (set t d.name w) x 0) = ap (λ (y : ℕ). Some (TypeFound.At y)) o ∙ word-place (suc first) _ (sym v) (λ z. omega arith) in
+          subst (λ (z : code.Option TypeFound). IsFound M ts (last_type (all ++ (d ∷ [])) x) z) m (rw (last-append all (d ∷ []) x, e) (8, q, typed))
       go x b false e =
-          let j = eqb-false f.id x e in
-          rw (last-append all (record { name = f.id; type = f.type } ∷ []) x, e, get_or-set_other t f.id x w 0 (λ z. j (sym z))) (h.each x b)
-
--- one declaration more, stored
-pub declares-stored : (M : ℕ) (ts : List TagValue) (t t' : List ℕ) (k p first : ℕ) (ds all : List Declared) (q : ℕ) (f : FirstField M ts k p first ds q) → f.id < M → M ≤ length t → (x w : ℕ) → f.id ≡ x → w ≡ suc first → t' ≡ set t x w → Declares M ts t all → Declares M ts t' (all ++ (record { name = f.id; type = f.type } ∷ []))
-declares-stored M ts t t' k p first ds all q f low room x w i j e h = rw (e ∙ ap (λ (y : ℕ). set t y w) (sym i)) (declares-more M ts t k p first ds all q f low room w j h)
-
--- it and the others
-pub declares-rest : (M : ℕ) (ts : List TagValue) (t : List ℕ) (all ds rest : List Declared) (d : Declared) → ds ≡ d ∷ rest → Declares M ts t ((all ++ (d ∷ [])) ++ rest) → Declares M ts t (all ++ ds)
-declares-rest M ts t all ds rest d i h = rw i (rw (append_assoc all (d ∷ []) rest) at h)
+          let j = eqb-false d.name x e in
+          rw (last-append all (d ∷ []) x, e, get_or-set_other t d.name x w 0 (λ z. j (sym z))) (h.each x b)
 
 -- the name of a declaration
 pub label_is : (M : ℕ) (gs vs : List ℕ) → length vs ≡ length gs → (p n q : ℕ) → name M (tokens gs vs) p ≡ got n q → (n ≡ get_or vs p 0) × (n < M) × (p < length gs) × (q ≡ p + 1)
@@ -171,27 +160,34 @@ label_is M gs vs same p n q g =
     let v = tagged-value gs vs same p 4 M n q b g in
     (v.0, v.2, b, v.3)
 
--- so many declarations from p on, whose types are put into a table
-pub record Declaring (M : ℕ) (gs vs : List ℕ) (k p : ℕ) (t t' : List ℕ) : Type 0 where
-  pub more : (ds all : List Declared) (q : ℕ) → times k (declaration M) (tokens gs vs) p ≡ got ds q → M ≤ length t → length gs < 4294967295 → Declares M (tokens gs vs) t all → Declares M (tokens gs vs) t' (all ++ ds)
+-- of all declarations, those before the ones that a walk has still to give have their types in a table
+pub record Declaring (M : ℕ) (ts : List TagValue) (all : List Declared) (ls : List DeclarationLayout) (t : List ℕ) : Type 0 where
+  pub done : List Declared
+  pub rest : List Declared
+  pub laid : LaidAll M ts rest ls
+  pub declares : Declares M ts t done
+  pub whole : all ≡ done ++ rest
 
-pub declaring-none : (M : ℕ) (gs vs : List ℕ) (k p : ℕ) (t : List ℕ) → k ≡ 0 → Declaring M gs vs k p t t
-declaring-none M gs vs k p t z = record { more = λ ds all q g room few h. declares-none M (tokens gs vs) t k p ds all q z g h }
+pub declaring-step : (M : ℕ) (gs vs : List ℕ) → length vs ≡ length gs → (all : List Declared) (l : DeclarationLayout) (ls : List DeclarationLayout) (t t₁ : List ℕ) (w : ℕ) → (l.type_at < 4294967295 → w ≡ suc l.type_at) → t₁ ≡ set t l.name w → M ≤ length t → length gs < 4294967295 →
+    Declaring M (tokens gs vs) all (l ∷ ls) t → Declaring M (tokens gs vs) all ls t₁
+declaring-step M gs vs same all l ls t t₁ w word e room few h =
+    let a = first-laid h.laid in
+    let d = a.first in
+    let y = label_is M gs vs same a.from d.name l.type_at a.laid.label in
+    let z = declares-more M (tokens gs vs) t h.done d l.type_at a.to a.laid.typed y.1 room w (word (omega (arith, few, y.2, y.3))) h.declares in
+    record {
+      done = h.done ++ (d ∷ []);
+      rest = a.rest;
+      laid = a.others;
+      declares = rw (e ∙ ap (λ (x : ℕ). set t x w) a.laid.named) z;
+      whole = h.whole ∙ (ap (λ (ds : List Declared). h.done ++ ds) a.whole ∙ sym (append_assoc h.done (d ∷ []) a.rest));
+    }
 
-module _ (M : ℕ) (gs vs : List ℕ) (same : length vs ≡ length gs) (k p : ℕ) (t : List ℕ) (some_left : k ≡ 0 → ⊥) (r : code.Option DeclarationLayout)
-    (read : (d : Declared) (q : ℕ) → declaration M (tokens gs vs) p ≡ got d q → IsSomeAnd r (LaidDeclaration M (tokens gs vs) p d q)) where
-  pub declaring-refused : r ≡ None → (t' : List ℕ) → Declaring M gs vs k p t t'
-  declaring-refused j t' = record { more = λ ds all q g room few h. absurd (declared-there M (tokens gs vs) k p ds q some_left g (λ d s i. let z : ⊥ = rw j at read d s i in z)) }
-
-  pub declaring-step : (l : DeclarationLayout) → r ≡ Some l → (w : ℕ) → (l.type_at < 4294967295 → w ≡ suc l.type_at) → (t₁ t' : List ℕ) → t₁ ≡ set t l.name w → length t₁ ≡ length t → (n : ℕ) → n ≡ k - 1 → Declaring M gs vs n l.end t₁ t' → Declaring M gs vs k p t t'
-  declaring-step l e w word t₁ t' u same_long n c d = record {
-    more = λ ds all q g room few h.
-        let a = declared-first M (tokens gs vs) k p ds q some_left g l (λ d s i. rw e at read d s i) in
-        let f = a.0 in
-        let y = label_is M gs vs same p f.id l.type_at f.label in
-        let z = declares-stored M (tokens gs vs) t t₁ k p l.type_at ds all q f y.1 room l.name w (sym a.2) (word (omega (arith, few, y.2, y.3))) u h in
-        declares-rest M (tokens gs vs) t' all ds f.rest _ f.whole (d.more f.rest _ q (ap (λ (m : ℕ). times m (declaration M) (tokens gs vs) l.end) c ∙ a.1) (omega (arith, room, same_long)) few z);
-  }
+pub declaring-end : (M : ℕ) (ts : List TagValue) (all : List Declared) (ls : List DeclarationLayout) (t : List ℕ) → ls ≡ [] → Declaring M ts all ls t → Declares M ts t all
+declaring-end M ts all ls t e h =
+    let n : h.rest ≡ [] = none-laid (rw e at h.laid) in
+    let i : all ≡ h.done = h.whole ∙ (ap (λ (ds : List Declared). h.done ++ ds) n ∙ append-nil h.done) in
+    rw i h.declares
 
 -- nothing is declared yet
 pub declares-start : (M : ℕ) (ts : List TagValue) (t : List ℕ) → ((x : ℕ) → x < M → get_or t x 0 ≡ 0) → Declares M ts t []

@@ -1,7 +1,7 @@
 // The types of names and operands, and what an expression calls after rewriting.
 #![tactic(auto)]
 
-ghost use Rattle.std.specs.Prelude.{◌≡◌, List, ◌++◌, ℕ, suc, ◌≤◌, ◌<◌, length, get_or, set, Some};
+ghost use Rattle.std.specs.Prelude.{◌≡◌, List, ◌++◌, ℕ, ◌≤◌, ◌<◌, length, get_or, Some};
 ghost use Rattle.std.proofs.Math.Option.{Option};
 ghost use Rattle.grammar.specs.Read.{tokens_of};
 ghost use Rattle.definitions.specs.Tree.{Ty, Declared, Expr, Node, TypeDef, Exprs};
@@ -27,7 +27,6 @@ use operands::Role;
 // ---- The types that a node declares, by name; and that of the operand of a held `pre` in an accepted sheet: declared names, constants,
 // and when, `pre`, `->` or index over such have one. `types` has a word a name: 0, or the place of its last declaration's type and one
 // more.
-// Stays (fixed memory): words and no options, since the types lie in a working table of words, which has rows for other questions.
 
 // A type: by its place among the tokens, or a literal's.
 #[derive(Clone, Copy)]
@@ -74,30 +73,14 @@ fn element_of(source: &Source<'_>, found: Option<TypeFound>) -> Option<TypeFound
 }
 
 // The types of these declarations, each by its name; a later one takes the place of an earlier.
+// Stays (fixed memory): words and no options, since `types` is a working table of words, which has rows for other questions.
 fn declare(source: &Source<'_>, declarations: Span, types: &mut [u32])
     ensures types_len_unchanged { length types.new ≡ length types.old }
     ensures declares { (ds all : List Declared) → Spans (declaration source.now.names) (tokens_of source.now) ds declarations → source.now.names ≤ length types.old → length source.now.tags.now < 4294967295 → Declares source.now.names (tokens_of source.now) types.old all → Declares source.now.names (tokens_of source.now) types.new (all ++ ds) }
 {
-    let mut place = declarations.at;
-    for _ in 0..declarations.count {
-        let Some(declared) = layout::declaration_at(source, place) else {
-            return;
-        };
+    for declared in layout::declarations(source, declarations) {
         let word = clock_tables::word_past(declared.type_at);
-        clock_tables::put_word(types, declared.name as usize, word);
-        place = declared.end;
-    }
-}
-
-// No name below m has a type, if the table has room for them.
-// Stays (no plainer): `inference` `unmark` is over truth values; of both in one would be left what `fill` is.
-fn clear(types: &mut [u32], m: u32)
-    ensures types_len_unchanged { length types.new ≡ length types.old }
-    ensures x_after { m ≤ length types.old → (x : ℕ) → x < m → get_or types.new x 0 ≡ 0 }
-{
-    let n = m as usize;
-    if n <= types.len() {
-        types[..n].fill(0);
+        clock_tables::put_at(types, declared.name as usize, word);
     }
 }
 
@@ -106,7 +89,7 @@ pub fn declared_types(source: &Source<'_>, node: NodeLayout, types: &mut [u32])
     ensures types_len_unchanged { length types.new ≡ length types.old }
     ensures declares { (n : Node) (u : ℕ) → LaidNode source.now.names (tokens_of source.now) n u node → source.now.names ≤ length types.old → length source.now.tags.now < 4294967295 → Declares source.now.names (tokens_of source.now) types.new (declared n) }
 {
-    clear(types, source.names);
+    clock_tables::fill_front(types, source.names as usize, 0);
     declare(source, node.inputs, types);
     declare(source, node.outputs, types);
     declare(source, node.locals, types);
@@ -117,10 +100,7 @@ pub fn last_type(types: &[u32], x: u32) -> Option<usize>
     ensures { result ≡ place_of (get_or types.now x 0) }
 {
     let w = clock_tables::word_at(types, x as usize);
-    if w == 0 {
-        return None;
-    }
-    Some((w - 1) as usize)
+    Some(w.checked_sub(1)? as usize)
 }
 
 // The type of the expression that stands there.

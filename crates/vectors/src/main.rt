@@ -4,14 +4,15 @@
 #![tactic(auto)]
 
 ghost use Rattle.std.specs.Prelude.{◌≡◌, ◌≤◌, ◌<◌, length};
-ghost use Rattle.arguments.specs.Words.{meaning_of};
+ghost use Rattle.arguments.specs.Words.{number_of};
 ghost use Rattle.spelling.specs.Writing.{Put};
 ghost use Rattle.spelling.specs.Written.{Wrote};
 ghost use Rattle.vectors.specs.Fields.{place_of, before, behind, digit_of, decoded, hex_digit, hex};
 
-use arguments::Word;
 use clock_pass::TOLD_CLOCKS;
+use clock_tables::ClockList;
 use definitions::{CHAIN_TABLE, FaultRecord, MOST_NODES, MOST_TOKENS, Refusal};
+use lines::NamedText;
 use query::NodeCounts;
 use spelling::{Spelling, TextWriter};
 use std::io;
@@ -44,12 +45,7 @@ fn large() -> [u8; 524288]
 fn place_of(bytes: &[u8], x: u8) -> usize
     ensures { (result ≡ place_of x bytes.now) × (result ≤ length bytes.now) }
 {
-    for (i, b) in bytes.iter().enumerate() {
-        if *b == x {
-            return i;
-        }
-    }
-    bytes.len()
+    bytes.iter().position(|b| *b == x).unwrap_or(bytes.len())
 }
 
 // What stands before the first space.
@@ -70,11 +66,11 @@ fn next(line: &[u8]) -> &[u8]
     &line[at..]
 }
 
-// What the first field says.
-fn word(line: &[u8]) -> Word
-    ensures { result ≡ meaning_of (before 32 line.now) }
+// The number that the first field says.
+fn number(line: &[u8]) -> Option<usize>
+    ensures { result ≡ number_of (before 32 line.now) }
 {
-    arguments::meaning(field(line))
+    arguments::number(field(line))
 }
 
 // What a digit of hex stands for; 0 for any other byte.
@@ -158,11 +154,11 @@ fn is_spelled<F: FnOnce(&mut TextWriter<'_>)>(answer: &[u8], put: F) -> bool
     arguments::front(&out, end) == answer
 }
 
-// Is the answer that these first n bytes are written?
-fn is_written(bytes: &[u8], n: usize, answer: &[u8]) -> bool {
+// Is the answer that these bytes are written?
+fn is_written(bytes: &[u8], answer: &[u8]) -> bool {
     is_spelled(answer, |text| {
         text.put_all(b"accepted ");
-        put_bytes(text, arguments::front(bytes, n));
+        put_bytes(text, bytes);
     })
 }
 
@@ -185,7 +181,7 @@ fn is_refused_with(r: Refusal, faults: &[FaultRecord; MOST_NODES], answer: &[u8]
 fn is_rewritten(sheet: &[u8], out: &mut [u8], answer: &[u8]) -> bool {
     let told = clock_pass::rewrite_told(sheet, out);
     match told.answer {
-        Ok(n) => is_written(out, n, answer),
+        Ok(n) => is_written(arguments::front(out, n), answer),
         Err(r) => is_refused_with(r, &told.list, answer),
     }
 }
@@ -193,7 +189,7 @@ fn is_rewritten(sheet: &[u8], out: &mut [u8], answer: &[u8]) -> bool {
 // Is the text of a fault into the bytes lent answered so?
 fn is_told(sheet: &[u8], node: usize, fault: usize, out: &mut [u8], answer: &[u8]) -> bool {
     match questions::text(sheet, node, fault, out) {
-        Ok(n) => is_written(out, n, answer),
+        Ok(n) => is_written(arguments::front(out, n), answer),
         Err(r) => is_refused(r, answer),
     }
 }
@@ -240,27 +236,26 @@ fn letters_at(sheet: &[u8]) -> usize {
 #[derive(Clone, Copy)]
 struct NodeClocks<'a> {
     counts: NodeCounts,
-    equations: &'a [u32],
-    chains: &'a [u32],
+    equations: ClockList<'a>,
+    chains: ClockList<'a>,
+}
+
+// A line for each chain.
+fn put_chain_lines(lines: &mut NamedText<'_, '_>, chains: ClockList<'_>) {
+    for i in 0..chains.count {
+        lines.put_chain_line(chains.get(i));
+    }
 }
 
 // A listing, without faults, from lent lists of clocks.
 fn put_listing(text: &mut TextWriter<'_>, spelling: Spelling<'_>, clocks: NodeClocks<'_>) {
     let counts = clocks.counts;
-    lines::put_head(
-        text,
-        spelling,
-        counts.name,
-        counts.equations,
-        counts.passes,
-        counts.chains,
-    );
-    for i in 0..counts.equations {
-        lines::put_equation_line(text, spelling, i, clock_tables::get(clocks.equations, i));
+    let mut lines = NamedText { text, spelling };
+    lines.put_head(counts.name, counts.equations, counts.passes, counts.chains);
+    for i in 0..clocks.equations.count {
+        lines.put_equation_line(i, clocks.equations.get(i));
     }
-    for i in 0..counts.chains {
-        lines::put_chain_line(text, spelling, clock_tables::get(clocks.chains, i));
-    }
+    put_chain_lines(&mut lines, clocks.chains);
 }
 
 // The same of a sheet.
@@ -283,10 +278,8 @@ fn lines_in(text: &[u8]) -> usize {
 
 // Is the text this listing, and so many lines more?
 fn is_listing(text: &[u8], listing: &[u8], faults: usize) -> bool {
-    match text.strip_prefix(listing) {
-        Some(rest) => lines_in(rest) == faults,
-        None => false,
-    }
+    text.strip_prefix(listing)
+        .is_some_and(|rest| lines_in(rest) == faults)
 }
 
 // Is the answer this listing, with these passes and faults?
@@ -347,39 +340,45 @@ fn is_clocked(sheet: &[u8], node: usize, answer: &[u8]) -> bool {
     let mut chains = [0u32; CHAIN_TABLE];
     let told = clock_pass::clocks_told(sheet, node, &mut equations, &mut chains);
     match told.answer {
-        Err(r) => {
-            if !is_refused(r, answer) {
-                return false;
-            }
-            is_listing_refused(sheet, node, answer)
-        }
+        Err(r) => is_refused(r, answer) && is_listing_refused(sheet, node, answer),
         Ok(counts) => {
             let clocks = NodeClocks {
                 counts,
-                equations: &equations,
-                chains: &chains,
+                equations: ClockList {
+                    words: &equations,
+                    count: counts.equations,
+                },
+                chains: ClockList {
+                    words: &chains,
+                    count: counts.chains,
+                },
             };
             are_clocks(sheet, node, clocks, &told.list, answer)
         }
     }
 }
 
+// Does this hold of the sheet that the first field spells?
+fn holds_of_sheet<F: FnOnce(&[u8]) -> bool>(line: &[u8], check: F) -> bool
+    requires { F.IsAlwaysCallable check }
+{
+    let mut bytes = [0u8; 4096];
+    let n = decode(field(line), &mut bytes);
+    check(arguments::front(&bytes, n))
+}
+
 // NODE SHEET ANSWER
 fn check_clocks(line: &[u8]) -> Option<bool> {
     let node = number(line)?;
     let rest = next(line);
-    let mut bytes = [0u8; 4096];
-    let n = decode(field(rest), &mut bytes);
-    Some(is_clocked(arguments::front(&bytes, n), node, next(rest)))
+    Some(holds_of_sheet(rest, |sheet| is_clocked(sheet, node, next(rest))))
 }
 
 // LENT SHEET ANSWER
 fn check_rewrite(line: &[u8]) -> Option<bool> {
     let lent = number(line)?;
     let rest = next(line);
-    let mut bytes = [0u8; 4096];
-    let n = decode(field(rest), &mut bytes);
-    Some(rewrite_lent(arguments::front(&bytes, n), lent, next(rest)))
+    Some(holds_of_sheet(rest, |sheet| rewrite_lent(sheet, lent, next(rest))))
 }
 
 // NODE FAULT LENT SHEET ANSWER
@@ -390,23 +389,21 @@ fn check_text(line: &[u8]) -> Option<bool> {
     let lents = next(faults);
     let lent = number(lents)?;
     let rest = next(lents);
-    let mut bytes = [0u8; 4096];
-    let n = decode(field(rest), &mut bytes);
-    let sheet = arguments::front(&bytes, n);
-    Some(text_lent(sheet, node, fault, lent, next(rest)))
+    Some(holds_of_sheet(
+        rest,
+        |sheet| text_lent(sheet, node, fault, lent, next(rest)),
+    ))
 }
 
 // What reading a sheet is refused for.
 fn reading(bytes: &[u8]) -> Option<NumberedPlace> {
     let mut tags = [0u8; MOST_TOKENS];
     let mut values = [0u32; MOST_TOKENS];
-    match sheet::read(bytes, &mut tags, &mut values) {
-        Ok(_) => None,
-        Err(r) => Some(NumberedPlace {
-            number: refusals::number(r) as usize,
-            place: refusals::place(r),
-        }),
-    }
+    let refusal = sheet::read(bytes, &mut tags, &mut values).err()?;
+    Some(NumberedPlace {
+        number: refusals::number(refusal) as usize,
+        place: refusals::place(refusal),
+    })
 }
 
 // The sheet and the answer: they stand behind one number, or behind three in a question for a text.
@@ -418,14 +415,6 @@ fn from_sheet(line: &[u8]) -> &[u8] {
         return next(two);
     }
     one
-}
-
-// The number that stands first.
-fn number(line: &[u8]) -> Option<usize> {
-    match word(line) {
-        Word::Number(n) => Some(n),
-        Word::Help | Word::Other => None,
-    }
 }
 
 // What an answer says that reading is refused for: `refused NUMBER PLACE` with a number up to 7.
@@ -450,9 +439,7 @@ fn check_reading(line: &[u8], refused: bool) -> Verdict {
     let rest = from_sheet(line);
     let want = listed(next(rest));
     if want.is_some() == refused {
-        let mut bytes = [0u8; 4096];
-        let n = decode(field(rest), &mut bytes);
-        return Some(reading(arguments::front(&bytes, n)) == want);
+        return Some(holds_of_sheet(rest, |sheet| reading(sheet) == want));
     }
     None
 }
@@ -474,7 +461,7 @@ fn check_asked<F: Fn(&[u8]) -> Option<bool>>(line: &[u8], name: &[u8], check: F)
 }
 
 // The tally with one line more, which is told where it is answered otherwise.
-fn add(output: &mut impl Write, t: Tally, v: Verdict, number: u64) -> io::Result<Tally> {
+fn add(output: &mut impl Write, t: Tally, v: Verdict, number: usize) -> io::Result<Tally> {
     let Some(is_listed) = v else {
         return Ok(t);
     };
@@ -496,11 +483,9 @@ fn replay<W: Write, F: Fn(&[u8]) -> Verdict>(
     requires { F.IsAlwaysCallable check }
 {
     let mut t = Tally { all: 0, other: 0 };
-    let mut number: u64 = 0;
-    for line in list.split_inclusive(|b| *b == b'\n') {
-        number = number.saturating_add(1);
+    for (before, line) in list.split_inclusive(|b| *b == b'\n').enumerate() {
         let v = check(line.strip_suffix(b"\n").unwrap_or(line));
-        t = add(output, t, v, number)?;
+        t = add(output, t, v, before.saturating_add(1))?;
     }
     Ok(t)
 }

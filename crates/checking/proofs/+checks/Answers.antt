@@ -2,12 +2,12 @@
 use mathlib.Core.Path.{refl, sym, ◌∙◌}
 use native.Mathlib.Omega.{arith}
 use Rattle.clock_tables.specs.Value.{value_of}
-use Rattle.checking.proofs.Laws.{stays-then}
+use Rattle.checking.proofs.Laws.{some-clock, stays-then}
 use Rattle.checking.proofs.Walk.{walks-none, walks-token, walks-item, item-past, parts-there, walks-past, walks-other, walks-sample, walks-join, walks-down, sample-match, sample-other, merge-past, merge-both}
 use Rattle.checking.proofs.+checks.Goals as goal
 
 pub check_branch-returns-clause-traversed : goal.check_branch-returns-clause-traversed
-check_branch-returns-clause-traversed t c = walks-down c.args.input.now.source.names c.args.input.now.source.tags.now c.args.input.now.source.values.now c.args.input.now.env.now c.args.input.now.equation c.args.input.now.source.same_length _ _ _ _ (value_of c.args.on) c.args.k _ _ c.args.at _ c.push-down.ensures c.check_over.ensures.traversed
+check_branch-returns-clause-traversed t c = walks-down c.args.input.now.source.names c.args.input.now.source.tags.now c.args.input.now.source.values.now c.args.input.now.env.now c.args.input.now.equation c.args.input.now.source.same_length _ _ _ _ (value_of c.args.on) c.args.k _ _ c.args.at _ (some-clock _ _ _ (λ d o q. q) c.map-down.ensures.cases ∙ c.push.ensures) c.check_over.ensures.traversed
 
 pub check_expr-returns-then-input-at-clause-traversed : goal.check_expr-returns-then-input-at-clause-traversed
 check_expr-returns-then-input-at-clause-traversed t c = λ e q g. absurd (walks-past c.args.input.now.source.names c.args.input.now.source.tags.now c.args.input.now.source.values.now c.args.input.now.env.now c.args.input.now.equation c.args.input.now.source.same_length c.args.at c.if-input-at.true e q g)

@@ -9,8 +9,8 @@ loop-x-init c = (refl, refl, left-start _ _ _ _ _ _ _ _)
 pub loop-x-preserved : goal.loop-x-preserved
 loop-x-preserved c =
     let k = c.loop-x.invariant in (
-      c.left_on.ensures.same_reference ∙ k.0,
-      c.left_on.ensures.same_length ∙ k.1,
+      c.left_on.ensures.still_lent.same_reference ∙ k.0,
+      c.left_on.ensures.still_lent.same_length ∙ k.1,
       left_step _ _ _ _ _ _ _ c.args.names.now _ _ c.loop-x.x-index k.2 _ _ _ c.loop-x-test.true refl c.left_on.ensures.held,
     )
 

@@ -18,5 +18,5 @@ loop-i-init c =
 pub loop-i-preserved : goal.loop-i-preserved
 loop-i-preserved c =
     let v = c.loop-i.invariant in
-    let l : c.loop-i.i < 8 = omega (arith, c.depth_at-d.ensures, c.loop-i-test.true) in
+    let l : c.loop-i.i < 8 = omega (arith, c.depth_at-depth.ensures, c.loop-i-test.true) in
     (simp length-set v.0, load-more _ c.args.t.now _ _ _ v.0 l c.condition_at.ensures v.1)

@@ -1,21 +1,15 @@
 -- `cycles::field_targets` meets its contract: the names of the fields passed are there.
 -- Assumes nothing.
-use native.Mathlib.Omega.{arith}
 use Rattle.cycles.proofs.Laws.{fields-begin, fields-next, fields-end}
-use Rattle.layout.proofs.TypedefsLaws.{declared-first, declared-there}
 use Rattle.cycles.proofs.field_targets.Goals as goal
 
-pub loop-init : goal.loop-init
-loop-init c = λ types fs q k g. fields-begin types _ _ _ _ 0 _ fs q g (c.no_targets-targets.ensures types)
+pub loop-field-init : goal.loop-field-init
+loop-field-init c = λ types fs q k g. fields-begin types _ _ _ fs _ (rw c.into_iter-field-iterator.ensures.into_iter_gives (c.declarations_from-field-items.ensures.laid fs q g)) (c.no_targets-targets.ensures types)
 
-pub returns-in_default : goal.returns-in_default
-returns-in_default c = λ types fs q k g. let a = c.loop.invariant types fs q k g in
-    absurd (declared-there _ _ _ _ a.rest q (omega (arith, c.loop-test.true)) a.reads c.in_default.ensures.read)
-
-pub loop-preserved : goal.loop-preserved
-loop-preserved c = λ types fs q k g. let a = c.loop.invariant types fs q k g in
-    let f = declared-first _ _ _ _ a.rest q (omega (arith, c.loop-test.true)) a.reads _ c.in-Some.ensures.read in
-    fields-next types _ _ _ _ _ _ fs q a _ f.0 _ f.1 _ (c.add_type-targets.ensures types f.0.type f.0.next a.names k f.0.typed a.marked)
+pub loop-field-preserved : goal.loop-field-preserved
+loop-field-preserved c = λ types fs q k g.
+    let a = rw c.in-Some.ensures.steps at (c.loop-field.invariant types fs q k g) in
+    fields-next types _ _ _ fs _ _ a _ (λ f. c.add_type-targets.ensures types f.first.type _ a.names k f.laid.typed a.marked)
 
 pub returns : goal.returns
-returns c = λ types fs q k g. fields-end types _ _ _ _ _ _ fs q (c.loop.invariant types fs q k g) c.loop-test.false
+returns c = λ types fs q k g. fields-end types _ _ _ fs _ (c.loop-field.invariant types fs q k g) c.in-None.ensures.steps.0

@@ -7,5 +7,5 @@ use Rattle.declock.specs.Tabled.{FlagIds, ordered_clocks}
 use Rattle.declock.proofs.FlagsLaws.{Left, declarations}
 use Rattle.declock.proofs.put_declarations.Given as goal
 
-abbrev pub invariant-loop-i : goal.invariant-loop-i
-invariant-loop-i l = (id : Clock → ℕ) → FlagIds l.flags id → Left (row_of l.flags.clocks.words.now) l.flags.names.now.order (declarations id) l.flags.names.now.ordered (emits l.initial.output (declarations id (ordered_clocks l.flags))) l.output l.i
+abbrev pub invariant-loop-row : goal.invariant-loop-row
+invariant-loop-row l = (id : Clock → ℕ) → FlagIds l.flags id → Left (row_of l.flags.clocks.words.now) l.flags.names.now.order (declarations id) l.flags.names.now.ordered (emits l.initial.output (declarations id (ordered_clocks l.flags))) l.output l.row-index

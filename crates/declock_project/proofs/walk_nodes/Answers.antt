@@ -12,7 +12,7 @@ use Rattle.declock_project.proofs.Nodes.{names-start, tokens-start, names_more, 
 use Rattle.declock_project.proofs.walk_nodes.Goals as goal
 
 pub loop-k-init : goal.loop-k-init
-loop-k-init c = (same-first _, refl, omega arith, λ i h r. ahead-start i.sheet.nodes, λ i ns h f r. first-start i ns f _, λ bytes i ns f h r held. names-start f held, λ bytes i ns f h r held free. tokens-start f _)
+loop-k-init c = (same-first _, refl, omega arith, λ i h r. ahead-start i.sheet.nodes, λ i ns h f r. rw c.requires (first-start i ns f _), λ bytes i ns f h r held. names-start f held, λ bytes i ns f h r held free. tokens-start f _)
 
 pub returns-in_err-fault-clause-walks : goal.returns-in_err-fault-clause-walks
 returns-in_err-fault-clause-walks c =
@@ -30,9 +30,9 @@ loop-k-preserved c =
     let few = c.loop-k-test.true in (
       same-more l.invariant.0 c.walk_node.ensures.same_room,
       c.walk_node.auto.holds ∙ l.invariant.1,
-      omega (arith, l.invariant.2, c.add_fault-faulty.ensures.upper_bound),
+      omega (arith, l.invariant.2, c.add_first.ensures.upper_bound),
       λ i h r. nodes-step i l.k (l.invariant.3 i h r) _ (omega (arith, few, h.nodes.count)) (λ n e. (c.in_ok-fault.ensures.node_met (room-still l.invariant.0 l.invariant.1 r)).deep i n h e) refl,
-      λ i ns h f r. first_step i ns f _ l.k _ _ _ _ _ _ (omega (arith, few, h.nodes.count)) refl ((c.in_ok-fault.ensures.node_met (room-still l.invariant.0 l.invariant.1 r)).fault i ns h f) c.add_fault-faulty.ensures.by_index (l.invariant.4 i ns h f r),
+      λ i ns h f r. first_step i ns f _ l.k _ _ _ _ _ _ (omega (arith, few, h.nodes.count)) refl ((c.in_ok-fault.ensures.node_met (room-still l.invariant.0 l.invariant.1 r)).fault i ns h f) (λ lent fs g h e. c.add_first.ensures.by_index lent fs g h (omega (arith, l.invariant.2, few, c.args.index.now.nodes.within)) e) (l.invariant.4 i ns h f r),
       λ bytes i ns f h r held. names_more f h l.k few (c.in_ok-fault.ensures.node_put (room-still l.invariant.0 l.invariant.1 r)) (l.invariant.5 bytes i ns f h r held),
       λ bytes i ns f h r held free. tokens-more f h l.k few (c.in_ok-fault.ensures.node_put (room-still l.invariant.0 l.invariant.1 r)) (l.invariant.5 bytes i ns f h r held) _ (l.invariant.6 bytes i ns f h r held) free,
     )

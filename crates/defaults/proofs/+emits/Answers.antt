@@ -5,9 +5,9 @@ use mathlib.Core.Path.{sym, ◌∙◌}
 use native.Mathlib.Omega.{arith}
 use Rattle.definitions.specs.Types.{default_named}
 use Rattle.layout.specs.Table.{def_at}
-use Rattle.layout.proofs.TypedefsLaws.{named, type-not-refused, type-is-basic, type-is-named, type-is-array, declared-first, declared-there}
+use Rattle.layout.proofs.TypedefsLaws.{named, type-not-refused, type-is-basic, type-is-named, type-is-array}
 use Rattle.emit.proofs.Laws.{emits-stuck}
-use Rattle.defaults.proofs.Written.{wrote-basic, element-default, wrote-array, wrote-plain, wrote-same, plain-default, copies-begin, copies-more, copies-none, named-default, not-unnamed, definition-default, wrote-variant, fields-default, alias-default, field-default, wrote-record, fields-begin, fields-next, fields-end}
+use Rattle.defaults.proofs.Written.{wrote-basic, element-default, wrote-array, wrote-plain, wrote-same, plain-default, copies-more, copies-none, named-default, not-unnamed, definition-default, wrote-variant, fields-default, alias-default, wrote-record, fields-next, fields-end}
 use Rattle.defaults.proofs.+emits.Goals as goal
 
 pub emit_array-returns-in-Some : goal.emit_array-returns-in-Some
@@ -16,11 +16,8 @@ emit_array-returns-in-Some t c = λ types f v y q e s h g d. wrote-plain e _ _ _
 pub emit_array-returns-in-None : goal.emit_array-returns-in-None
 emit_array-returns-in-None t c = λ types f v y q e s h g d. wrote-array e _ _ _ _ c.emit_all.ensures (c.emit_copies.ensures types f v y q e s h g d)
 
-pub emit_copies-loop-init : goal.emit_copies-loop-init
-emit_copies-loop-init t c = λ types f v y q e s h g d. copies-begin e _ _
-
-pub emit_copies-returns-then-is_full : goal.emit_copies-returns-then-is_full
-emit_copies-returns-then-is_full t c = λ types f v y q e s h g d. sym (c.loop.invariant types f v y q e s h g d ∙ emits-stuck _ _ (c.is_full.ensures.0 c.if-is_full.true))
+pub emit_copies-returns-then-output : goal.emit_copies-returns-then-output
+emit_copies-returns-then-output t c = λ types f v y q e s h g d. sym (c.loop.invariant types f v y q e s h g d ∙ emits-stuck _ _ c.if-output.true)
 
 pub emit_copies-loop-preserved : goal.emit_copies-loop-preserved
 emit_copies-loop-preserved t c = λ types f v y q e s h g d. copies-more e _ _ _ _ _ c.loop-test.true (c.emit_type.ensures types f v y q e s h g d) (c.loop.invariant types f v y q e s h g d)
@@ -37,26 +34,15 @@ emit_definition-returns-in-Some-Record t c = λ types f b q e s h g d. let a = f
 pub emit_definition-returns-in-Some-Alias : goal.emit_definition-returns-in-Some-Alias
 emit_definition-returns-in-Some-Alias t c = λ types f b q e s h g d. let a = alias-default _ _ _ c.args.table.now.source.same_length (default_named types _) b q _ (c.in-Some-Alias.ensures b q g) e d _ _ c.in-Some-Alias.field-0-is in c.emit_type.ensures types f 8 a.0 q e s h a.1 a.2
 
-pub emit_fields-loop-init : goal.emit_fields-loop-init
-emit_fields-loop-init t c = λ types f fs q es s h g d. fields-begin (default_named types f) _ _ _ _ fs q es _ g d
+pub emit_fields-returns-then-output : goal.emit_fields-returns-then-output
+emit_fields-returns-then-output t c = λ types f fs q es s h g d. sym ((c.loop-field.invariant types f fs q es s h g d).whole ∙ emits-stuck _ _ c.if-output.true)
 
-pub emit_fields-returns-then-is_full : goal.emit_fields-returns-then-is_full
-emit_fields-returns-then-is_full t c = λ types f fs q es s h g d. sym ((c.loop.invariant types f fs q es s h g d).whole ∙ emits-stuck _ _ (c.is_full.ensures.0 c.if-is_full.true))
-
-pub emit_fields-returns-in_default : goal.emit_fields-returns-in_default
-emit_fields-returns-in_default t c = λ types f fs q es s h g d. let a = c.loop.invariant types f fs q es s h g d in
-    absurd (declared-there _ _ _ _ a.rest q (omega (arith, c.loop-test.true)) a.reads c.in_default.ensures.read)
-
-pub emit_fields-loop-preserved : goal.emit_fields-loop-preserved
-emit_fields-loop-preserved t c = λ types f fs q es s h g d. let a = c.loop.invariant types f fs q es s h g d in
-    let n = declared-first _ _ _ _ a.rest q (omega (arith, c.loop-test.true)) a.reads _ c.in-Some.ensures.read in
-    let r = n.0 in
-    let b = field-default (default_named types f) a.rest _ r.rest a.values r.whole a.by in
-    fields-next (default_named types f) _ _ _ _ _ q _ _ a _ r _ n.1 b.0 b.1 b.3 b.4
-    _ _ _ n.2 c.emit.ensures (c.emit_type.ensures types f 8 r.type r.next b.0 s h r.typed b.2)
+pub emit_fields-loop-field-preserved : goal.emit_fields-loop-field-preserved
+emit_fields-loop-field-preserved t c = λ types f fs q es s h g d.
+    fields-next (default_named types f) _ _ _ _ _ _ (rw c.in-Some.ensures.steps at (c.loop-field.invariant types f fs q es s h g d)) _ _ c.emit.ensures (λ y r e i k. c.emit_type.ensures types f 8 y r e s h i k)
 
 pub emit_fields-returns : goal.emit_fields-returns
-emit_fields-returns t c = λ types f fs q es s h g d. fields-end (default_named types f) _ _ _ _ _ q _ _ (c.loop.invariant types f fs q es s h g d) c.loop-test.false
+emit_fields-returns t c = λ types f fs q es s h g d. fields-end (default_named types f) _ _ _ _ _ (c.loop-field.invariant types f fs q es s h g d) c.in-None.ensures.steps.0
 
 pub emit_named-returns-in_default : goal.emit_named-returns-in_default
 emit_named-returns-in_default t c = λ types f e s h d. absurd (not-unnamed _ _ _ _ types s _ f e d (c.in_default.ensures.first types (named _ _ _ c.args.table.now.source.same_length _ _ types s)))
@@ -64,11 +50,8 @@ emit_named-returns-in_default t c = λ types f e s h d. absurd (not-unnamed _ _ 
 pub emit_named-returns : goal.emit_named-returns
 emit_named-returns t c = λ types f e s h d. let k = c.in-Some.ensures.first types (named _ _ _ c.args.table.now.source.same_length _ _ types s) in let a = definition-default _ _ _ _ types s _ f e d c.in-Some.first k.0 k.1 _ h in c.emit_definition.ensures types a.0 (def_at types c.in-Some.first) a.1 e s a.2 a.3 a.4
 
-pub emit_type-returns-then-is_full : goal.emit_type-returns-then-is_full
-emit_type-returns-then-is_full t c = λ types f v y q e s h g d. sym (emits-stuck _ _ (c.is_full.ensures.0 c.if-is_full.true))
-
-pub emit_type-returns-then-depth-eq0 : goal.emit_type-returns-then-depth-eq0
-emit_type-returns-then-depth-eq0 t c = λ types f v y q e s h g d. absurd (omega (arith, h, c.if-depth-eq0.true))
+pub emit_type-returns-then-output : goal.emit_type-returns-then-output
+emit_type-returns-then-output t c = λ types f v y q e s h g d. sym (emits-stuck _ _ c.if-output.true)
 
 pub emit_type-returns-in_default : goal.emit_type-returns-in_default
 emit_type-returns-in_default t c = λ types f v y q e s h g d. absurd (type-not-refused _ _ _ _ c.type_head.ensures v y q g _ c.in_default.is)

@@ -12,7 +12,8 @@ use Rattle.definitions.specs.Reading.{got, times}
 use Rattle.definitions.specs.Grammar.{ty, declaration}
 use Rattle.definitions.specs.Types.{copies, default_by, defaults_by, default_named}
 use Rattle.definitions.specs.Output.{field_tokens, operand_tokens}
-use Rattle.layout.specs.Table.{Table}
+use Rattle.cycles.specs.Defines.{Defines}
+use Rattle.layout.specs.Walk.{declared_left}
 use Rattle.emit.specs.Out.{emits}
 use Rattle.defaults.specs.Depth.{Enough}
 use Rattle.defaults.proofs.Written.{FieldsLeft}
@@ -39,11 +40,11 @@ decreases-emit_type l = 4 * l.depth
 abbrev pub invariant-emit_copies-loop : goal.invariant-emit_copies-loop
 invariant-emit_copies-loop l =
     let s = l.table.source in
-    (types : List TypeDef) (fuel levels : ℕ) (t : Ty) (q : ℕ) (e : Expr) → Table s.names (tokens_of s) l.table.places.now.at l.table.places.now.count types → Enough l.depth fuel (suc levels) → ty s.names levels (tokens_of s) l.at ≡ got t q → default_by (default_named types fuel) t ≡ some e →
+    (types : List TypeDef) (fuel levels : ℕ) (t : Ty) (q : ℕ) (e : Expr) → Defines l.table types → Enough l.depth fuel (suc levels) → ty s.names levels (tokens_of s) l.at ≡ got t q → default_by (default_named types fuel) t ≡ some e →
     emits l.initial.output (join (operand_tokens (copies l.m e))) ≡ emits l.output (join (operand_tokens (copies (l.m - l.counter) e)))
 
-abbrev pub invariant-emit_fields-loop : goal.invariant-emit_fields-loop
-invariant-emit_fields-loop l =
+abbrev pub invariant-emit_fields-loop-field : goal.invariant-emit_fields-loop-field
+invariant-emit_fields-loop-field l =
     let s = l.table.source in
-    (types : List TypeDef) (fuel : ℕ) (fs : List Declared) (q : ℕ) (es : Exprs) → Table s.names (tokens_of s) l.table.places.now.at l.table.places.now.count types → Enough l.depth fuel 9 → times l.count (declaration s.names) (tokens_of s) l.at ≡ got fs q → defaults_by (default_named types fuel) fs ≡ some es →
-    FieldsLeft (default_named types fuel) s.names (tokens_of s) (l.count - l.counter) l.place q (emits l.initial.output (field_tokens (map (λ f. f.name) fs) (operand_tokens es))) l.output
+    (types : List TypeDef) (fuel : ℕ) (fs : List Declared) (q : ℕ) (es : Exprs) → Defines l.table types → Enough l.depth fuel 9 → times l.count (declaration s.names) (tokens_of s) l.at ≡ got fs q → defaults_by (default_named types fuel) fs ≡ some es →
+    FieldsLeft (default_named types fuel) s.names (tokens_of s) (declared_left l.field-iterator) (emits l.initial.output (field_tokens (map (λ f. f.name) fs) (operand_tokens es))) l.output

@@ -4,8 +4,8 @@ use Rattle.emit.proofs.Laws.{emits-stuck}
 use Rattle.defaults.proofs.Written.{copies-more, copies-none, literal-one}
 use Rattle.defaults.proofs.emit_each.Goals as goal
 
-pub returns-then-is_full : goal.returns-then-is_full
-returns-then-is_full c = sym (c.loop.invariant ∙ emits-stuck _ _ (c.is_full.ensures.0 c.if-is_full.true))
+pub returns-then-output : goal.returns-then-output
+returns-then-output c = sym (c.loop.invariant ∙ emits-stuck _ _ c.if-output.true)
 
 pub loop-preserved : goal.loop-preserved
 loop-preserved c = copies-more _ _ _ _ _ _ c.loop-test.true (literal-one _ _ _ c.emit_literal.ensures) c.loop.invariant

@@ -3,4 +3,4 @@ use Rattle.emit.proofs.NodePartsLaws.{equations-stand, counted}
 use Rattle.emit.proofs.put_equations.Goals as goal
 
 pub returns : goal.returns
-returns c = λ M n q h. counted _ _ _ _ _ _ h.equations.many (λ w. equations-stand M _ w _ _ h.equations) c.put_counted.ensures
+returns c = λ M n q h. counted _ _ _ _ _ _ h.equations.many (equations-stand M _ _ _ h.equations) c.put_counted.ensures

@@ -3,4 +3,4 @@ use Rattle.emit.proofs.NodePartsLaws.{probes-stand, counted}
 use Rattle.emit.proofs.put_probes.Goals as goal
 
 pub returns : goal.returns
-returns c = λ M n q h. counted _ _ _ _ _ _ h.probes.many (λ w. probes-stand M _ w _ _ h.probes) c.put_counted.ensures
+returns c = λ M n q h. counted _ _ _ _ _ _ h.probes.many (probes-stand M _ _ _ h.probes) c.put_counted.ensures

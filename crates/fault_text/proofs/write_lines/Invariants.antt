@@ -1,5 +1,5 @@
--- `fault_text::write_lines` meets its contract: in the first k nodes no clock is too deep, and the lines of their first faults are put, none longer
--- than a line may be. Assumes nothing.
+-- `fault_text::write_lines` meets its contract: in the first k nodes no clock is too deep, and the lines of their first faults are put,
+-- none longer than a line may be. Assumes nothing.
 use Prim.Native.Nat.{◌*◌, ◌≤◌}
 use mathlib.Core.Path.{◌≡◌}
 use mathlib.Core.List.{List}

@@ -1,10 +1,10 @@
 -- In a node that uses no clocks none is too deep, and of another inference tells.
 use mathlib.Core.Path.{◌∙◌}
-use Rattle.infer_clocks.proofs.Laws.{deep-unused, deep-by}
+use Rattle.infer_clocks.proofs.Laws.{deep-clockless, deep-by}
 use Rattle.infer_clocks.proofs.deep_laid.Goals as goal
 
-pub returns-then-equations_use_clocks : goal.returns-then-equations_use_clocks
-returns-then-equations_use_clocks c = λ n q l u v y. c.is_err.ensures.value ∙ deep-by _ n _ _ _ (c.clock_laid.ensures.clocked_or_deep n q l u v y)
+pub returns-then-uses_clocks : goal.returns-then-uses_clocks
+returns-then-uses_clocks c = λ n q l u v y. c.is_err.ensures.value ∙ deep-by _ n _ _ _ (c.clock_laid.ensures.clocked_or_deep n q l u v y)
 
-pub returns-else-equations_use_clocks : goal.returns-else-equations_use_clocks
-returns-else-equations_use_clocks c = λ n q l u v y. c.if-equations_use_clocks.false ∙ deep-unused n _ (c.equations_use_clocks.ensures _ n.equations _ l.equations.items) c.if-equations_use_clocks.false
+pub returns-else-uses_clocks : goal.returns-else-uses_clocks
+returns-else-uses_clocks c = λ n q l u v y. c.if-uses_clocks.false ∙ deep-clockless n _ (c.uses_clocks.ensures.of_node n q l) c.if-uses_clocks.false

@@ -30,6 +30,3 @@ returns-clause-held c = λ n p xs q b m g s.
     let r = c.args.round.now in
     let l = c.loop-x in
     giving-end r.source.now.names n (value_of c.args.c) r.present l.tables.env.now l.tables.since.now c.names_in-names.result.now _ _ (l.changed || b) l.x-index c.loop-x-test.false (l.invariant.1 n p xs q b m g s)
-
-pub returns-clause-kept : goal.returns-clause-kept
-returns-clause-kept c = c.loop-x.invariant.0

@@ -20,9 +20,3 @@ returns-in_err-changed-clause-held c = λ n es q clocks m e g a h. let v = err_f
 
 pub returns-clause-held : goal.returns-clause-held
 returns-clause-held c = λ n es q clocks m e g a h. going_end _ _ n es c.args.round.now.present _ _ _ _ c.args.equations.count c.loop-i.i _ q _ (omega (arith, c.loop-i-test.false)) (c.loop-i.invariant.1 n es q clocks m e g a h)
-
-pub returns-in_err-changed-clause-kept : goal.returns-in_err-changed-clause-kept
-returns-in_err-changed-clause-kept c = kept-then _ _ _ c.loop-i.invariant.0 c.one_equation.ensures.kept
-
-pub returns-clause-kept : goal.returns-clause-kept
-returns-clause-kept c = c.loop-i.invariant.0

@@ -1,5 +1,5 @@
 -- `layout::places_of` meets its contract: the places so far, and that of the item that is next.
-use Rattle.std.proofs.Common.{◌∙◌, refl}
+use Rattle.std.proofs.Common.{◌∙◌}
 use native.Mathlib.Omega.{arith}
 use lib.ListN.{length-set, length-replicate}
 use Rattle.layout.specs.Spans.{here}
@@ -18,4 +18,4 @@ loop-i-preserved g c = record {
 
 -- as many as were asked for
 pub returns-clause-count : goal.returns-clause-count
-returns-clause-count g c = refl
+returns-clause-count g c = c.min-count.ensures

@@ -6,6 +6,6 @@ use Rattle.layout.proofs.places_of.Given as goal
 abbrev pub invariant-loop-i : goal.invariant-loop-i
 invariant-loop-i g l = record {
   room : length l.places ≡ g.row.N;
-  next : Ended (goal.F-post g l.item_end) l.at l.i l.place;
-  each : (k : ℕ) → k < l.i → Ended (goal.F-post g l.item_end) l.at k (get_or l.places k 0);
+  next : Ended (goal.F-post g l.item_end) l.fn.items.at l.i l.place;
+  each : (k : ℕ) → k < l.i → Ended (goal.F-post g l.item_end) l.fn.items.at k (get_or l.places k 0);
 }

@@ -11,7 +11,7 @@ pub returns-in_err-end-clause-walks_equation : goal.returns-in_err-end-clause-wa
 returns-in_err-end-clause-walks_equation c = equation-stopped _ _ c.args.planning.now.index.now.source.same_length _ _ _ _ _ c.names_at-left.ensures c.expr.ensures.walks _ _ c.in_err-end.was (passes _ _ _ c.from_residual.ensures c.in_err-end.was)
 
 pub returns-then-on_base-clause-walks_equation : goal.returns-then-on_base-clause-walks_equation
-returns-then-on_base-clause-walks_equation c = equation-base _ _ c.args.planning.now.index.now.source.same_length _ _ _ _ _ c.names_at-left.ensures c.expr.ensures.walks _ c.in_ok-end.was (sized c.expr.ensures.still_lent) (sym c.on_base.ensures ∙ c.if-on_base.true) _ c.put_word.ensures.words_after
+returns-then-on_base-clause-walks_equation c = equation-base _ _ c.args.planning.now.index.now.source.same_length _ _ _ _ _ c.names_at-left.ensures c.expr.ensures.walks _ c.in_ok-end.was (sized c.expr.ensures.still_lent) (sym c.on_base.ensures ∙ c.if-on_base.true) _ c.put_at.ensures
 
 pub returns-in_err-flagged_fault-clause-walks_equation : goal.returns-in_err-flagged_fault-clause-walks_equation
 returns-in_err-flagged_fault-clause-walks_equation c = equation-met _ _ c.args.planning.now.index.now.source.same_length _ _ _ _ _ c.names_at-left.ensures c.expr.ensures.walks _ c.in_ok-end.was (sized c.expr.ensures.still_lent) _ c.get-c.ensures (sym c.on_base.ensures ∙ c.if-on_base.false) _ c.called_after-called.ensures _ c.flagged_fault.ensures _ _ (fails _ _ c.from_residual-in_err-flagged_fault.ensures) (ap told_of c.in_err-flagged_fault.was)

@@ -1,6 +1,6 @@
 -- `node_plan::lefts_fault` meets its contract: one left name after another.
 -- Assumes nothing.
-use mathlib.Core.Path.{refl, sym, ◌∙◌, ap, subst}
+use mathlib.Core.Path.{sym, ◌∙◌, ap, subst}
 use mathlib.Core.List.{List}
 use Prim.Native.Nat.{ℕ, ◌<◌}
 use lib.ListN.{length, get_or}
@@ -9,9 +9,6 @@ use Rattle.planned.proofs.LeftDefaultsLaws.{names-below}
 use Rattle.node_plan.specs.Noted.{told_of}
 use Rattle.node_plan.proofs.Lefts.{lefts-stop, lefts-next, lefts-end, fails}
 use Rattle.node_plan.proofs.lefts_fault.Goals as goal
-
-pub loop-x-init : goal.loop-x-init
-loop-x-init c = λ types l node k b. refl
 
 pub loop-x-preserved : goal.loop-x-preserved
 loop-x-preserved c = λ types l node k b. c.loop-x.invariant types l node k b ∙ lefts-next types l node _ _ c.loop-x-test.true (sym (ap told_of c.in_ok-left_fault.was) ∙ c.left_fault.ensures types l node k (b _ c.loop-x-test.true))

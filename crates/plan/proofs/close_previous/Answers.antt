@@ -11,8 +11,8 @@ pub returns-then-on_base-clause-closes_previous : goal.returns-then-on_base-clau
 returns-then-on_base-clause-closes_previous c = record {
   close = λ e q ds y g n D B.
       elim c.then-on_base.branch [
-        | then-on_base-via-then-on_base w ↦ previous-base _ _ _ c.put_word.ensures.words_after _ _ (sym c.on_base.ensures ∙ w.if-on_base.true) (is_bare e) _ y B
-        | then-on_base-via-else-on_base+then-is_name w ↦ previous-bare _ _ _ c.put_word.ensures.words_after _ _ (sym c.on_base.ensures ∙ w.if-on_base.false) (is_bare e) (n.1 ∙ (sym (w.is_name.ensures n.0) ∙ w.if-is_name.true)) _ y B
+        | then-on_base-via-then-on_base w ↦ previous-base _ _ _ c.put_at.ensures _ _ (sym c.on_base.ensures ∙ w.if-on_base.true) (is_bare e) _ y B
+        | then-on_base-via-else-on_base+then-is_name w ↦ previous-bare _ _ _ c.put_at.ensures _ _ (sym c.on_base.ensures ∙ w.if-on_base.false) (is_bare e) (n.1 ∙ (sym (w.is_name.ensures n.0) ∙ w.if-is_name.true)) _ y B
       ];
 }
 

@@ -20,5 +20,5 @@ use Rattle.planned.proofs.old_equations.Given as goal
 
 abbrev pub invariant-loop : goal.invariant-loop
 invariant-loop l =
-    (W : Writer) (ids : Ids) (layout : NodeLayout) (cs : List Clocked) (end : ℕ) → Grounds l.written layout W → ids.condact ≡ W.condact → old_fault W.types W.nodes W.node W.condact 0 cs ≡ none → length cs ≡ l.count
-    → EquationsPlanned l.written.index.now.source.names l.written.index.now.source.tags.now l.written.index.now.source.values.now W l.written.plan.now W.condact ids 0 cs l.at end → Left l.written.index.now.source.names l.written.index.now.source.tags.now l.written.index.now.source.values.now W l.written.plan.now ids (emits l.initial.output (join (map equation_tokens (old_yield W.types W.nodes W.node ids 0 cs).value))) l.output (l.count - l.counter) l.place end
+    (W : Writer) (ids : Ids) (layout : NodeLayout) (cs : List Clocked) (end : ℕ) → Grounds l.written layout W → ids.condact ≡ W.condact → old_fault W.types W.nodes W.node W.condact 0 cs ≡ none → length cs ≡ l.fn.equations.count
+    → EquationsPlanned l.written.index.now.source.names l.written.index.now.source.tags.now l.written.index.now.source.values.now W l.written.plan.now W.condact ids 0 cs l.fn.equations.at end → Left l.written.index.now.source.names l.written.index.now.source.tags.now l.written.index.now.source.values.now W l.written.plan.now ids (emits l.initial.output (join (map equation_tokens (old_yield W.types W.nodes W.node ids 0 cs).value))) l.output (l.end - l.counter) l.place end

@@ -1,11 +1,8 @@
 -- `planned::put_kept` meets its contract.
 -- Assumes nothing.
-use Rattle.planned.proofs.FramesLaws.{kept-written, kept-there}
+use Rattle.planned.proofs.FramesLaws.{kept-written}
 use Rattle.planned.proofs.put_kept.Goals as goal
 
 pub returns : goal.returns
 returns c = λ ts l n xs ks t s k.
     kept-written ts l n xs ks _ _ _ c.args.written.now.index.now.source.same_length _ s k _ (c.names_in.ensures.spanned xs s) _ c.in-Some.ensures.item.1 _ _ _ _ c.emit.ensures (λ b f. c.put_left_default.ensures ts l n t b f) c.put_named.ensures
-
-pub returns-in_default : goal.returns-in_default
-returns-in_default c = λ ts l n xs ks t s k. absurd (kept-there ts l n xs ks _ (c.names_in.ensures.spanned xs s) k c.in_default.ensures.item.3)

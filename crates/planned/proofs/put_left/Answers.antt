@@ -6,9 +6,6 @@ use Rattle.definitions.specs.declared.Token.{Token}
 use Rattle.planned.proofs.LeftDefaultsLaws.{names-left-none, names-left-rest, wrote-left}
 use Rattle.planned.proofs.put_left.Goals as goal
 
-pub loop-x-init : goal.loop-x-init
-loop-x-init c = record { known = tt; same = refl }
-
 pub loop-x-preserved : goal.loop-x-preserved
 loop-x-preserved c = names-left-rest _ _ _ _ _ _ c.loop-x.invariant c.loop-x-test.true (λ x. Token.Name x ∷ []) (λ x rest. refl) _ (λ h. (c.emit-in-loop-x.ensures, tt))
 

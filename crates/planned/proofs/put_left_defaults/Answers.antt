@@ -1,6 +1,6 @@
 -- `planned::put_left_defaults` meets its contract: one after another.
 -- Assumes nothing.
-use mathlib.Core.Path.{refl, sym, ◌∙◌, ap, subst}
+use mathlib.Core.Path.{sym, ◌∙◌, ap, subst}
 use mathlib.Core.List.{List}
 use Prim.Native.Nat.{ℕ, ◌<◌}
 use lib.ListN.{length, get_or}
@@ -11,9 +11,6 @@ use Rattle.stateless.specs.Yield.{left_tree, left_trees}
 use Rattle.stateless.specs.Faults.{lefts_fault}
 use Rattle.planned.proofs.LeftDefaultsLaws.{names-below, names-left-none, names-left-rest, first-free, cut-left, no-left-tokens}
 use Rattle.planned.proofs.put_left_defaults.Goals as goal
-
-pub loop-x-init : goal.loop-x-init
-loop-x-init c = λ ts l n k b free. record { known = free; same = refl }
 
 pub loop-x-preserved : goal.loop-x-preserved
 loop-x-preserved c = λ ts l n k b free. names-left-rest _ _ _ _ _ _ (c.loop-x.invariant ts l n k b free) c.loop-x-test.true (λ x. expr_tokens (left_tree ts l n x)) (cut-left ts l n) _ (λ h. let a = first-free ts l n _ _ h in (c.put_left_default.ensures ts l n k (b _ c.loop-x-test.true) a.0, a.1))

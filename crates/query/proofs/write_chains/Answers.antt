@@ -1,10 +1,11 @@
 -- `query::write_chains` meets its contract. Assumes nothing.
+use Rattle.chain_order.specs.Order.{row_of}
 use Rattle.query.proofs.Entries.{chains-many, chains-written}
 use Rattle.query.proofs.write_chains.Goals as goal
 
 pub returns : goal.returns
 returns c =
     record {
-      value = λ u v w. chains-many _ _ _ _ (c.chain_rows-ordered.ensures u v w);
-      list_after = λ u v w. chains-written _ _ _ _ (c.chain_rows-ordered.ensures u v w) _ _ c.write_rows.ensures;
+      value = λ u v w. chains-many (row_of c.chain_rows-ordered.result.rows.now) c.chain_rows-ordered.result.order.now _ (c.chain_rows-ordered.ensures u v w);
+      list_after = λ u v w. chains-written (row_of c.chain_rows-ordered.result.rows.now) c.chain_rows-ordered.result.order.now _ (c.chain_rows-ordered.ensures u v w) _ _ c.write_rows.ensures;
     }

@@ -2,13 +2,13 @@
 -- Assumes nothing.
 use mathlib.Core.Path.{◌≡◌}
 use mathlib.Core.List.{List}
-use Prim.Native.Nat.{ℕ, ◌-◌, ◌≤◌}
+use Prim.Native.Nat.{ℕ, ◌≤◌}
 use lib.ListN.{length}
-use Rattle.definitions.specs.Bytes.{tokens}
 use Rattle.definitions.specs.Tree.{Node}
 use Rattle.definitions.specs.Reading.{got, times}
 use Rattle.definitions.specs.Grammar.{node}
 use Rattle.definitions.specs.Answer.{clockings}
+use Rattle.grammar.specs.Read.{tokens_of}
 use Rattle.spelling.specs.Places.{letters_in}
 use Rattle.workspace.specs.Room.{SameRoom, RoomToList}
 use Rattle.query.proofs.Listings.{Putting}
@@ -17,4 +17,4 @@ use Rattle.query.proofs.write_listings.Given as goal
 abbrev pub invariant-loop-i : goal.invariant-loop-i
 invariant-loop-i l =
     (l.text.out.ghost_name ≡ l.initial.text.out.ghost_name) × SameRoom l.initial.working l.working
-    × ((ns : List Node) (q : ℕ) → times l.n (node l.source.names) (tokens l.source.tags.now l.source.values.now) l.from ≡ got ns q → RoomToList l.source.names (length l.source.tags.now) l.initial.working → length l.spelling.letters.now ≤ 16384 → length l.source.tags.now ≤ 4096 → Putting l.source.names (tokens l.source.tags.now l.source.values.now) (letters_in l.spelling) (l.n - l.i) l.i l.place q l.initial.text l.text (clockings 0 ns))
+    × ((ns : List Node) (q : ℕ) → times l.fn.nodes.count (node l.source.names) (tokens_of l.source) l.fn.nodes.at ≡ got ns q → RoomToList l.source.names (length l.source.tags.now) l.initial.working → length l.spelling.letters.now ≤ 16384 → length l.source.tags.now ≤ 4096 → Putting l.source (letters_in l.spelling) l.fn.nodes.count l.i-iterator.count q l.i-iterator.iter l.initial.text l.text (clockings 0 ns))

@@ -10,6 +10,6 @@ loop-i-init c = faults-none _ _ _
 
 pub loop-i-preserved : goal.loop-i-preserved
 loop-i-preserved c = elim c.match-finding_at.branch [
-  | in-Fault w ↦ rw w.text-is (fault-line _ _ _ c.loop-i.i _ w.in-Fault.ensures _ _ refl refl c.loop-i.invariant w.put_fault_line.ensures)
-  | in_default w ↦ rw w.text-is (fault-pass _ _ _ c.loop-i.i _ c.finding_at.ensures (not-fault _ w.in_default.not-Fault) c.loop-i.invariant)
+  | in-Fault w ↦ rw w.lines-is (fault-line _ _ _ c.loop-i.i _ w.in-Fault.ensures _ _ refl refl c.loop-i.invariant w.put_fault_line.ensures)
+  | in_default w ↦ rw w.lines-is (fault-pass _ _ _ c.loop-i.i _ c.finding_at.ensures (not-fault _ w.in_default.not-Fault) c.loop-i.invariant)
 ]

@@ -1,12 +1,10 @@
 -- `emit::Output::put` meets its contract: by its test. Assumes nothing.
-use borrow.Author.Tests.{lt-ltb, le-ltb}
-use Rattle.emit.specs.Out.{puts}
+use mathlib.Core.Path.{refl}
+use Rattle.emit.proofs.Laws.{put-in, put-out}
 use Rattle.emit.proofs.output.Output.put.Goals as goal
 
 pub returns-then-self-lt-WORKING_TOKENS : goal.returns-then-self-lt-WORKING_TOKENS
-unfolding puts
-returns-then-self-lt-WORKING_TOKENS c = rw (lt-ltb _ _ c.if-self-lt-WORKING_TOKENS.true)
+returns-then-self-lt-WORKING_TOKENS c = put-in _ _ _ c.if-self-lt-WORKING_TOKENS.true refl refl refl refl
 
 pub returns-else-self-lt-WORKING_TOKENS : goal.returns-else-self-lt-WORKING_TOKENS
-unfolding puts
-returns-else-self-lt-WORKING_TOKENS c = rw (le-ltb _ _ c.if-self-lt-WORKING_TOKENS.false)
+returns-else-self-lt-WORKING_TOKENS c = put-out _ _ _ c.if-self-lt-WORKING_TOKENS.false refl refl refl refl

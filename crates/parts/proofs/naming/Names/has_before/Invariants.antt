@@ -1,15 +1,12 @@
--- `parts::naming::Names::has_before` meets its contract. None of the names so far is it, and the letters of the next ones are left.
+-- `parts::naming::Names::has_before` meets its contract. It is one of the first names just where it is one of those that are left.
 -- Assumes nothing.
 use mathlib.Core.Path.{◌≡◌}
-use mathlib.Core.Bool.{false}
-use lib.ListN.{drop}
+use lib.ListN.{take}
 use Rattle.definitions.specs.Lists.{any, same_letters}
-use Rattle.parts.specs.Places.{start, before}
+use Rattle.definitions.specs.Bytes.{cut}
+use Rattle.parts.specs.Places.{before}
 use Rattle.parts.proofs.naming.Names.has_before.Given as goal
 
-abbrev pub invariant-loop-n : goal.invariant-loop-n
-invariant-loop-n l =
-    record {
-      letters : l.letters ≡ drop (start l.self.lengths.now l.n-index) l.self.letters.now;
-      none : any (same_letters l.name) (before l.self.lengths.now l.self.letters.now l.n-index) ≡ false;
-    }
+abbrev pub invariant-loop-earlier : goal.invariant-loop-earlier
+invariant-loop-earlier l =
+    any (same_letters l.name) (before l.self.lengths.now l.self.letters.now l.count) ≡ any (same_letters l.name) (take l.earlier-iterator.n (cut l.earlier-iterator.iter.lengths.now l.earlier-iterator.iter.letters.now))

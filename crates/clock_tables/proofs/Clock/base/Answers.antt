@@ -1,6 +1,0 @@
-use mathlib.Core.Path.{refl}
-use Rattle.clock_tables.proofs.ClockLaws.{base-at}
-use Rattle.clock_tables.proofs.Clock.base.Goals as goal
-
-pub returns : goal.returns
-returns c = base-at _ _ refl

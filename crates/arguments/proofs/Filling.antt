@@ -1,8 +1,10 @@
 -- Laws on bytes that are filled from a reader.
 -- Assumes nothing.
 use Rattle.std.proofs.Common.{◌≡◌, ℕ, ◌+◌, ◌≤◌, ◌<◌, List, ◌++◌, Option, Result, length, take, drop, subst, sym, ap, ◌∙◌, length-take-le}
-use Rattle.std.proofs.Math.Seq.{take-append-add, take-append-le, drop-append_seam}
-use Rattle.std.proofs.lemmas.List.{take_all, take-append-drop}
+use native.Mathlib.Omega.{arith}
+use Rattle.std.proofs.Math.Seq.{take-append-add, take-append-le, take-append_seam, drop-append_seam}
+use Rattle.std.proofs.lemmas.List.{length-append, take_all, take-append-drop}
+use Rattle.std.proofs.lemmas.Slice.{take-put_mid_below}
 use Rattle.std.specs.Io.KnownBytes.{Consumes}
 use Rattle.std.specs.Result.{OnOk}
 use Rattle.std.proofs.lemmas.Result.{on_ok_weaker}
@@ -26,6 +28,12 @@ module _ (a k n : ℕ) (xs ys : List ℕ) where
       let front : length (take a xs) ≡ a = length-take-le a xs h in
       let behind : drop a (take (a + n) (put_mid a k xs ys)) ≡ take n ys = ap (drop a) (take-put_mid-more h f) ∙ ap (λ (m : ℕ). drop m (take a xs ++ take n ys)) (sym front) ∙ drop-append_seam (take a xs) (take n ys) in
       subst (Consumes old new) (sym behind) p
+
+-- what was put at the front stands there, whatever is put behind it
+pub start_stands : (k : ℕ) (start front rest ys : List ℕ) → front ≡ start → take (length start) (put_mid (length start) k (front ++ rest) ys) ≡ start
+start_stands k start front rest ys e =
+    take-put_mid_below (length start) k (front ++ rest) ys (length start) (omega arith) (omega (arith, length-append front rest, ap length e))
+    ∙ (ap (λ (l : List ℕ). take (length start) (l ++ rest)) e ∙ take-append_seam start rest)
 
 -- what is read on behind bytes that were read first makes with them all that is read
 pub read_whole : (n : ℕ) (start sheet : List ℕ) (old mid new : Option (List ℕ)) → length start ≤ n → Consumes old mid (take n start) → take (length start) sheet ≡ start → Consumes mid new (drop (length start) sheet) → Consumes old new sheet

@@ -18,6 +18,7 @@ use std::io;
 use std::io::{Read, Write};
 
 // What is asked for: help, or something, or nothing that is understood.
+// Stays (no plainer): `Other` is a word that is there and is not understood; one that is not there is a `None` of `argument`.
 #[derive(Clone, Copy)]
 pub enum Asked<T> {
     Help,
@@ -115,6 +116,7 @@ pub fn front(bytes: &[u8], n: usize) -> &[u8]
 }
 
 // Writes a refusal's line, `refused NUMBER PLACE: REASON`.
+// Stays (no plainer): programs pass two streams, `output` and `errors`: a struct of both takes two type parameters at each of 8 functions.
 pub fn refuse<W: Write>(errors: &mut W, r: Refusal) -> io::Result<()>
     ensures { OnOk result ((line : Letters) × (n : ℕ) × Put (reason_line r) 0 (replicate 256 0) n line × Appends (W.contents errors.old) (W.contents errors.new) (take n line)) }
 {
@@ -135,7 +137,7 @@ pub fn read_full<R: Read>(reader: &mut R, bytes: &mut [u8]) -> io::Result<usize>
     ensures end { IfOk result (λ n. n < length bytes.new → IsAtEnd (R.remaining reader.new)) }
 {
     let mut done = 0;
-    // Stays (no plainer): each reading says how far the place goes on, and one that is refused ends it.
+    // Stays (no plainer): std reads to the end into a `Vec` alone, on a heap, and its `read_exact` turns down an input that ends sooner.
     while done < bytes.len() {
         let n = reader.read(&mut bytes[done..])?;
         if n == 0 {

@@ -10,13 +10,14 @@ ghost use Rattle.clock_tables.specs.Value.{value_of};
 ghost use Rattle.spelling.specs.Places.{letters_in};
 ghost use Rattle.chain_order.specs.Order.{answer_of, row_of, picked, FirstBelow, Shifted};
 
-use clock_tables::Clock;
+use clock_tables::{Clock, ClockList};
 use definitions::Condition;
 use sorted_rows::SortedRows;
 use spelling::Spelling;
 use std::cmp::Ordering;
 
 // Rows of clocks in an order.
+// Stays (fixed memory): rows of a lent table by their numbers: holds of a plan name a clock by its row, so that none is moved.
 #[derive(Clone, Copy)]
 pub struct OrderedClocks<'a> {
     pub rows: &'a [u32],
@@ -55,7 +56,7 @@ pub(crate) struct NamedRows<'a> {
 
 impl NamedRows<'_> {
     // Two rows' clocks, condition by condition, a parent before its children.
-    // Stays (speed): places in two rows: with both clocks loaded, the bench's hostile chains take 42.0 million instructions, not 32.5.
+    // Stays (speed): places: `clocks` of merges under seven merges takes 17.6 million instructions, 26.0 by both clocks; the bar is 18.7.
     pub(crate) fn row_order(self, x: u32, y: u32) -> Ordering
         ensures { result ≡ answer_of (chain_order (letters_in self.entry.spelling) (row_of self.entry.rows.now x) (row_of self.entry.rows.now y)) }
     {
@@ -88,19 +89,23 @@ fn shift(order: &mut [u32], j: usize, k: usize, x: u32)
     order[j] = x;
 }
 
-// The first n rows in chain order: how many there are, and which.
-pub fn sort_rows(spelling: Spelling<'_>, rows: &[u32], order: &mut [u32], n: u32) -> usize
-    requires { n ≤ length order.old }
+// Rows of clocks in chain order: how many there are, and which.
+pub fn sort_rows(spelling: Spelling<'_>, clocks: ClockList<'_>, order: &mut [u32]) -> usize
+    requires placed { clocks.count ≤ length order.old }
+    requires numbered { clocks.count < 4294967296 }
     ensures order_len_unchanged { length order.new ≡ length order.old }
-    ensures upper_bound { result ≤ n }
-    ensures result_after { picked (row_of rows.now) order.new 0 result ≡ in_chain_order (letters_in spelling.entry) (clocks_in rows.now n) }
-    ensures first_below { FirstBelow order.new result n }
+    ensures upper_bound { result ≤ clocks.entry.count }
+    ensures result_after { picked (row_of clocks.entry.words.now) order.new 0 result ≡ in_chain_order (letters_in spelling.entry) (clocks_in clocks.entry.words.now clocks.entry.count) }
+    ensures first_below { FirstBelow order.new result clocks.entry.count }
 {
     let mut sorted = SortedRows {
-        named: NamedRows { spelling, rows },
+        named: NamedRows {
+            spelling,
+            rows: clocks.words,
+        },
         order,
         count: 0,
     };
-    sorted.insert_first(n);
+    sorted.insert_first(clocks.count as u32);
     sorted.count
 }

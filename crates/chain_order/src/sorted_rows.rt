@@ -6,6 +6,7 @@ ghost use Rattle.chain_order.specs.Order.{row_of, InOrder, Rising-prop, Sought};
 use crate::{NamedRows, shift};
 
 // The rows that stand in chain order so far: so many of the places of `order` name them.
+// Stays (fixed memory): how many there are shows as rows are put in, and the lent slice has a place for each row that there can be.
 #[derive(Drop)]
 pub(crate) struct SortedRows<'a> {
     pub named: NamedRows<'a>,

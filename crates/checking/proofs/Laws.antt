@@ -14,7 +14,7 @@ use Rattle.definitions.specs.Lists.{choose}
 use Rattle.definitions.specs.Tree.{Expr}
 use Rattle.definitions.specs.Clock.{Clock, ◌↓◌, depth, deepest, parent, same_clock, ends_in}
 use Rattle.definitions.specs.InferClocks as rules
-use Rattle.definitions.specs.InferClocks.{Clocks, clock_of, deep, formed, condition_over, natural, Fault, used_elsewhere, when_elsewhere, clock_name_elsewhere, Finding, found, site, too_deep, one_down, on_natural, must_be_on, check}
+use Rattle.definitions.specs.InferClocks.{Clocks, clock_of, deep, formed, condition_over, natural, Fault, left_elsewhere, used_elsewhere, when_elsewhere, clock_name_elsewhere, Finding, found, site, too_deep, one_down, on_natural, must_be_on, check}
 use Rattle.std.specs.Prelude.{Result, Ok, Err, IsOkAnd}
 use Rattle.std.specs.Result.{MatchResult}
 use Rattle.std.specs.Prelude as maybe
@@ -25,6 +25,8 @@ use Rattle.clock_tables.specs.Flat.{clock_in}
 use Rattle.clock_tables.proofs.FlatLaws.{Within, clock-same}
 use Rattle.clock_tables.specs.Environment.{env_at}
 use Rattle.findings.specs.Findings.{FindingsHeld}
+use Rattle.findings.specs.Value.{clock_fault_of}
+use Rattle.findings.specs.declared.ClockFault.{ClockFault}
 use Rattle.checking.specs.Walk.{other_than, meets, SiteStored, Stays}
 use Rattle.checking.specs.declared.CheckOutput.{CheckOutput}
 
@@ -149,3 +151,7 @@ module _ (clocks : Clocks) (i : ℕ) (c : Clock) (k : Condition) (e : Expr) (b :
   when-other n h l =
       append_assoc fs _ _
       ∙ ap (λ (x : List Finding). fs ++ x) (ap (λ (m : rules.Natural). found (record { equation = i; fault = when_elsewhere k c }) ∷ on_natural m (λ a. check clocks i a e)) l ∙ sym (when-is ∙ ap when-by h))
+
+-- a fault of a left name, which says whether it is an input or output
+pub left-told : (x : ℕ) (d on : struct.Clock) (f : ClockFault) (port b : Bool) → f ≡ ClockFault.LeftElsewhere (record { name = x; on = d; expected = on }) port → port ≡ b → clock_fault_of f ≡ left_elsewhere x (value_of d) (value_of on) b
+left-told x d on f port b e h = ap clock_fault_of e ∙ ap (left_elsewhere x (value_of d) (value_of on)) h

@@ -75,9 +75,6 @@ pub record LeftGoing (M : ℕ) (env : List ℕ) (ports : List Bool) (i : ℕ) (c
       (so_far : List Finding) × FindingsHeld t' n' so_far × (so_far ++ check_left clocks i node c rest ≡ fs ++ check_left clocks i node c names)
 
 module _ (M : ℕ) (env : List ℕ) (ports : List Bool) (i : ℕ) (c : Clock) (t : List ℕ) (n : ℕ) (names : List ℕ) where
-  pub left-start : LeftGoing M env ports i c t n t n names names
-  left-start = record { held = λ node clocks fs a b d h. (fs, h, refl) }
-
   module _ (t' : List ℕ) (n' k : ℕ) (w : LeftGoing M env ports i c t n t' n' names (drop k names)) where
     -- one more
     pub left_step : (t'' : List ℕ) (n'' x : ℕ) → k < length names → x ≡ get_or names k 0 →

@@ -92,3 +92,8 @@ pub record EquationStored (M : ℕ) (gs vs sites sites' : List ℕ) (i : ℕ) (c
 -- of the names below m, the inputs and outputs of this node are marked
 pub record PortMarks (ports : List Bool) (m : ℕ) (n : Node) : Type 0 where
   pub same : (x : ℕ) → x < m → get_or ports x false ≡ is_port n x
+
+-- what checking reads is of this node: its names' clocks, and the marks of its inputs and outputs
+pub record ReadsNode (i : CheckInput) (node : Node) (clocks : Clocks) : Type 0 where
+  pub agrees : Agrees i.env.now i.source.names clocks
+  pub ports : PortMarks i.ports.now i.source.names node

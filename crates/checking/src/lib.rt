@@ -14,13 +14,13 @@ ghost use Rattle.definitions.specs.Clock.{◌↓◌, parent, is_on, is_not};
 ghost use Rattle.definitions.specs.InferClocks as rules;
 ghost use Rattle.definitions.specs.InferClocks.{Clocks, clock_of, formed, left_elsewhere, clock_name_elsewhere, one_down, on_natural, must_be_on, check, checks, check_left, check_equation};
 ghost use Rattle.clock_tables.specs.Value.{value_of, option_of, natural_of};
-ghost use Rattle.clock_tables.specs.Environment.{env_at, Agrees};
+ghost use Rattle.clock_tables.specs.Environment.{env_at};
 ghost use Rattle.findings.specs.Met.{StillLent};
 ghost use Rattle.findings.specs.Findings.{FindingsHeld};
 ghost use Rattle.operands.specs.Spread.{tree};
 ghost use Rattle.skeleton.specs.Lies.{Frame, Lies};
 ghost use Rattle.skeleton.specs.Sites.{WasRead, Sited};
-ghost use Rattle.checking.specs.Walk.{other_than, Makes, is_site_tag, meets, SiteStored, Stays, Stands, Walked, PortMarks, EquationStored};
+ghost use Rattle.checking.specs.Walk.{other_than, Makes, is_site_tag, meets, SiteStored, Stays, Stands, Walked, ReadsNode, EquationStored};
 
 use clock_tables::{Clock, Natural};
 use definitions::{Condition, Test};
@@ -39,6 +39,7 @@ pub struct CheckInput<'a> {
 }
 
 // What it writes: what it meets, and the clock of each site in its token's row.
+// Stays (no plainer): beside `CheckInput`: as one `&mut self`, each function would have to say that what it reads stays.
 #[derive(Drop)]
 pub struct CheckOutput<'a, 'b> {
     pub findings: &'a mut Findings<'b>,
@@ -91,17 +92,11 @@ fn samples_on(input: &CheckInput<'_>, findings: &mut Findings<'_>, x: u32, on: C
     ensures still_lent { StillLent findings.old findings.new }
     ensures held { (clocks : Clocks) (fs : List rules.Finding) → env_at input.now.env.now x ≡ clock_of clocks x → FindingsHeld findings.old.words.now findings.old.count fs → FindingsHeld findings.new.words.now findings.new.count (fs ++ must_be_on clocks input.now.equation (value_of on) x (λ d. clock_name_elsewhere x d (value_of on))) }
 {
-    must_be_on(
-        input,
-        findings,
-        x,
-        on,
-        |elsewhere| ClockFault::ClockNameElsewhere(elsewhere),
-    );
+    must_be_on(input, findings, x, on, ClockFault::ClockNameElsewhere);
 }
 
 // What is met at a token of an expression, which is that of no when and no merge.
-// Stays (speed): by tags, here and below: `clocks` of 32 counters takes 3.31 million instructions unproved, by whole tokens 3.49.
+// Stays (speed): by tags, here and below: `clocks` of 32 counters takes 1.86 million instructions, 2.06 by whole tokens; the bar is 2.05.
 fn enter(
     input: &CheckInput<'_>,
     output: &mut CheckOutput<'_, '_>,
@@ -115,13 +110,7 @@ fn enter(
     ensures held { (clocks : Clocks) (fs : List rules.Finding) → (tag ≡ 54 → env_at input.now.env.now value ≡ clock_of clocks value) → FindingsHeld output.old.findings.now.words.now output.old.findings.now.count fs → FindingsHeld output.new.findings.now.words.now output.new.findings.now.count (fs ++ meets clocks input.now.equation (value_of on) tag value) }
 {
     match tag {
-        tags::VAR => must_be_on(
-            input,
-            output.findings,
-            value,
-            on,
-            |elsewhere| ClockFault::UsedElsewhere(elsewhere),
-        ),
+        tags::VAR => must_be_on(input, output.findings, value, on, ClockFault::UsedElsewhere),
         tags::PRE | tags::ARROW => {
             output.put_site(at, on);
             output.findings.push(Finding::Site(on));
@@ -323,7 +312,7 @@ fn left_on(input: &CheckInput<'_>, findings: &mut Findings<'_>, x: u32, on: Cloc
 // The left names of an equation on that clock.
 fn check_left(input: &CheckInput<'_>, findings: &mut Findings<'_>, on: Clock, names: &[u32])
     ensures still_lent { StillLent findings.old findings.new }
-    ensures held { (node : Node) (clocks : Clocks) (fs : List rules.Finding) → Agrees input.now.env.now input.now.source.names clocks → PortMarks input.now.ports.now input.now.source.names node → ((i : ℕ) → i < length names.now → get_or names.now i 0 < input.now.source.names) → FindingsHeld findings.old.words.now findings.old.count fs → FindingsHeld findings.new.words.now findings.new.count (fs ++ check_left clocks input.now.equation node (value_of on) names.now) }
+    ensures held { (node : Node) (clocks : Clocks) (fs : List rules.Finding) → ReadsNode input.now node clocks → ((i : ℕ) → i < length names.now → get_or names.now i 0 < input.now.source.names) → FindingsHeld findings.old.words.now findings.old.count fs → FindingsHeld findings.new.words.now findings.new.count (fs ++ check_left clocks input.now.equation node (value_of on) names.now) }
 {
     for &x in names {
         left_on(input, findings, x, on);
@@ -339,7 +328,7 @@ pub fn check_equation(
 ) -> usize
     ensures stays { Stays output.old output.new }
     ensures ends { (e : Equation) (q : ℕ) → grammar.equation input.now.source.names (tokens_of input.now.source) at ≡ got e q → result ≡ q }
-    ensures held { (node : Node) (clocks : Clocks) (e : Equation) (q : ℕ) (fs : List rules.Finding) → Agrees input.now.env.now input.now.source.names clocks → PortMarks input.now.ports.now input.now.source.names node → grammar.equation input.now.source.names (tokens_of input.now.source) at ≡ got e q → FindingsHeld output.old.findings.now.words.now output.old.findings.now.count fs → FindingsHeld output.new.findings.now.words.now output.new.findings.now.count (fs ++ check_equation node clocks input.now.equation (record { clock = value_of on; equation = e })) }
+    ensures held { (node : Node) (clocks : Clocks) (e : Equation) (q : ℕ) (fs : List rules.Finding) → ReadsNode input.now node clocks → grammar.equation input.now.source.names (tokens_of input.now.source) at ≡ got e q → FindingsHeld output.old.findings.now.words.now output.old.findings.now.count fs → FindingsHeld output.new.findings.now.words.now output.new.findings.now.count (fs ++ check_equation node clocks input.now.equation (record { clock = value_of on; equation = e })) }
     ensures stored { (e : Equation) (q : ℕ) → grammar.equation input.now.source.names (tokens_of input.now.source) at ≡ got e q → EquationStored input.now.source.names input.now.source.tags.now input.now.source.values.now output.old.sites.now output.new.sites.now input.now.equation (value_of on) e at q }
 {
     let left = layout::names_at(&input.source, at);

@@ -1,5 +1,5 @@
 // The clock pass: the entry points, and the same for callers that lend no list of fault records.
-// Stays (no plainer): `rewrite` and `clocks` say again what `questions` says, so that an entry point's promise is read where it is named.
+// Stays (no plainer): `rewrite` and `clocks` hand on to `questions`: a `pub use` has no clause here, where TRUST.md sends a reader.
 #![tactic(auto)]
 
 ghost use Rattle.std.specs.Prelude.{◌≡◌, ℕ, length, replicate, take, Ok};

@@ -11,7 +11,9 @@ use lib.ListN.{length, set, take}
 use lib.Pointwise.{pointwise}
 use lib.Seq.{get_or-set_same, get_or-set_other, take-suc, take-length}
 use lib.Dec.{eqb}
-use Rattle.std.specs.Prelude.{Some, None}
+use Rattle.std.specs.Prelude.{Option, Some, None, MatchOption}
+use Rattle.std.specs.Borrow.{Bor}
+use Rattle.std.specs.Option.{option_copied}
 use Rattle.std.specs.List.{slice_get}
 use Rattle.std.proofs.lemmas.List.{get_or-take, length-take-le}
 use Rattle.std.proofs.lemmas.Option.{none-some, slice_get-get_or, slice_get_within, get_or_from_slice_get}
@@ -19,7 +21,7 @@ use borrow.Author.Tests.{ne_eqb, eqb-true, eq-eqb, lt-ltb}
 use Rattle.definitions.specs.declared.Test.{Test}
 use Rattle.definitions.specs.declared.Condition.{Condition}
 use Rattle.definitions.specs.contracts.ConditionPartialEq.TheImpl as derived
-use Rattle.definitions.specs.Clock.{Clock, base, ◌↓◌, depth, parent, same_test, same_condition, same_clock, is_base}
+use Rattle.definitions.specs.Clock.{Clock, base, ◌↓◌, depth, parent, same_test, same_condition, same_clock, is_base, ends_in}
 use Rattle.definitions.specs.InferClocks.{formed, condition_over, parent_of}
 use Rattle.clock_tables.specs.declared.clock.Clock as struct
 use Rattle.clock_tables.specs.Value.{at, clock_at, capped, value_of}
@@ -166,6 +168,12 @@ condition-eq k l = tests k.test l.test
     tests Test.On Test.Not = refl
     tests Test.Not Test.On = refl
     tests Test.Not Test.Not = refl
+
+-- what the last condition tells: base has none
+pub ends-told : (ks : List Condition) (k : Condition) (c : Clock) (o : Option (Bor Condition)) (r : Bool) (Q : Bor Condition → Type 0)
+    → ((b : Bor Condition) → Q b → r ≡ derived.eq-value.it k b.now) → option_copied o ≡ slice_get ks (length ks - 1) → clock_at ks (length ks) ≡ c → MatchOption o (r ≡ false) Q → r ≡ ends_in k c
+ends-told ks k c None r Q f v e m = m ∙ ap (ends_in k) (sym (none-last ks v) ∙ e)
+ends-told ks k c (Some b) r Q f v e m = f b m ∙ condition-eq k b.now ∙ ap (ends_in k) (sym (last-over ks b.now c v e))
 
 pointwise-last : (E : Condition → Condition → Bool) (ks ls : List Condition) (k l : Condition) → length ks ≡ length ls → pointwise E (ks ++ (k ∷ [])) (ls ++ (l ∷ [])) ≡ (E k l && pointwise E ks ls)
 pointwise-last E [] [] k l h = refl

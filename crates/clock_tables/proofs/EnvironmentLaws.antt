@@ -10,9 +10,12 @@ use native.Mathlib.Omega.{arith}
 use lib.ListN.{length, get_or, drop, replicate}
 use lib.Dec.{eqb, ltb}
 use borrow.Author.Tests.{ne_eqb, eq-eqb, eqb-true, eqb-false, ltb-true, ltb-false}
+use Rattle.std.specs.Prelude.{Option, Some, None, is_some, IfSome}
 use Rattle.definitions.specs.Lists.{choose}
 use Rattle.definitions.specs.Clock.{Clock}
 use Rattle.definitions.specs.InferClocks.{Clocks, clock_of}
+use Rattle.clock_tables.specs.declared.clock.Clock as struct
+use Rattle.clock_tables.specs.Value.{value_of, option_of}
 use Rattle.clock_tables.specs.Flat.{clock_in}
 use Rattle.clock_tables.proofs.FlatLaws.{Within, clock-same}
 use Rattle.clock_tables.proofs.FrontLaws.{front-filled}
@@ -74,3 +77,8 @@ agrees-assign t t' m x c clocks l a g = record { room = omega (arith, a.same_len
     go y u false q =
         let n : y ≡ x → ⊥ = λ e. eqb-false x y q (sym e) in
         rw q (a.elsewhere y n ∙ g.same y u)
+
+-- a name's clock, by the test of its first word
+pub env-told : (t : List ℕ) (x : ℕ) {b : Bool} (o : Option struct.Clock) (Q : struct.Clock → Type 0) → ((c : struct.Clock) → Q c → value_of c ≡ clock_in t (17 * x)) → b ≡ not (eqb (get_or t (17 * x) 0) 0) → is_some o ≡ b → IfSome o Q → option_of o ≡ env_at t x
+env-told t x None Q f e v m = sym (env-unassigned t x e (sym v))
+env-told t x (Some c) Q f e v m = ap some (f c m) ∙ sym (env-assigned t x e (sym v))

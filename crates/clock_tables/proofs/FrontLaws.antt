@@ -2,13 +2,13 @@
 -- Assumes nothing.
 use mathlib.Core.Path.{◌≡◌, ◌∙◌, sym, ap}
 use mathlib.Core.List.{List, [], ◌∷◌, ◌++◌}
-use Prim.Native.Nat.{ℕ, ◌+◌, ◌<◌}
+use Prim.Native.Nat.{ℕ, ◌+◌, ◌<◌, ◌≤◌}
 use native.Mathlib.Omega.{arith}
 use native.Mathlib.Numerals.{add-one}
 use lib.ListN.{length, get_or, set, drop, replicate, get_or-append}
 use lib.Seq.{drop-cons, set-append_seam}
 use Rattle.std.proofs.Common.{append_assoc}
-use Rattle.std.proofs.lemmas.List.{length-replicate, get_or-replicate, replicate-append-replicate}
+use Rattle.std.proofs.lemmas.List.{length-replicate, get_or-replicate, replicate-append-replicate, set-append_left}
 
 -- one item more
 pub front-more : {A : Type 0} (d xs : List A) (n : ℕ) (a : A) → n < length d → xs ≡ replicate n a ++ drop n d → set xs n a ≡ replicate (n + 1) a ++ drop (n + 1) d
@@ -19,6 +19,10 @@ front-more d xs n a h e =
     let seam : set (replicate n a ++ (get_or d n a ∷ t)) n a ≡ replicate n a ++ (a ∷ t) =
     ap (λ k. set (replicate n a ++ (get_or d n a ∷ t)) k a) (sym (length-replicate n a)) ∙ set-append_seam (replicate n a) (get_or d n a) t a in
     ap (λ u. set u n a) whole ∙ (seam ∙ (sym (append_assoc (replicate n a) (a ∷ []) t) ∙ ap (λ u. u ++ t) (replicate-append-replicate n 1 a)))
+
+-- one item more put into the front, with the rest behind it
+pub front-put : {A : Type 0} (d xs : List A) (n i : ℕ) (a : A) → n ≤ length d → length xs ≡ n → i < n → xs ++ drop n d ≡ replicate i a ++ drop i d → set xs i a ++ drop n d ≡ replicate (i + 1) a ++ drop (i + 1) d
+front-put d xs n i a h e k q = sym (set-append_left xs (drop n d) i a (omega (arith, e, k))) ∙ front-more d (xs ++ drop n d) i a (omega (arith, h, k)) q
 
 -- each of the first
 pub front-filled : {A : Type 0} (d xs : List A) (n i : ℕ) (a e : A) → xs ≡ replicate n a ++ drop n d → i < n → get_or xs i e ≡ a

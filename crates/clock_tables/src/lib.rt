@@ -105,10 +105,7 @@ impl Clock {
     pub fn ends_in(self, k: Condition) -> bool
         ensures { result ≡ ends_in k (value_of self) }
     {
-        let Some(&last) = self.conditions().last() else {
-            return false;
-        };
-        k == last
+        self.conditions().last().is_some_and(|last| k == *last)
     }
 }
 
@@ -130,6 +127,7 @@ impl Eq for Clock {
 // ---- A clock in seventeen words of a table: the number of its conditions and one more, two words a condition, then zeros.
 
 // The words that a clock takes.
+// Stays (fixed memory): words and no `Clock`s: the tables of a `Working` hold by turns clocks, findings, types and rows of a plan.
 pub const WORDS: usize = 17;
 
 // The word at i, 0 past the end.
@@ -150,15 +148,15 @@ pub fn put_at<T: Copy>(list: &mut [T], k: usize, item: T)
 }
 
 // The first n items are this one from now on, if there are so many.
-// Stays (proof): `fill` asks that no clone fails, and `T: Copy` has no law that its clone can't (`g.T.Clone.is_infallible` stayed open).
+// Stays (proof): no `fill`, which asks that no clone fails: `T: Copy` has no law of that (`g.T.Clone.is_infallible` stayed open).
 pub fn fill_front<T: Copy>(list: &mut [T], n: usize, item: T)
     ensures list_len_unchanged { length list.new ≡ length list.old }
     ensures filled { n ≤ length list.old → list.new ≡ replicate n item ++ drop n list.old }
     ensures short { length list.old < n → list.new ≡ list.old }
 {
     if n <= list.len() {
-        for i in 0..n {
-            list[i] = item;
+        for x in list[..n].iter_mut() {
+            *x = item;
         }
     }
 }
@@ -260,6 +258,7 @@ pub fn put_row(rows: &mut [u32], i: usize, c: Clock)
 }
 
 // ---- The clock of each name: seventeen words a name, the first 0 where it has none.
+// Stays (no plainer): bare words, as a `Working` lends them: rewriting keeps the clocks with a first-tick flag there, which are no names'.
 
 // Has a name a clock?
 pub fn is_assigned(table: &[u32], x: u32) -> bool
@@ -272,10 +271,7 @@ pub fn is_assigned(table: &[u32], x: u32) -> bool
 pub fn lookup(table: &[u32], x: u32) -> Option<Clock>
     ensures { option_of result ≡ env_at table.now x }
 {
-    if !is_assigned(table, x) {
-        return None;
-    }
-    Some(load(table, WORDS * x as usize))
+    is_assigned(table, x).then(|| load(table, WORDS * x as usize))
 }
 
 // A name is on this clock from now on, if the table has room for it.
@@ -296,6 +292,7 @@ pub fn clear(table: &mut [u32], m: u32)
 
 // Clocks in lent words, and how many; a count one past the rows says that there were more clocks than rows.
 // Stays (no plainer): who fills a table hands on its count alone, as `Counts` of a plan, and a flag beside it would say what it says.
+// Stays (fixed memory): words and no `Clock`s: the tables of a `Working` hold by turns clocks, findings, types and rows of a plan.
 #[derive(Clone, Copy)]
 pub struct ClockList<'a> {
     pub words: &'a [u32],

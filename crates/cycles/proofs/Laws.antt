@@ -19,11 +19,12 @@ use Rattle.std.proofs.lemmas.Bool.{true≢false, cases_Bool, cases_eq, cases_lt,
 use Rattle.definitions.specs.Lists.{choose, all, any, among, keep, join}
 use Rattle.definitions.specs.Tokens.{TagValue}
 use Rattle.definitions.specs.Tree.{Ty, Declared, Body, TypeDef}
-use Rattle.definitions.specs.Reading.{got, times}
-use Rattle.definitions.specs.Grammar.{name, ty, declaration}
+use Rattle.definitions.specs.Reading.{got}
+use Rattle.definitions.specs.Grammar.{ty, declaration}
 use Rattle.definitions.specs.Types.{target, targets, definition_of, goes_on, one_step, reached, reaches_itself, first_cycle}
-use Rattle.grammar.proofs.Laws.{times-length}
 use Rattle.layout.specs.declared.Defined.{Defined}
+use Rattle.layout.specs.declared.Span.{Span}
+use Rattle.layout.specs.Spans.{Spans}
 use Rattle.layout.specs.Table.{nowhere, def_at, name_at, is_named, first_of, FoundFirst, Named, Described}
 use Rattle.layout.proofs.TypedefsLaws.{find_none, find-some, place-true, place-before}
 use Rattle.layout.specs.declared.DeclarationLayout.{DeclarationLayout}
@@ -169,18 +170,6 @@ module _ (vs places : List ℕ) (n : ℕ) (types : List TypeDef) (t : Named vs p
       pick true false = refl
       pick false b = refl
 
-  -- the definitions of a name that is one's are added
-  pub name-added : (more : List Bool) → ((j : ℕ) → j < n → get_or more j false ≡ (get_or marks.set j false || eqb (get_or vs (get_or places j 0) 0) x)) → first_of types x < length types →
-      Marked types (record { set = more; own = marks.own }) (xs ++ (x ∷ []))
-  name-added more f h = record {
-    holds = record { says = λ j l. joined-name j (get_or more j false) (let k : j < n = omega (arith, t.count) in rw (← t.same j k) (f j k)) l };
-    own = m.own ∙ with-true (all (is_defined types) xs) ∙ all-more true (lt-ltb (first_of types x) (length types) h);
-  }
-    where
-      with-true : (a : Bool) → a ≡ (a && true)
-      with-true true = refl
-      with-true false = refl
-
   -- no definition has the name
   pub name-unknown : first_of types x ≡ length types → Marked types (record { set = marks.set; own = false }) (xs ++ (x ∷ []))
   name-unknown h = record {
@@ -226,9 +215,6 @@ module _ (t : Ty) where
 
 -- what holds of some names holds of those that a type ends in besides
 module _ (P : List ℕ → Type 0) (xs : List ℕ) (t : Ty) where
-  pub target-none : target t ≡ [] → P xs → P (xs ++ target t)
-  target-none e h = rw (e, append-nil xs) h
-
   pub target-one : (x : ℕ) → target t ≡ x ∷ [] → P (xs ++ (x ∷ [])) → P (xs ++ target t)
   target-one x e h = rw e h
 
@@ -264,20 +250,20 @@ module _ (types : List TypeDef) (M : ℕ) (ts : List TagValue) (marks : Targets)
 
 -- what a definition goes on to
 module _ (types : List TypeDef) (M : ℕ) (ts : List TagValue) (d : TypeDef) (q : ℕ) (D : Defined) (g : Described M ts d q D) where
-  pub targets-enum : (y c p : ℕ) → D ≡ Defined.Enum y c p → TargetsAre types (record { set = replicate 32 false; own = ltb 0 c }) (targets d.body) (own_body types d.body)
+  pub targets-enum : (y : ℕ) (s : Span) → D ≡ Defined.Enum y s → TargetsAre types (record { set = replicate 32 false; own = ltb 0 s.count }) (targets d.body) (own_body types d.body)
   unfolding Described targets own_body
-  targets-enum y c p e = let h = rw e at g in rw h.2 (go h.0 (times-length (name M) ts c p h.0 q h.1))
+  targets-enum y s e = let h = rw e at g in rw h.3 (go h.0 (sym h.1.many))
     where
-      go : (vs : List ℕ) → length vs ≡ c → TargetsAre types (record { set = replicate 32 false; own = ltb 0 c }) (targets (Body.enum vs)) (own_body types (Body.enum vs))
-      go [] i = record { holds = no-names types; own = le-ltb 0 c (omega arith) }
-      go (v ∷ vs) i = record { holds = no-names types; own = lt-ltb 0 c (omega arith) }
+      go : (vs : List ℕ) → length vs ≡ s.count → TargetsAre types (record { set = replicate 32 false; own = ltb 0 s.count }) (targets (Body.enum vs)) (own_body types (Body.enum vs))
+      go [] i = record { holds = no-names types; own = le-ltb 0 s.count (omega arith) }
+      go (v ∷ vs) i = record { holds = no-names types; own = lt-ltb 0 s.count (omega arith) }
 
   module _ (marks : Targets) where
-    pub targets-record : (y c p : ℕ) → D ≡ Defined.Record y c p →
-        ((fs : List Declared) (s : ℕ) → times c (declaration M) ts p ≡ got fs s → Marked types marks (join (map (λ f. target f.type) fs))) →
+    pub targets-record : (y : ℕ) (s : Span) → D ≡ Defined.Record y s →
+        ((fs : List Declared) → Spans (declaration M) ts fs s → Marked types marks (join (map (λ f. target f.type) fs))) →
         TargetsAre types marks (targets d.body) (own_body types d.body)
     unfolding Described targets own_body
-    targets-record y c p e f = let h = rw e at g in rw h.2 (f h.0 q h.1)
+    targets-record y s e f = let h = rw e at g in rw h.3 (f h.0 h.1)
 
     pub targets-alias : (y p : ℕ) → D ≡ Defined.Alias y p → ((t : Ty) (s : ℕ) → ty M 8 ts p ≡ got t s → Marked types marks (target t)) → TargetsAre types marks (targets d.body) (own_body types d.body)
     unfolding Described targets own_body

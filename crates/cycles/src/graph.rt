@@ -11,7 +11,7 @@ pub struct Targets {
 }
 
 // What the name of each of so many definitions goes on to.
-// Stays (fixed memory): how many there are is the sheet's, and the array is as long as there can be.
+// Stays (fixed memory): as long as there can be definitions; beside `PlaceTable`, since no method of either would be the other's.
 #[derive(Clone, Copy)]
 pub struct Graph {
     pub rows: [Targets; MOST_TYPES],

@@ -2,21 +2,22 @@
 // it is in the set.
 #![tactic(auto)]
 
-ghost use Rattle.std.specs.Prelude.{◌≡◌, ◌↔◌, IsTrue, List, [], ◌∷◌, ◌++◌, map, ◌||◌, ℕ, ◌<◌, eqb, length, get_or, true, false, MatchOption};
+ghost use Rattle.std.specs.Prelude.{◌≡◌, ◌↔◌, IsTrue, List, [], ◌∷◌, ◌++◌, map, ◌||◌, ℕ, ◌<◌, eqb, length, get_or, true, false, IfSome, MatchOption};
 ghost use Rattle.grammar.specs.Read.{tokens_of};
 ghost use Rattle.definitions.specs.Lists.{all, join};
 ghost use Rattle.definitions.specs.Tree.{Ty, Declared, TypeDef};
-ghost use Rattle.definitions.specs.Reading.{got, times};
+ghost use Rattle.definitions.specs.Reading.{got};
 ghost use Rattle.definitions.specs.Grammar.{ty, declaration, type_def};
 ghost use Rattle.definitions.specs.Types.{target, targets, goes_on, first_cycle};
-ghost use Rattle.layout.specs.Table.{Named, name_at};
-ghost use Rattle.cycles.specs.Defines.{Defines};
+ghost use Rattle.layout.specs.Spans.{Spans};
+ghost use Rattle.layout.specs.Table.{FoundFirst, name_at};
+ghost use Rattle.cycles.specs.Defines.{Defines, NamesTypes};
 ghost use Rattle.cycles.specs.Edges.{own_body, own_name, TargetsAre, Marked, Edges, IsCycle};
 
 use definitions::{ARRAY_LEVELS, MOST_TYPES, TypeToken};
 use grammar::Source;
 pub use graph::{Graph, Targets};
-use layout::{Defined, PlaceTable};
+use layout::{Defined, PlaceTable, Span};
 
 mod graph;
 
@@ -25,6 +26,24 @@ mod graph;
 pub struct TypeTable<'a, 'b> {
     pub source: Source<'a>,
     pub places: &'b PlaceTable<MOST_TYPES>,
+}
+
+impl TypeTable<'_, '_> {
+    // The number of the first definition of a name.
+    pub fn find(&self, x: u32) -> Option<usize>
+        ensures first { (types : List TypeDef) → NamesTypes self.now types → FoundFirst types x result }
+        ensures within { IfSome result (λ i. i < self.now.places.now.count) }
+    {
+        layout::find_definition(self.source.values, self.places, x)
+    }
+
+    // The name of definition i.
+    fn name(&self, i: usize) -> u32
+        requires { i < self.now.places.now.count }
+        ensures { result ≡ get_or self.now.source.values.now (get_or self.now.places.now.at i 0) 0 }
+    {
+        layout::value_at(self.source.values, self.places.at[i])
+    }
 }
 
 // The name that a type ends in, through its elements; none, where it ends in a primitive type.
@@ -49,18 +68,19 @@ fn with_name(table: &TypeTable<'_, '_>, set: &[bool; MOST_TYPES], x: u32) -> [bo
     ensures { (j : ℕ) → j < table.now.places.now.count → get_or result j false ≡ (get_or set.now j false || eqb (get_or table.now.source.values.now (get_or table.now.places.now.at j 0) 0) x) }
 {
     let mut more = *set;
-    for j in 0..table.places.count {
-        more[j] = set[j] || layout::value_at(table.source.values, table.places.at[j]) == x;
+    // Stays (proof): a place in both: behind a loop over `more.iter_mut().zip(places)` nothing was known of `more` (goal `returns`).
+    for (j, &place) in table.places.at[..table.places.count].iter().enumerate() {
+        more[j] = set[j] || layout::value_at(table.source.values, place) == x;
     }
     more
 }
 
 // Targets and one more name. Of a name that no definition has, or that is there already, the set stays.
 fn add_name(table: &TypeTable<'_, '_>, targets: Targets, x: u32) -> Targets
-    ensures { (types : List TypeDef) (xs : List ℕ) → Named table.now.source.values.now table.now.places.now.at table.now.places.now.count types → Marked types targets xs → Marked types result (xs ++ (x ∷ [])) }
+    ensures { (types : List TypeDef) (xs : List ℕ) → NamesTypes table.now types → Marked types targets xs → Marked types result (xs ++ (x ∷ [])) }
 {
     let set = targets.set;
-    let Some(first) = layout::find_definition(table.source.values, table.places, x) else {
+    let Some(first) = table.find(x) else {
         return Targets { set, own: false };
     };
     if set[first] {
@@ -74,7 +94,7 @@ fn add_name(table: &TypeTable<'_, '_>, targets: Targets, x: u32) -> Targets
 
 // Targets and the name that the type at a place ends in.
 fn add_type(table: &TypeTable<'_, '_>, targets: Targets, at: usize) -> Targets
-    ensures { (types : List TypeDef) (t : Ty) (q : ℕ) (xs : List ℕ) → Named table.now.source.values.now table.now.places.now.at table.now.places.now.count types → ty table.now.source.names 8 (tokens_of table.now.source) at ≡ got t q → Marked types targets xs → Marked types result (xs ++ target t) }
+    ensures { (types : List TypeDef) (t : Ty) (q : ℕ) (xs : List ℕ) → NamesTypes table.now types → ty table.now.source.names 8 (tokens_of table.now.source) at ≡ got t q → Marked types targets xs → Marked types result (xs ++ target t) }
 {
     match target_of(&table.source, ARRAY_LEVELS, at) {
         Some(x) => add_name(table, targets, x),
@@ -92,12 +112,12 @@ fn no_targets() -> Targets
     }
 }
 
-// The names that the types of so many fields end in.
-fn field_targets(table: &TypeTable<'_, '_>, count: u32, at: usize) -> Targets
-    ensures { (types : List TypeDef) (fs : List Declared) (q : ℕ) → Named table.now.source.values.now table.now.places.now.at table.now.places.now.count types → times count (declaration table.now.source.names) (tokens_of table.now.source) at ≡ got fs q → Marked types result (join (map (λ f. target f.type) fs)) }
+// The names that the types of a record's fields end in.
+fn field_targets(table: &TypeTable<'_, '_>, fields: Span) -> Targets
+    ensures { (types : List TypeDef) (fs : List Declared) → NamesTypes table.now types → Spans (declaration table.now.source.names) (tokens_of table.now.source) fs fields → Marked types result (join (map (λ f. target f.type) fs)) }
 {
     let mut targets = no_targets();
-    for field in layout::declarations_from(&table.source, count, at) {
+    for field in layout::declarations(&table.source, fields) {
         targets = add_type(table, targets, field.type_at);
     }
     targets
@@ -105,14 +125,14 @@ fn field_targets(table: &TypeTable<'_, '_>, count: u32, at: usize) -> Targets
 
 // What the definition at a place goes on to.
 fn definition_targets(table: &TypeTable<'_, '_>, at: usize) -> Targets
-    ensures { (types : List TypeDef) (d : TypeDef) (q : ℕ) → Named table.now.source.values.now table.now.places.now.at table.now.places.now.count types → type_def table.now.source.names (tokens_of table.now.source) at ≡ got d q → TargetsAre types result (targets d.body) (own_body types d.body) }
+    ensures { (types : List TypeDef) (d : TypeDef) (q : ℕ) → NamesTypes table.now types → type_def table.now.source.names (tokens_of table.now.source) at ≡ got d q → TargetsAre types result (targets d.body) (own_body types d.body) }
 {
     match layout::describe(&table.source, at) {
-        Some(Defined::Enum { count, .. }) => Targets {
+        Some(Defined::Enum { variants, .. }) => Targets {
             set: [false; MOST_TYPES],
-            own: 0 < count,
+            own: 0 < variants.count,
         },
-        Some(Defined::Record { count, first, .. }) => field_targets(table, count, first),
+        Some(Defined::Record { fields, .. }) => field_targets(table, fields),
         Some(Defined::Alias { target, .. }) => add_type(table, no_targets(), target),
         None => no_targets(),
     }
@@ -123,8 +143,8 @@ fn name_targets(table: &TypeTable<'_, '_>, i: usize) -> Targets
     requires { i < table.now.places.now.count }
     ensures { (types : List TypeDef) → Defines table.now types → TargetsAre types result (goes_on types (name_at types i)) (own_name types (name_at types i)) }
 {
-    let x = layout::value_at(table.source.values, table.places.at[i]);
-    match layout::find_definition(table.source.values, table.places, x) {
+    let x = table.name(i);
+    match table.find(x) {
         Some(first) => definition_targets(table, table.places.at[first]),
         None => Targets {
             set: [false; MOST_TYPES],
@@ -153,9 +173,7 @@ fn is_cycle(table: &TypeTable<'_, '_>, graph: &Graph, i: usize) -> bool
     requires { (i < table.now.places.now.count) × (i < graph.now.count) }
     ensures { (types : List TypeDef) → Defines table.now types → Edges types graph.now → IsTrue result ↔ IsCycle types i }
 {
-    let x = layout::value_at(table.source.values, table.places.at[i]);
-    layout::find_definition(table.source.values, table.places, x) == Some(i)
-        && graph.reaches_itself(i)
+    table.find(table.name(i)) == Some(i) && graph.reaches_itself(i)
 }
 
 // The first definition that reaches itself. One that is not the first of its name is passed over.

@@ -1,12 +1,15 @@
 -- A planned node written with its tables filled is the node of the output.
 -- Assumes nothing.
-use Prim.Native.Nat.{ℕ, ◌*◌, ◌≤◌, ◌<◌}
+use Prim.Native.Nat.{ℕ, ◌*◌, ◌≤◌, ◌<◌, min}
 use mathlib.Core.Path.{◌≡◌, refl, sym, ap, ap₂, ◌∙◌, subst}
 use mathlib.Core.Bool.{Bool, false}
+use mathlib.Core.Option.{none}
 use mathlib.Core.List.{List, []}
 use native.Mathlib.Omega.{arith}
 use lib.Dec.{eqb}
-use lib.ListN.{length, length-map}
+use lib.ListN.{length, take, length-map}
+use lib.Seq.{length-take-le}
+use denote.Ref.{Bor}
 use Rattle.definitions.specs.Lists.{Letters}
 use Rattle.grammar.specs.Read.{tokens_of}
 use Rattle.definitions.specs.Tokens.{TagValue}
@@ -35,6 +38,7 @@ use Rattle.emit.specs.Out.{emits}
 use Rattle.lines.proofs.Laws.{clocked-many}
 use Rattle.stateless.specs.Need.{Needs}
 use Rattle.stateless.specs.Yield.{Ids, old_yield}
+use Rattle.stateless.specs.Faults.{old_fault}
 use Rattle.stateless.specs.Whole.{no_needs, old_needs}
 use Rattle.stateless.specs.Locals.{ids_in, Agree}
 use Rattle.stateless.specs.Rewritten.{node_by}
@@ -51,6 +55,8 @@ use Rattle.new_names.proofs.Named.{named_none, named-old}
 use Rattle.new_names.proofs.Many.{too_many}
 use Rattle.new_names.proofs.Written.{output-standing}
 use Rattle.planned.specs.Writes.{Writer}
+use Rattle.planned.specs.Held.{HeldFrom}
+use Rattle.planned.specs.declared.HeldOperand.{HeldOperand}
 use Rattle.plan.specs.Planned.{Whole}
 use Rattle.new_names.specs.declared.node_names.NodeNames.{NodeNames}
 use Rattle.new_names.specs.Filled.{FlagsNamed, Filled, FilledAt, FilledOrNot}
@@ -62,6 +68,8 @@ use Rattle.declock.specs.Ready as ready
 use Rattle.declock.specs.Ready.{NodeReady, needs_in, yield_in}
 use Rattle.declock.specs.Planned.{node_needs, names_with, writer_of, ids_by, PlannedNode, NamesAhead}
 use Rattle.declock.proofs.Alike.{planned-alike}
+use Rattle.declock.proofs.Laws.{holds-made}
+use Rattle.planned.proofs.HoldsLaws.{holds-cut}
 
 -- a node of an accepted sheet has at most 64 equations
 equations-few : (M : ℕ) (ts : List TagValue) (p : ℕ) (n : Node) (q : ℕ) → node M ts p ≡ got n q → length n.equations ≤ 64
@@ -83,12 +91,13 @@ index_before r k =
     let t = r.written.index.now in
     record { source = t.source; condact = k; whole = t.whole; nodes = t.nodes; types = t.types; has = t.has }
 
-abbrev pub plan_in : ReadyNode → ℕ → Bool → NodePlan
-plan_in r many gated =
-    record { layout = r.layout; needs = record { flags = r.flags.clocks; firsts = r.firsts.clocks; holds = many; condact = gated }; plan = r.written.plan; holds = r.written.holds; types = r.written.types }
+abbrev pub plan_in : ReadyNode → ℕ → Bool → Bor (List HeldOperand) → NodePlan
+plan_in r many gated table =
+    record { layout = r.layout; needs = record { flags = r.flags.clocks; firsts = r.firsts.clocks; holds = many; condact = gated }; plan = r.written.plan; holds = table; types = r.written.types }
 
-module _ (spelling : Spelling) (r : ReadyNode) (k : ℕ) {many : ℕ} {gated : Bool} {names : List Letters} {sheet : Sheet} {n : ClockedNode} (h : PlannedNode spelling (index_before r k) (plan_in r many gated) names sheet n)
-    (f : Filled names n.node (node_needs names sheet n) (plan_in r many gated).needs r.names.now)
+module _ (spelling : Spelling) (r : ReadyNode) (k : ℕ) {many : ℕ} {gated : Bool} {table : Bor (List HeldOperand)} {names : List Letters} {sheet : Sheet} {n : ClockedNode} (h : PlannedNode spelling (index_before r k) (plan_in r many gated table) names sheet n)
+    (f : Filled names n.node (node_needs names sheet n) (plan_in r many gated table).needs r.names.now)
+    {long : ℕ} (cut : r.written.holds.now ≡ take long table.now) (least : long ≡ min r.names.now.holds (length table.now))
     (f-flags : FlagsNamed names n.node ck r.flags.clocks.words.now r.flags.names.now (node_needs names sheet n).flags) (f-firsts : FlagsNamed names n.node first r.firsts.clocks.words.now r.firsts.names.now (node_needs names sheet n).firsts)
     {o : NameTable 1024 16384} {before all : List Letters} (held : NamesHeld o (names_with names before sheet n)) (kept : o.full ≡ false) (ahead : NamesAhead names before sheet n all)
     (same-flags : r.flags.ids.now ≡ r.written.flag_ids.now) (same-firsts : r.firsts.ids.now ≡ r.written.first_ids.now)
@@ -130,7 +139,14 @@ module _ (spelling : Spelling) (r : ReadyNode) (k : ℕ) {many : ℕ} {gated : B
   few-holds : w.holds ≤ 1024
   few-holds = omega (arith, f.counted.held, f.few.holds)
 
-  whole : Whole (length r.flags.clocks.words.now) (length r.firsts.clocks.words.now) (length r.written.holds.now) w
+  -- as many holds are lent as are needed
+  lent-many : long ≡ w.holds
+  lent-many = omega (arith, least, h.hold-room, f.held, few-holds)
+
+  lent-length : length r.written.holds.now ≡ w.holds
+  lent-length = ap length cut ∙ (length-take-le long table.now (omega (arith, lent-many, h.hold-room, few-holds)) ∙ lent-many)
+
+  whole : Whole (length r.flags.clocks.words.now) (length r.firsts.clocks.words.now) (length table.now) w
   whole =
       record {
         flags-fit = omega (arith, many-flags, flags-fit);
@@ -157,6 +173,19 @@ module _ (spelling : Spelling) (r : ReadyNode) (k : ℕ) {many : ℕ} {gated : B
   abbrev writer : Writer
   writer = writer_of sheet n K r.flags.ids.now r.firsts.ids.now r.written.hold_ids.now
 
+  faultless : old_fault sheet.types sheet.nodes n.node K 0 n.clocking.equations ≡ none
+  faultless = sym (same-fault sheet.types sheet.nodes n.node (length names) (condact_id names) K alike 0 n.clocking.equations (shaped h)) ∙ h.going
+
+  -- the holds that are lent are planned
+  held-lent : HeldFrom r.written.index.now.source.names r.written.index.now.source.tags.now r.written.index.now.source.values.now writer r.written.plan.now r.written.holds.now 0 (old_yield sheet.types sheet.nodes n.node ids 0 n.clocking.equations).holds
+  held-lent =
+      let S = r.written.index.now.source in
+      let made : length (old_yield sheet.types sheet.nodes n.node ids 0 n.clocking.equations).holds ≡ w.holds =
+      subst (λ (v : Needs). length (old_yield sheet.types sheet.nodes n.node (ids_by v r.flags.ids.now r.firsts.ids.now r.written.hold_ids.now K) 0 n.clocking.equations).holds ≡ v.holds) (sym needs-same)
+      (holds-made sheet.types sheet.nodes n.node K n.clocking.equations faultless r.flags.ids.now r.firsts.ids.now r.written.hold_ids.now).0 in
+      subst (λ (l : List HeldOperand). HeldFrom S.names S.tags.now S.values.now writer r.written.plan.now l 0 (old_yield sheet.types sheet.nodes n.node ids 0 n.clocking.equations).holds) (sym cut)
+      (holds-cut S.names S.tags.now S.values.now writer r.written.plan.now table.now long 0 _ (omega (arith, made, lent-many)) (h.held K r.flags.ids.now r.firsts.ids.now r.written.hold_ids.now whole))
+
   -- it can be written
   pub is-ready : NodeReady names r
   is-ready =
@@ -166,7 +195,7 @@ module _ (spelling : Spelling) (r : ReadyNode) (k : ℕ) {many : ℕ} {gated : B
         grounds = record { stands = record { standing = h.standing; table = h.table; condact = refl; flags = same-flags; firsts = same-firsts; holds = refl }; end = h.end; laid = h.laid; declares = h.declares };
         equations = n.clocking.equations;
         many = sym (length-map n.clocking.equations (λ (e : Clocked). e.clock)) ∙ (clocked-many n.clocking.names n.node.equations n.clocking.equations (clocked n.node n.clocking h.forms) ∙ sym h.laid.equations.many);
-        faultless = sym (same-fault sheet.types sheet.nodes n.node (length names) (condact_id names) K alike 0 n.clocking.equations (shaped h)) ∙ h.going;
+        faultless = faultless;
         few-declared = declared-few S.names (tokens_of S) h.place n.node h.end h.read;
         few-equations = equations-few S.names (tokens_of S) h.place n.node h.end h.read;
         flags =
@@ -178,7 +207,8 @@ module _ (spelling : Spelling) (r : ReadyNode) (k : ℕ) {many : ℕ} {gated : B
         held-many = f.held ∙ ap (λ (v : Needs). v.holds) needs-same;
         few-holds = omega (arith, f.held, few-holds);
         planned = rw (← same-ids) (planned-alike S.names S.tags.now S.values.now writer r.written.plan.now (length names) (condact_id names) K alike ids n.clocking.equations 0 _ _ (shaped h) (h.planned K r.flags.ids.now r.firsts.ids.now r.written.hold_ids.now whole));
-        held = rw (← same-ids) (h.held K r.flags.ids.now r.firsts.ids.now r.written.hold_ids.now whole);
+        held-length = lent-length ∙ sym f.held;
+        held = rw (← same-ids) held-lent;
       }
 
   agree : Agree w.flags w.firsts w.holds (new_id names sofar n.node) K ids

@@ -3,13 +3,13 @@
 use mathlib.Core.Path.{◌≡◌, refl, sym, ◌∙◌, ap}
 use mathlib.Core.List.{List, [], ◌∷◌, ◌++◌, map, append-nil}
 use mathlib.Core.Bool.{Bool, true, false}
-use Prim.Native.Nat.{ℕ, suc, ◌+◌, ◌-◌, ◌*◌, ◌≤◌, ◌<◌}
+use Prim.Native.Nat.{ℕ, suc, ◌+◌, ◌-◌, ◌≤◌, ◌<◌}
 use native.Mathlib.Omega.{arith}
 use lib.ListN.{length, get_or, take}
 use lib.Seq.{get_or-take}
-use Rattle.std.specs.Prelude.{Some, None}
+use Rattle.std.specs.Prelude.{None}
 use Rattle.std.specs.List.{slice_get}
-use Rattle.std.proofs.lemmas.Option.{none-some, slice_get-get_or, slice_get_within, get_or_from_slice_get}
+use Rattle.std.proofs.lemmas.Option.{none-some, slice_get-get_or}
 use Rattle.definitions.specs.declared.BinOp.{BinOp}
 use Rattle.definitions.specs.declared.Condition.{Condition}
 use Rattle.definitions.specs.declared.ExprToken.{ExprToken}
@@ -22,10 +22,9 @@ use Rattle.definitions.specs.declared.UnaryOp.{UnaryOp}
 use Rattle.definitions.specs.Lists.{choose, join}
 use Rattle.definitions.specs.Tree.{Ty, Expr}
 use Rattle.definitions.specs.Clock.{Clock, ◌↓◌, parent, is_base}
-use Rattle.definitions.specs.Declock.{clock_place, and_of, condition_expr}
+use Rattle.definitions.specs.Declock.{and_of, condition_expr}
 use Rattle.definitions.specs.Output.{ty_tokens, declared_tokens, expr_tokens, form_tokens, equation_tokens}
 use Rattle.clock_tables.specs.Value.{clock_at}
-use Rattle.clock_tables.proofs.ClockLaws.{last-at}
 use Rattle.chain_order.specs.Order.{row_of, picked}
 use Rattle.stateless.specs.Yield.{Ids}
 use Rattle.stateless.specs.Locals.{activation_by, first_tick_by, flag_locals, first_locals, local_declared, local_equation}
@@ -34,11 +33,7 @@ use Rattle.emit.specs.Out.{emits}
 use Rattle.emit.proofs.Laws.{emits-append, emits_none}
 use Rattle.emit.proofs.NodePartsLaws.{after}
 use Rattle.declock.specs.declared.Flags.{Flags}
-use Rattle.declock.specs.Tabled.{FlagIds, flagged_clocks}
-
--- the id at a clock's place
-pub id-found : (f : Flags) (id : Clock → ℕ) (c : Clock) (x : ℕ) → FlagIds f id → (17 * f.clocks.count ≤ length f.clocks.words.now → x ≡ get_or f.ids.now (clock_place c (flagged_clocks f)) 0) → x ≡ id c
-id-found f id c x t h = h t.room ∙ sym (t.stands c)
+use Rattle.declock.specs.Tabled.{FlagIds}
 
 -- the id in a row of the order
 pub id-here : (f : Flags) (id : Clock → ℕ) (lent : List ℕ) (i x : ℕ) → FlagIds f id → lent ≡ take f.names.now.ordered f.names.now.order → i < f.names.now.ordered → x ≡ get_or f.ids.now (get_or lent i 0) 0
@@ -92,12 +87,6 @@ module _ (i : Ids) (o o₁ : Output) (c : Clock) where
       after o o₁ o₂ _ _ (e ∙ ap (λ (d : Clock). emits o (parent_tokens i.flag (parent d))) q) f
       ∙ (ap (emits o) (activation-tokens p k) ∙ ap (λ (d : Clock). emits o (expr_tokens (activation_by i d))) (sym q))
 
--- a clock is its last condition over the others
-pub last-over : (ks : List Condition) (k : Condition) (c : Clock) → Some k ≡ slice_get ks (length ks - 1) → clock_at ks (length ks) ≡ c → c ≡ clock_at ks (length ks - 1) ↓ k
-last-over ks k c e q =
-    let within : length ks - 1 < length ks = slice_get_within ks (length ks - 1) k (sym e) in
-    sym q ∙ (last-at ks (length ks) (λ z. omega (arith, within)) ∙ ap (λ (l : Condition). clock_at ks (length ks - 1) ↓ l) (get_or_from_slice_get ks (length ks - 1) k _ (sym e)))
-
 -- ---- the first tick of a clock
 pub first-tick : (i : Ids) (c : Clock) (x y : ℕ) (o o₁ : Output) → x ≡ i.first c → y ≡ i.flag c
     → o₁ ≡ emits o (Token.Expression ExprToken.Arrow ∷ Token.Expression (ExprToken.Const (Literal.Bool 1)) ∷ Token.Expression (ExprToken.Binary BinOp.And) ∷ Token.Expression ExprToken.Pre ∷ variable x
@@ -127,9 +116,6 @@ module _ (f : ℕ → Clock) (chain : List ℕ) (T : List Clock → List Token) 
 -- the clock in a row that is lent
 pub row-here : (f : ℕ → Clock) (chain lent : List ℕ) (m i : ℕ) (c : Clock) → lent ≡ take m chain → i < m → c ≡ f (get_or lent i 0) → c ≡ f (get_or chain i 0)
 row-here f chain lent m i c e u q = q ∙ ap f (ap (λ (l : List ℕ). get_or l i 0) e ∙ get_or-take m chain i 0 u)
-
-pub rows_start : (f : ℕ → Clock) (chain : List ℕ) (T : List Clock → List Token) (m : ℕ) (o : Output) → Left f chain T m (emits o (T (picked f chain 0 m))) o 0
-rows_start f chain T m o = let n : m - 0 ≡ m = omega arith in rw n
 
 -- ---- declarations
 -- a flag's declaration

@@ -35,6 +35,10 @@ rows-own : {names : List Letters} (f : Flags) {clocks : List Clock} → FlagsRea
     → clock_place (row_of f.clocks.words.now (get_or f.names.now.order i 0)) (flagged_clocks f) ≡ get_or f.names.now.order i 0
 rows-own f h i u = ap (clock_place (row_of f.clocks.words.now (get_or f.names.now.order i 0))) h.flagged ∙ h.order.own i u
 
+-- there is a place for each row in the order
+rows-few : {names : List Letters} (f : Flags) {clocks : List Clock} → FlagsReady names f clocks → f.names.now.ordered ≤ 1024
+rows-few {names} f {clocks} h = omega (arith, (ordered-count (letters_of names) (row_of f.clocks.words.now) f.names.now.order f.names.now.ordered clocks h.order.sorted).1, h.few)
+
 module _ (names : List Letters) {t : ReadyNode} (h : NodeReady names t) (ids : Ids) (q : ids ≡ ids_of t) where
   abbrev node : Node
   node = h.writer.node
@@ -53,10 +57,10 @@ module _ (names : List Letters) {t : ReadyNode} (h : NodeReady names t) (ids : I
   firstly = in_chain_order (letters_of names) w.firsts
 
   pub flags-tabled : FlagIds t.flags ids.flag
-  flags-tabled = record { room = h.flags.fit; stands = λ c. ap (λ (i : Ids). i.flag c) q; own = rows-own t.flags h.flags }
+  flags-tabled = record { room = h.flags.fit; few = rows-few t.flags h.flags; stands = λ c. ap (λ (i : Ids). i.flag c) q; own = rows-own t.flags h.flags }
 
   pub firsts-tabled : FlagIds t.firsts ids.first
-  firsts-tabled = record { room = h.firsts.fit; stands = λ c. ap (λ (i : Ids). i.first c) q; own = rows-own t.firsts h.firsts }
+  firsts-tabled = record { room = h.firsts.fit; few = rows-few t.firsts h.firsts; stands = λ c. ap (λ (i : Ids). i.first c) q; own = rows-own t.firsts h.firsts }
 
   -- as many holds as are needed
   made : (length y.holds ≡ w.holds) × (y.after ≡ w.holds)
@@ -89,7 +93,7 @@ module _ (names : List Letters) {t : ReadyNode} (h : NodeReady names t) (ids : I
   counts =
       let a = ordered-count (letters_of names) (row_of t.flags.clocks.words.now) t.flags.names.now.order t.flags.names.now.ordered w.flags h.flags.order.sorted in
       let b = ordered-count (letters_of names) (row_of t.firsts.clocks.words.now) t.firsts.names.now.order t.firsts.names.now.ordered w.firsts h.firsts.order.sorted in
-      (a.0, b.0, made.0 ∙ sym h.held-many, omega (arith, a.1, h.flags.few), omega (arith, b.1, h.firsts.few), h.few-holds)
+      (a.0, b.0, made.0 ∙ sym h.held-many, rows-few t.flags h.flags, rows-few t.firsts h.firsts, h.few-holds)
 
   abbrev new : List Local
   new = locals_by names ids w y.holds
@@ -99,16 +103,16 @@ module _ (names : List Letters) {t : ReadyNode} (h : NodeReady names t) (ids : I
 
   -- the answer of a count with so many more
   abbrev Counts : ℕ → ℕ → Type 0
-  Counts more r = more ≤ 1024 → r ≡ t.flags.names.now.ordered + (t.firsts.names.now.ordered + t.names.now.holds) + more
+  Counts more r = t.flags.names.now.ordered ≤ 1024 → t.firsts.names.now.ordered ≤ 1024 → t.names.now.holds ≤ 1024 → more ≤ 1024 → r ≡ t.flags.names.now.ordered + (t.firsts.names.now.ordered + t.names.now.holds) + more
 
   counted : (more r : ℕ) → more ≤ 1024 → Counts more r → r ≡ length new + more
-  counted more r u f = f u ∙ ap (λ (x : ℕ). x + more) (sym new-many)
+  counted more r u f = f counts.3 counts.4 counts.5 u ∙ ap (λ (x : ℕ). x + more) (sym new-many)
 
   few-locals : length node.locals ≤ 128
   few-locals = omega (arith, h.few-declared, length-append node.inputs (node.outputs ++ node.locals), length-append node.outputs node.locals)
 
-  pub holds-many : length y.holds ≡ t.names.now.holds
-  holds-many = counts.2
+  pub holds-many : length y.holds ≡ length t.written.holds.now
+  holds-many = counts.2 ∙ sym h.held-length
 
   -- the front
   pub ready-front : (o : Output) {o₁ o₂ o₃ o₄ o₅ : Output} {more : ℕ} → Counts 0 more

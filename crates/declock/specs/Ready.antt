@@ -46,6 +46,7 @@ pub record NodeReady (names : List Letters) (t : ReadyNode) : Type 0 where
   pub firsts : FlagsReady names t.firsts (old_needs writer.types writer.nodes writer.node t.written.index.now.condact equations no_needs).firsts
   pub held-many : t.names.now.holds ≡ (old_needs writer.types writer.nodes writer.node t.written.index.now.condact equations no_needs).holds
   pub few-holds : t.names.now.holds ≤ 1024
+  pub held-length : length t.written.holds.now ≡ t.names.now.holds
   pub planned : EquationsPlanned t.written.index.now.source.names t.written.index.now.source.tags.now t.written.index.now.source.values.now writer t.written.plan.now writer.condact (ids_of t) 0 equations t.layout.equations.at t.layout.equations.end
   pub held : HeldFrom t.written.index.now.source.names t.written.index.now.source.tags.now t.written.index.now.source.values.now writer t.written.plan.now t.written.holds.now 0 (old_yield writer.types writer.nodes writer.node (ids_of t) 0 equations).holds
 

@@ -13,8 +13,9 @@ flagged_clocks f = clocks_in f.clocks.words.now f.clocks.count
 abbrev pub ordered_clocks : Flags → List Clock
 ordered_clocks f = picked (row_of f.clocks.words.now) f.names.now.order 0 f.names.now.ordered
 
--- the id of a clock's flag stands at the clock's place, and that of a row in the order in the row
+-- the id of a clock's flag stands at the clock's place, and that of a row in the order in the row; the order has a place for each row
 pub record FlagIds (f : Flags) (id : Clock → ℕ) : Type 0 where
   pub room : 17 * f.clocks.count ≤ length f.clocks.words.now
+  pub few : f.names.now.ordered ≤ 1024
   pub stands : (c : Clock) → id c ≡ get_or f.ids.now (clock_place c (flagged_clocks f)) 0
   pub own : (i : ℕ) → i < f.names.now.ordered → clock_place (row_of f.clocks.words.now (get_or f.names.now.order i 0)) (flagged_clocks f) ≡ get_or f.names.now.order i 0

@@ -30,7 +30,7 @@ use index::Index;
 use layout::NodeLayout;
 use new_names::{FlagNames, NewIds, NodeNames, NodeNeeds};
 use planned::{HeldOperand, WriteInput};
-use spelling::{OutputNames, Spelling};
+use spelling::{NamedSource, OutputNames, Spelling};
 
 // ---- The flags of clocks: their declarations and equations written into the output's arrays.
 
@@ -99,10 +99,7 @@ fn put_condition(output: &mut Output, k: Condition)
     let x = k.name;
     match k.test {
         Test::On => output.emit(Token::Expression(ExprToken::Var(x))),
-        Test::Not => output.emit_all(&[
-            Token::Expression(ExprToken::Unary(UnaryOp::Not)),
-            Token::Expression(ExprToken::Var(x)),
-        ]),
+        Test::Not => planned::put_named(output, ExprToken::Unary(UnaryOp::Not), x),
     }
 }
 
@@ -115,10 +112,7 @@ fn put_parent(output: &mut Output, flags: &Flags<'_>, c: Clock)
         return;
     }
     let x = flags.id(parent);
-    output.emit_all(&[
-        Token::Expression(ExprToken::Binary(BinOp::And)),
-        Token::Expression(ExprToken::Var(x)),
-    ]);
+    planned::put_named(output, ExprToken::Binary(BinOp::And), x);
 }
 
 // When a clock is on: its condition, and its parent's flag; base always is.
@@ -185,11 +179,11 @@ pub struct ReadyNode<'a> {
 
 // How many new locals a node has, and so many more.
 fn count_of(node: &ReadyNode<'_>, more: u32) -> u32
-    ensures { more ≤ 1024 → result ≡ node.now.flags.names.now.ordered + (node.now.firsts.names.now.ordered + node.now.names.now.holds) + more }
+    ensures { node.now.flags.names.now.ordered ≤ 1024 → node.now.firsts.names.now.ordered ≤ 1024 → node.now.names.now.holds ≤ 1024 → more ≤ 1024 → result ≡ node.now.flags.names.now.ordered + (node.now.firsts.names.now.ordered + node.now.names.now.holds) + more }
 {
-    let flags = node.flags.names.ordered;
-    let firsts = node.firsts.names.ordered;
-    let new = flags + firsts + node.names.holds;
+    let flags = node.flags.names.order().len();
+    let firsts = node.firsts.names.order().len();
+    let new = flags + firsts + node.names.held().len();
     (new as u32).saturating_add(more)
 }
 
@@ -203,7 +197,7 @@ fn put_declared(node: &ReadyNode<'_>, output: &mut Output)
     emit::put_locals(output, source, node.layout, more);
     put_declarations(output, &node.flags);
     put_declarations(output, &node.firsts);
-    planned::put_hold_declarations(&node.written, node.names.holds, output);
+    planned::put_hold_declarations(&node.written, output);
 }
 
 // The equations of the new locals, then the old ones.
@@ -215,7 +209,7 @@ fn put_body(node: &ReadyNode<'_>, output: &mut Output)
     output.emit(Token::Count(all));
     put_flag_equations(output, &node.flags);
     put_first_equations(output, &node.firsts, &node.flags);
-    planned::put_hold_equations(&node.written, node.names.holds, output);
+    planned::put_hold_equations(&node.written, output);
     planned::old_equations(&node.written, old, output);
 }
 
@@ -229,6 +223,13 @@ fn declock_node(node: &ReadyNode<'_>, output: &mut Output)
 }
 
 // ---- The output's names and tokens, node by node, of an accepted sheet.
+
+// A sheet's index, and the letters of its names.
+#[derive(Clone, Copy)]
+pub struct NamedIndex<'a> {
+    pub spelling: Spelling<'a>,
+    pub index: &'a Index<'a>,
+}
 
 // What planning a node left: what it needs, what becomes of its tokens, where its holds stand, and the declared types of its names.
 #[derive(Clone, Copy)]
@@ -264,6 +265,7 @@ fn put_filled(
         condact: 0,
     };
     names.put_ids(&node.needs, table, &mut ids);
+    let held = names.holds.min(node.holds.len());
     let index = Index {
         condact: ids.condact,
         ..*index
@@ -275,7 +277,7 @@ fn put_filled(
         flag_ids: &ids.flags,
         first_ids: &ids.firsts,
         hold_ids: &ids.holds,
-        holds: node.holds,
+        holds: &node.holds[..held],
         types: node.types,
     };
     let ready = ReadyNode {
@@ -297,17 +299,17 @@ fn put_filled(
 }
 
 // A planned node: its new names behind those so far, then its tokens. Where the names are too many no token is written.
-pub fn write_planned(
-    spelling: Spelling<'_>,
-    index: &Index<'_>,
-    node: &NodePlan<'_>,
-    sheet: &mut OutputSheet,
-)
-    ensures names_held { (names before : List Letters) (source : Sheet) (n : ClockedNode) → PlannedNode spelling.entry index.now node.now names source n → NamesHeld sheet.old.names before → NamesHeld sheet.new.names (names_with names before source n) }
-    ensures next_after { (names before all : List Letters) (source : Sheet) (n : ClockedNode) → PlannedNode spelling.entry index.now node.now names source n → NamesHeld sheet.old.names before → NamesAhead names before source n all → sheet.new.names.full ≡ false → sheet.new.tokens ≡ emits sheet.old.tokens (node_tokens (output_node names source all n)) }
+pub fn write_planned(named: NamedIndex<'_>, node: &NodePlan<'_>, sheet: &mut OutputSheet)
+    ensures names_held { (names before : List Letters) (source : Sheet) (n : ClockedNode) → PlannedNode named.entry.spelling named.entry.index.now node.now names source n → NamesHeld sheet.old.names before → NamesHeld sheet.new.names (names_with names before source n) }
+    ensures next_after { (names before all : List Letters) (source : Sheet) (n : ClockedNode) → PlannedNode named.entry.spelling named.entry.index.now node.now names source n → NamesHeld sheet.old.names before → NamesAhead names before source n all → sheet.new.names.full ≡ false → sheet.new.tokens ≡ emits sheet.old.tokens (node_tokens (output_node names source all n)) }
 {
+    let index = named.index;
+    let source = NamedSource {
+        spelling: named.spelling,
+        source: index.source,
+    };
     let mut names = NodeNames::none();
-    match names.fill(spelling, &index.source, node.layout, &node.needs) {
+    match names.fill(source, node.layout, &node.needs) {
         Err(_) => new_names::mark_full(&mut sheet.names),
         Ok(()) => {
             names.add_to(&mut sheet.names);

@@ -24,7 +24,7 @@ use Rattle.definitions.specs.Output.{condact_id, ClockedNode, node_faults, with_
 use Rattle.definitions.specs.Answer.{Input, clockings}
 use Rattle.shapes.proofs.Facts.{Goes}
 use Rattle.shapes.proofs.Source.{read-facts}
-use Rattle.shapes.proofs.Clockless.{clockless, output-as-came}
+use Rattle.shapes.proofs.Clockless.{output-as-came}
 use Rattle.shapes.proofs.Names.{goes-output}
 use Rattle.spelling.specs.declared.names.Spelling.{Spelling}
 use Rattle.spelling.specs.declared.name_table.NameTable.{NameTable}
@@ -57,10 +57,6 @@ use Rattle.first_faults.proofs.Laws.{as_many}
 use Rattle.declock.specs.declared.NodePlan.{NodePlan}
 use Rattle.declock.specs.Planned.{node_needs, names_with, PlannedNode, NamesAhead}
 use Rattle.declock_project.specs.Walk.{PlannedIn, LeftIn, SitedIn, Faultless, CleanNode, CleanClocked, NodePut, LaidPut, AllPut}
-
--- ---- a node that uses no clocks
-pub not-deep : (n : Node) (b : Bool) → b ≡ uses_clocks n → b ≡ false → false ≡ is_deep (clocking n)
-not-deep n b e f = sym (ap is_deep (clockless n (sym e ∙ f)).1.clocks)
 
 -- ---- a node that uses clocks
 module _ {spelling : Spelling} {t : Index} {r : Input} {n : ClockedNode} {p : NodePlan} (h : Indexed t r) (u : CleanClocked spelling t r n p.layout)

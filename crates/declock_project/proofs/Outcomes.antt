@@ -1,5 +1,5 @@
 -- What rewriting a sheet answers, by what the working tables say: one law for each outcome, in checking order.
-use Prim.Native.Nat.{ℕ, suc, ◌≤◌, ◌<◌}
+use Prim.Native.Nat.{ℕ, min, ◌≤◌, ◌<◌}
 use mathlib.Core.Path.{◌≡◌, refl, sym, ap, ap₂, ◌∙◌, subst}
 use mathlib.Core.List.{List, [], ◌∷◌, map}
 use mathlib.Core.Bool.{Bool, true, false, ◌&&◌, not}
@@ -23,12 +23,13 @@ use Rattle.spelling.specs.Table.{names_of, NamesHeld}
 use Rattle.spelling.proofs.Table.{holds-limits}
 use Rattle.emit.specs.declared.output.Output.{Output}
 use Rattle.emit.specs.Out.{emits}
-use Rattle.emit.proofs.Laws.{emits-long, emits-whole}
+use Rattle.emit.proofs.Laws.{emits-long, emits-few, emits-whole}
 use Rattle.stateless.specs.Sheets.{first_faults_from}
 use Rattle.stateless.proofs.Nodes.{many-tokens}
 use Rattle.stateless.proofs.Answers.{all_names, out_sheet, rewrite-deep, rewrite-faulty, rewrite-large, rewrite-lent, rewrite-accepted}
 use Rattle.query.specs.declared.fault_list.FaultList.{FaultList}
 use Rattle.first_faults.specs.Faults.{Recorded}
+use Rattle.first_faults.proofs.Records.{over-long}
 use Rattle.parts.specs.Bytes.{written_answer, written_bytes}
 use Rattle.declock_project.specs.Walk.{Faultless, Walks}
 use Rattle.declock_project.specs.Given.{RewriteGiven, Read}
@@ -67,11 +68,6 @@ unfolding Walks
 none_deep r lent l u h = h
 
 -- the list is as long as it was
-over-long : (l lent : List FaultRecord) → length (over l lent) ≡ length lent
-over-long [] lent = refl
-over-long (f ∷ l) [] = refl
-over-long (f ∷ l) (g ∷ lent) = ap suc (over-long l lent)
-
 pub recorded-long : {lent fs now : List FaultRecord} {m : ℕ} → Recorded lent fs m now → length now ≡ length lent
 recorded-long {lent} {fs} h = ap length h.written ∙ over-long fs lent
 
@@ -120,23 +116,26 @@ module _ (bytes : List ℕ) (r : Input) (reading : input bytes ≡ accepted r) (
           whole : (made.count ≡ length (sheet_tokens (out_sheet r ns))) × (tokens (take made.count made.tags) (take made.count made.values) ≡ map code_of (sheet_tokens (out_sheet r ns)))
           whole = emits-whole none made (sheet_tokens (out_sheet r ns)) empty vacant emitted tags values fits
 
+          few : length (sheet_tokens (out_sheet r ns)) ≤ 8192
+          few = emits-few none made (sheet_tokens (out_sheet r ns)) empty vacant emitted fits
+
           within : within_limits (all_names r ns) (out_sheet r ns) ≡ true
           within =
               holds-limits (out_sheet r ns) holds
-              ∙ ap₂ (λ (b t : Bool). not b && t) free (le-leb (length (sheet_tokens (out_sheet r ns))) 8192 (omega (arith, whole.0, made.within)))
+              ∙ ap₂ (λ (b t : Bool). not b && t) free (le-leb (length (sheet_tokens (out_sheet r ns))) 8192 few)
 
           -- the bytes that the tables say are the output's
-          said : sheet_bytes (names_of t) (tokens (take made.count made.tags) (take made.count made.values)) ≡ out_bytes r ns
+          said : (n : ℕ) → n ≡ min made.count 8192 → sheet_bytes (names_of t) (tokens (take n made.tags) (take n made.values)) ≡ out_bytes r ns
           unfolding written
-          said = ap₂ sheet_bytes (sym (holds.kept free)) whole.1
+          said n h = let m : n ≡ made.count = omega (arith, h, whole.0, few) in rw m (ap₂ sheet_bytes (sym (holds.kept free)) whole.1)
 
-          module _ (lent' : List ℕ) (w : Result ℕ Refusal) (answer : w ≡ written_answer (sheet_bytes (names_of t) (tokens (take made.count made.tags) (take made.count made.values))) lent)
-              (filled : lent' ≡ written_bytes (sheet_bytes (names_of t) (tokens (take made.count made.tags) (take made.count made.values))) lent) where
+          module _ (n : ℕ) (front : n ≡ min made.count 8192) (lent' : List ℕ) (w : Result ℕ Refusal) (answer : w ≡ written_answer (sheet_bytes (names_of t) (tokens (take n made.tags) (take n made.values))) lent)
+              (filled : lent' ≡ written_bytes (sheet_bytes (names_of t) (tokens (take n made.tags) (take n made.values))) lent) where
             answer-is : w ≡ written_answer (out_bytes r ns) lent
-            answer-is = answer ∙ ap (λ (b : List ℕ). written_answer b lent) said
+            answer-is = answer ∙ ap (λ (b : List ℕ). written_answer b lent) (said n front)
 
             filled_is : lent' ≡ written_bytes (out_bytes r ns) lent
-            filled_is = filled ∙ ap (λ (b : List ℕ). written_bytes b lent) said
+            filled_is = filled ∙ ap (λ (b : List ℕ). written_bytes b lent) (said n front)
 
             enough : length (out_bytes r ns) ≤ length lent → rewrite_answer bytes (length lent) ≡ accepted (out_bytes r ns)
             enough h = rewrite-accepted bytes (length lent) r reading ns clocks none-faulty within h

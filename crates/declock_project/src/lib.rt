@@ -23,20 +23,19 @@ ghost use Rattle.declock_project.specs.Given.{RewriteGiven, Read, Clean};
 ghost use Rattle.emit.specs.declared.output.Output.{Output};
 
 use clock_tables::ClockList;
-use declock::{NodePlan, OutputSheet};
+use declock::{NamedIndex, NodePlan, OutputSheet};
 use definitions::{
     CLOCK_TABLE, FaultRecord, MOST_LETTERS, MOST_NAMES, MOST_NODES, Refusal, WORKING_TOKENS,
 };
 use emit::Output;
 use findings::Found;
 use grammar::Source;
-use index::Index;
 use layout::NodeLayout;
 use new_names::NodeNeeds;
 use parts::Names;
 use planned::HeldOperand;
 use query::FaultList;
-use spelling::{NameTable, SheetNames, Spelling};
+use spelling::{NameTable, SheetNames};
 use stateless::Counts;
 use workspace::Working;
 
@@ -47,16 +46,17 @@ fn fits(room: usize, n: usize) -> bool
     CLOCK_TABLE <= room || n <= room / clock_tables::WORDS
 }
 
-// What planning a node left in the working tables, and where its holds stand; its clocks with flags, as many as counted, are these rows.
+// What planning a node left in tables: its clocks with flags, as many as counted, in rows; its plan, its holds, and its names' types.
 fn plan_in<'a>(
     layout: NodeLayout,
     counts: Counts,
     flags: &'a [u32],
     firsts: &'a [u32],
-    working: &'a Working<'_>,
+    plan: &'a [u32],
     holds: &'a [HeldOperand],
+    types: &'a [u32],
 ) -> NodePlan<'a>
-    ensures { LeftIn layout counts flags.now firsts.now working.now.chain.now holds.now working.now.rows.now result }
+    ensures { LeftIn layout counts flags.now firsts.now plan.now holds.now types.now result }
 {
     NodePlan {
         layout,
@@ -72,23 +72,10 @@ fn plan_in<'a>(
             holds: counts.holds,
             condact: counts.condact,
         },
-        plan: working.chain,
+        plan,
         holds,
-        types: working.rows,
+        types,
     }
-}
-
-// The same where its clocks with flags stand in the working tables.
-// Stays (proof): in its caller the borrow checker covers neither `working.table` lent beside `working` nor both through one `&*working`.
-fn plan_left<'a>(
-    layout: NodeLayout,
-    counts: Counts,
-    working: &'a Working<'_>,
-    holds: &'a [HeldOperand],
-) -> NodePlan<'a>
-    ensures { LeftIn layout counts working.now.table.now working.now.env.now working.now.chain.now holds.now working.now.rows.now result }
-{
-    plan_in(layout, counts, working.table, working.env, working, holds)
 }
 
 // Have the tables a row for each of so many clocks with flags?
@@ -100,17 +87,16 @@ fn has_rows(working: &Working<'_>, counts: Counts) -> bool
 
 // A small sheet's node with more clocks than its tables have rows: it is planned again, in tables of as many rows as an output may have
 // names.
-// Stays (no plainer): in one struct with what it lends, each of the four walks here would promise besides that three references stay.
+// Stays (no plainer): `working`, `holds` and `sheet` apart, here and below: in one struct, each walk would promise that three `&mut` stay.
 fn write_wide(
-    spelling: Spelling<'_>,
-    index: &Index<'_>,
+    named: NamedIndex<'_>,
     layout: NodeLayout,
     working: &mut Working<'_>,
     holds: &mut [HeldOperand],
     sheet: &mut OutputSheet,
 )
     ensures same_room { SameRoom working.old working.new }
-    ensures laid_put { sheet.old.names.full ≡ false → SitedIn spelling.entry index.now layout working.old holds.old → LaidPut spelling.entry index.now layout sheet.old.names sheet.new.names sheet.old.tokens sheet.new.tokens }
+    ensures laid_put { sheet.old.names.full ≡ false → SitedIn named.entry.spelling named.entry.index.now layout working.old holds.old → LaidPut named.entry.spelling named.entry.index.now layout sheet.old.names sheet.new.names sheet.old.tokens sheet.new.tokens }
 {
     let mut flags = [0u32; CLOCK_TABLE];
     let mut firsts = [0u32; CLOCK_TABLE];
@@ -118,7 +104,7 @@ fn write_wide(
     let types = &mut *working.rows;
     let plan = &mut *working.chain;
     let planned = first_faults::plan_of(
-        index,
+        named.index,
         layout,
         sites,
         types,
@@ -128,15 +114,14 @@ fn write_wide(
         holds,
     );
     if let Ok(counts) = planned {
-        let node = plan_in(layout, counts, &flags, &firsts, working, holds);
-        declock::write_planned(spelling, index, &node, sheet);
+        let node = plan_in(layout, counts, &flags, &firsts, plan, holds, types);
+        declock::write_planned(named, &node, sheet);
     }
 }
 
 // Node k, which has this layout and uses clocks: clocked, planned and, where it has no fault, written.
 fn walk_clocked(
-    spelling: Spelling<'_>,
-    index: &Index<'_>,
+    named: NamedIndex<'_>,
     k: usize,
     layout: NodeLayout,
     working: &mut Working<'_>,
@@ -145,11 +130,11 @@ fn walk_clocked(
 ) -> Result<Option<Found>, Refusal>
     ensures same_room { SameRoom working.old working.new }
     ensures refused_at { IfErr result (λ r. r ≡ Refusal.Deep k) }
-    ensures deep_value { (node : Node) (q : ℕ) → LaidNode index.now.source.names (tokens_of index.now.source) node q layout → RoomToWrite index.now working.old holds.old → is_err result ≡ is_deep (clocking node) }
-    ensures fault_value { (i : Input) (node : Node) (q : ℕ) (k : Clocking) → Indexed index.now i → LaidNode index.now.source.names (tokens_of index.now.source) node q layout → uses_clocks node ≡ true → clocking node ≡ formed k → RoomToWrite index.now working.old holds.old → fault_found result ≡ get_elem? (node_faults i.names i.sheet (record { node = node; clocking = k })) 0 }
-    ensures laid_put { RoomToWrite index.now working.old holds.old → LaidPut spelling.entry index.now layout sheet.old.names sheet.new.names sheet.old.tokens sheet.new.tokens }
+    ensures deep_value { (node : Node) (q : ℕ) → LaidNode named.entry.index.now.source.names (tokens_of named.entry.index.now.source) node q layout → RoomToWrite named.entry.index.now working.old holds.old → is_err result ≡ is_deep (clocking node) }
+    ensures fault_value { (i : Input) (node : Node) (q : ℕ) (k : Clocking) → Indexed named.entry.index.now i → LaidNode named.entry.index.now.source.names (tokens_of named.entry.index.now.source) node q layout → uses_clocks node ≡ true → clocking node ≡ formed k → RoomToWrite named.entry.index.now working.old holds.old → fault_found result ≡ get_elem? (node_faults i.names i.sheet (record { node = node; clocking = k })) 0 }
+    ensures laid_put { RoomToWrite named.entry.index.now working.old holds.old → LaidPut named.entry.spelling named.entry.index.now layout sheet.old.names sheet.new.names sheet.old.tokens sheet.new.tokens }
 {
-    let counts = match first_faults::laid_found(index, k, layout, working, holds)? {
+    let counts = match first_faults::laid_found(named.index, k, layout, working, holds)? {
         Ok(counts) => counts,
         Err(found) => return Ok(Some(found)),
     };
@@ -157,32 +142,36 @@ fn walk_clocked(
         return Ok(None);
     }
     if has_rows(working, counts) {
-        let node = plan_left(layout, counts, working, holds);
-        declock::write_planned(spelling, index, &node, sheet);
+        let flags = &mut *working.table;
+        let firsts = &mut *working.env;
+        let plan = &mut *working.chain;
+        let types = &mut *working.rows;
+        let node = plan_in(layout, counts, flags, firsts, plan, holds, types);
+        declock::write_planned(named, &node, sheet);
         return Ok(None);
     }
-    write_wide(spelling, index, layout, working, holds, sheet);
+    write_wide(named, layout, working, holds, sheet);
     Ok(None)
 }
 
 // Node k: one that uses no clocks has no fault and is written as it came.
 fn walk_node(
-    spelling: Spelling<'_>,
-    index: &Index<'_>,
+    named: NamedIndex<'_>,
     k: usize,
     working: &mut Working<'_>,
     holds: &mut [HeldOperand],
     sheet: &mut OutputSheet,
 ) -> Result<Option<Found>, Refusal>
-    requires { k < index.now.nodes.count }
+    requires { k < named.index.now.nodes.count }
     ensures same_room { SameRoom working.old working.new }
-    ensures node_met { RoomToWrite index.now working.old holds.old → NodeMet index.now k result }
-    ensures node_put { RoomToWrite index.now working.old holds.old → NodePut spelling.entry index.now k sheet.old.names sheet.new.names sheet.old.tokens sheet.new.tokens }
+    ensures node_met { RoomToWrite named.entry.index.now working.old holds.old → NodeMet named.entry.index.now k result }
+    ensures node_put { RoomToWrite named.entry.index.now working.old holds.old → NodePut named.entry.spelling named.entry.index.now k sheet.old.names sheet.new.names sheet.old.tokens sheet.new.tokens }
 {
+    let index = named.index;
     let source = &index.source;
     let layout = layout::node_at(source, index.nodes.at[k]);
     if layout.uses_clocks(source) {
-        return walk_clocked(spelling, index, k, layout, working, holds, sheet);
+        return walk_clocked(named, k, layout, working, holds, sheet);
     }
     emit::put_node_as_it_came(&mut sheet.tokens, source, layout);
     Ok(None)
@@ -191,8 +180,7 @@ fn walk_node(
 // Each faulty node's first fault, in order, as far as the list reaches, and the names and tokens of nodes without one: how many are
 // faulty; refused at the first node in which too deep a clock is formed.
 fn walk_nodes(
-    spelling: Spelling<'_>,
-    index: &Index<'_>,
+    named: NamedIndex<'_>,
     working: &mut Working<'_>,
     holds: &mut [HeldOperand],
     sheet: &mut OutputSheet,
@@ -201,11 +189,11 @@ fn walk_nodes(
     requires { list.old.count ≡ 0 }
     ensures same_room { SameRoom working.old working.new }
     ensures few { IfOk result (λ u. list.new.count ≤ 16) }
-    ensures walks { (i : Input) → Indexed index.now i → RoomToWrite index.now working.old holds.old → Walks i list.old.records.now list.new result }
-    ensures all_put { IfOk result (λ u. (bytes : List ℕ) (i : Input) (ns : List ClockedNode) → Indexed index.now i → RoomToWrite index.now working.old holds.old → Faultless spelling.entry bytes i ns → NamesHeld sheet.old.names i.names → AllPut i ns sheet.new.names sheet.old.tokens sheet.new.tokens) }
+    ensures walks { (i : Input) → Indexed named.entry.index.now i → RoomToWrite named.entry.index.now working.old holds.old → Walks i list.old.records.now list.new result }
+    ensures all_put { IfOk result (λ u. (bytes : List ℕ) (i : Input) (ns : List ClockedNode) → Indexed named.entry.index.now i → RoomToWrite named.entry.index.now working.old holds.old → Faultless named.entry.spelling bytes i ns → NamesHeld sheet.old.names i.names → AllPut i ns sheet.new.names sheet.old.tokens sheet.new.tokens) }
 {
-    for k in 0..index.nodes.count {
-        let fault = walk_node(spelling, index, k, working, holds, sheet)?;
+    for k in 0..named.index.nodes.count {
+        let fault = walk_node(named, k, working, holds, sheet)?;
         first_faults::add_first(list, k as u32, fault);
     }
     Ok(())
@@ -220,7 +208,7 @@ fn write_output(sheet: &OutputSheet, out: &mut [u8]) -> Result<usize, Refusal>
     if table.full || tokens.full {
         return Err(Refusal::Large);
     }
-    let n = tokens.count;
+    let n = tokens.count.min(WORKING_TOKENS);
     let names = Names {
         lengths: &table.lengths[..table.names],
         letters: &table.letters[..table.used],
@@ -258,7 +246,7 @@ pub fn rewrite_in(
     };
     sheet.names.fill(names.lengths, names.spelling.letters);
     emit::put_types(&mut sheet.tokens, &index.source, index.whole);
-    let mut holds = [HeldOperand { at: 0, row: 0 }; MOST_NAMES];
+    let mut holds = [HeldOperand::default(); MOST_NAMES];
     let mut records = [FaultRecord {
         node: 0,
         fault: 0,
@@ -268,14 +256,11 @@ pub fn rewrite_in(
         records: &mut records,
         count: 0,
     };
-    walk_nodes(
-        names.spelling,
-        &index,
-        working,
-        &mut holds,
-        &mut sheet,
-        &mut list,
-    )?;
+    let named = NamedIndex {
+        spelling: names.spelling,
+        index: &index,
+    };
+    walk_nodes(named, working, &mut holds, &mut sheet, &mut list)?;
     if 0 < list.count {
         first_faults::copy_faults(&list, faults);
         return Err(Refusal::Faulty(list.count));

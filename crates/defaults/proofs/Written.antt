@@ -21,6 +21,8 @@ use Rattle.definitions.specs.Output.{literal_tokens, field_tokens, form_tokens, 
 use Rattle.grammar.proofs.Laws.{times-length}
 use Rattle.grammar.proofs.Got.{times-cons}
 use Rattle.layout.specs.declared.Defined.{Defined}
+use Rattle.layout.specs.declared.Span.{Span}
+use Rattle.layout.specs.Spans.{Spans}
 use Rattle.layout.specs.Table.{def_at, first_of, Table, Described}
 use Rattle.layout.proofs.TypedefsLaws.{name-value}
 use Rattle.layout.specs.declared.DeclarationLayout.{DeclarationLayout}
@@ -134,18 +136,18 @@ module _ (M : ℕ) (ts : List TagValue) (places : List ℕ) (n : ℕ) (types : L
 
 -- a definition's default, by its parts
 module _ (M : ℕ) (tags vs : List ℕ) (same_length : length vs ≡ length tags) (G : ℕ → Option Expr) (d : TypeDef) (q : ℕ) (D : Defined) (g : Described M (tokens tags vs) d q D) (e : Expr) (f : default_of G d d.body ≡ some e) where
-  pub wrote-variant : (o : Output) (y c p v : ℕ) (o₁ : Output) → D ≡ Defined.Enum y c p → v ≡ get_or vs p 0 → o₁ ≡ emits o (Token.Expression (ExprToken.Var v) ∷ []) → o₁ ≡ emits o (expr_tokens e)
+  pub wrote-variant : (o : Output) (y : ℕ) (s : Span) (v : ℕ) (o₁ : Output) → D ≡ Defined.Enum y s → v ≡ get_or vs s.at 0 → o₁ ≡ emits o (Token.Expression (ExprToken.Var v) ∷ []) → o₁ ≡ emits o (expr_tokens e)
   unfolding Described default_of expr_tokens
-  wrote-variant o y c p v o₁ j i w =
+  wrote-variant o y s v o₁ j i w =
       let h = rw j at g in
-      go h.0 h.1 (ap (λ (b : TypeDef). default_of G b b.body) (sym h.2) ∙ f)
+      go h.0 h.1.items (ap (λ (b : TypeDef). default_of G b b.body) (sym h.3) ∙ f)
     where
-      go : (l : List ℕ) → times c (name M) (tokens tags vs) p ≡ got l q → default_of G (record { name = y; body = Body.enum l }) (Body.enum l) ≡ some e → o₁ ≡ emits o (expr_tokens e)
+      go : (l : List ℕ) → times s.count (name M) (tokens tags vs) s.at ≡ got l s.end → default_of G (record { name = y; body = Body.enum l }) (Body.enum l) ≡ some e → o₁ ≡ emits o (expr_tokens e)
       go [] t k = let u : ◌≡◌ {A = ℕ} 0 1 = cc in absurd (omega arith)
       go (u ∷ l) t k =
-          let n = times-length (name M) (tokens tags vs) c p (u ∷ l) q t in
-          let a = times-cons (name M) (tokens tags vs) c p (u ∷ l) q (λ z. omega arith) t in
-          let b = name-value M tags vs same_length p a.0 a.1 a.3 in
+          let n = times-length (name M) (tokens tags vs) s.count s.at (u ∷ l) s.end t in
+          let a = times-cons (name M) (tokens tags vs) s.count s.at (u ∷ l) s.end (λ z. omega arith) t in
+          let b = name-value M tags vs same_length s.at a.0 a.1 a.3 in
           let m : u ≡ a.0 = cc in
           let r : e ≡ Expr.var v = cc in
           w ∙ rw r
@@ -154,11 +156,11 @@ module _ (M : ℕ) (tags vs : List ℕ) (same_length : length vs ≡ length tags
   fields-some none H h = let z : ◌≡◌ {A = ℕ} 0 1 = cc in absurd (omega arith)
   fields-some (some es) H h = (es, refl, cc)
 
-  pub fields-default : (y c p : ℕ) → D ≡ Defined.Record y c p → (fs : List Declared) × (es : Exprs) × (times c (declaration M) (tokens tags vs) p ≡ got fs q) × (defaults_by G fs ≡ some es) × (e ≡ Expr.op (Head.struct y (map (λ k. k.name) fs)) es)
+  pub fields-default : (y : ℕ) (s : Span) → D ≡ Defined.Record y s → (fs : List Declared) × (es : Exprs) × Spans (declaration M) (tokens tags vs) fs s × (defaults_by G fs ≡ some es) × (e ≡ Expr.op (Head.struct y (map (λ k. k.name) fs)) es)
   unfolding Described default_of
-  fields-default y c p j =
+  fields-default y s j =
       let h = rw j at g in
-      let a = fields-some (defaults_by G h.0) (Head.struct y (map (λ k. k.name) h.0)) (ap (λ (b : TypeDef). default_of G b b.body) (sym h.2) ∙ f) in
+      let a = fields-some (defaults_by G h.0) (Head.struct y (map (λ k. k.name) h.0)) (ap (λ (b : TypeDef). default_of G b b.body) (sym h.3) ∙ f) in
       (h.0, a.0, h.1, a.1, a.2)
 
   pub alias-default : (y p : ℕ) → D ≡ Defined.Alias y p → (t : Ty) × (ty M 8 (tokens tags vs) p ≡ got t q) × (default_by G t ≡ some e)
@@ -190,11 +192,11 @@ module _ (G : ℕ → Option Expr) where
   length-operands [] es d = rw (no_fields [] es refl d)
   length-operands (f ∷ fs) es d = let a = field-default (f ∷ fs) f fs es refl d in rw a.4 (ap suc (length-operands fs a.1 a.3))
 
-  pub wrote-record : (M : ℕ) (ts : List TagValue) (y c p : ℕ) (fs : List Declared) (q : ℕ) (es : Exprs) (e : Expr) (o o₁ o₂ : Output) → times c (declaration M) ts p ≡ got fs q → defaults_by G fs ≡ some es → e ≡ Expr.op (Head.struct y (map (λ k. k.name) fs)) es →
+  pub wrote-record : (y c : ℕ) (fs : List Declared) (es : Exprs) (e : Expr) (o o₁ o₂ : Output) → c ≡ length fs → defaults_by G fs ≡ some es → e ≡ Expr.op (Head.struct y (map (λ k. k.name) fs)) es →
       o₁ ≡ emits o (Token.Expression (ExprToken.Struct y) ∷ Token.Count c ∷ []) → o₂ ≡ emits o₁ (field_tokens (map (λ k. k.name) fs) (operand_tokens es)) → o₂ ≡ emits o (expr_tokens e)
   unfolding expr_tokens form_tokens
-  wrote-record M ts y c p fs q es e o o₁ o₂ g d j f h =
-      let n : length (operand_tokens es) ≡ c = length-operands fs es d ∙ times-length (declaration M) ts c p fs q g in
+  wrote-record y c fs es e o o₁ o₂ g d j f h =
+      let n : length (operand_tokens es) ≡ c = length-operands fs es d ∙ sym g in
       then o o₁ o₂ _ _ _ f h (rw (j, n))
 
 pub wrote-field : (x id : ℕ) (a : Expr) (b es : Exprs) (ids names : List ℕ) (o o₁ o₂ o₃ : Output) → x ≡ id → es ≡ Exprs.and a b → names ≡ id ∷ ids → o₁ ≡ emits o (Token.Name x ∷ []) → o₂ ≡ emits o₁ (expr_tokens a) → o₃ ≡ emits o₂ (field_tokens ids (operand_tokens b)) →

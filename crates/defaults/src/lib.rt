@@ -7,14 +7,16 @@ ghost use Rattle.std.proofs.Math.Option.{some};
 ghost use Rattle.grammar.specs.Read.{tokens_of};
 ghost use Rattle.definitions.specs.Lists.{join};
 ghost use Rattle.definitions.specs.Tree.{Ty, Declared, TypeDef, Head, Expr, Exprs};
-ghost use Rattle.definitions.specs.Reading.{got, times};
+ghost use Rattle.definitions.specs.Reading.{got};
 ghost use Rattle.definitions.specs.Grammar.{ty, declaration, type_def};
 ghost use Rattle.definitions.specs.Types.{copies, primitive_default, default_by, defaults_by, default_of, default_named, default};
 ghost use Rattle.definitions.specs.Output.{literal_tokens, field_tokens, expr_tokens, operand_tokens};
 ghost use Rattle.emit.specs.Out.{emits};
+ghost use Rattle.layout.specs.Spans.{Spans};
 ghost use Rattle.cycles.specs.Defines.{Defines};
 ghost use Rattle.defaults.specs.Has.{is_some, DefaultsKnown};
 ghost use Rattle.defaults.specs.Depth.{Enough};
+ghost use Rattle.defaults.specs.Times.{Emits};
 ghost use Rattle.cycles.specs.Edges.{row_at, IsWithin};
 ghost use Rattle.definitions.specs.declared.Primitive.{Primitive};
 
@@ -22,7 +24,7 @@ use cycles::{Graph, TypeTable};
 use definitions::{ARRAY_LEVELS, ExprToken, Literal, MOST_TYPES, Primitive, Token, TypeToken};
 use emit::Output;
 use grammar::Source;
-use layout::Defined;
+use layout::{Defined, Span};
 
 // Types gone down to at most: the one at hand and 8 elements, and for each of 32 definitions a field or a target and 8 elements again.
 const DEEPEST: u32 = 9 * 32 + 9;
@@ -32,8 +34,8 @@ fn has_round(graph: &Graph, has: &[bool; MOST_TYPES]) -> [bool; MOST_TYPES]
     ensures { (i : ℕ) → i < graph.now.count → (get_or result i false ≡ true) ↔ (((row_at graph.now i).own ≡ true) × IsWithin graph.now.count (row_at graph.now i).set has.now) }
 {
     let mut more = [false; MOST_TYPES];
-    for i in 0..graph.count {
-        let row = graph.rows[i];
+    // Stays (proof): a place in both: behind a loop over `iter_mut().zip(..)` nothing was known of `more`, tried at `cycles` `with_name`.
+    for (i, row) in graph.rows[..graph.count].iter().enumerate() {
         more[i] = row.own && graph.is_within(&row.set, has);
     }
     more
@@ -86,15 +88,16 @@ fn emit_literal(output: &mut Output, l: Literal)
     }
 }
 
-// So many times a constant of two tokens.
-fn emit_each(output: &mut Output, l: Literal, m: u32)
-    ensures { output.new ≡ emits output.old (join (operand_tokens (copies m (Expr.const l 0)))) }
+// So many times the tokens of an expression, by what writes them.
+fn emit_times<F: Fn(&mut Output)>(output: &mut Output, m: u32, emit_one: F)
+    requires { F.IsAlwaysCallable emit_one }
+    ensures { (e : Expr) → Emits (F.post emit_one) e → output.new ≡ emits output.old (join (operand_tokens (copies m e))) }
 {
     for _ in 0..m {
         if output.full {
             return;
         }
-        emit_literal(output, l);
+        emit_one(output);
     }
 }
 
@@ -106,7 +109,7 @@ fn emit_literals(output: &mut Output, l: Literal, m: u32)
         Literal::Bool(_) | Literal::Char(_) => {
             output.emit_many(Token::Expression(ExprToken::Const(l)), m);
         }
-        Literal::Int(_) | Literal::Float(_) => emit_each(output, l, m),
+        Literal::Int(_) | Literal::Float(_) => emit_times(output, m, |to| emit_literal(to, l)),
     }
 }
 
@@ -121,6 +124,7 @@ fn literal_at(source: &Source<'_>, at: usize) -> Option<Literal>
 }
 
 // The default of a type. The depth falls at each type that is gone down to: a field's, an element's or a target's.
+// Stays (no plainer): table and output, with the depth, down to `emit_fields`: by one struct each would promise that its references stay.
 #[cycle(emits)]
 fn emit_type(table: &TypeTable<'_, '_>, depth: u32, at: usize, output: &mut Output)
     ensures { (types : List TypeDef) (fuel levels : ℕ) (t : Ty) (q : ℕ) (e : Expr) → Defines table.now types → Enough depth fuel (suc levels) → ty table.now.source.names levels (tokens_of table.now.source) at ≡ got t q → default_by (default_named types fuel) t ≡ some e → output.new ≡ emits output.old (expr_tokens e) }
@@ -150,20 +154,13 @@ fn emit_array(table: &TypeTable<'_, '_>, depth: u32, at: usize, m: u32, output: 
     output.emit_all(&[Token::Expression(ExprToken::Array), Token::Count(m)]);
     match literal_at(&table.source, at) {
         Some(l) => emit_literals(output, l, m),
-        None => emit_copies(table, depth, at, m, output),
-    }
-}
-
-// So many times the default of a type.
-#[cycle(emits)]
-fn emit_copies(table: &TypeTable<'_, '_>, depth: u32, at: usize, m: u32, output: &mut Output)
-    ensures { (types : List TypeDef) (fuel levels : ℕ) (t : Ty) (q : ℕ) (e : Expr) → Defines table.now types → Enough depth fuel (suc levels) → ty table.now.source.names levels (tokens_of table.now.source) at ≡ got t q → default_by (default_named types fuel) t ≡ some e → output.new ≡ emits output.old (join (operand_tokens (copies m e))) }
-{
-    for _ in 0..m {
-        if output.full {
-            return;
-        }
-        emit_type(table, depth, at, output);
+        None => emit_times(
+            output,
+            m,
+            |to|
+                ensures { (types : List TypeDef) (fuel levels : ℕ) (t : Ty) (q : ℕ) (e : Expr) → Defines table.entry.now types → Enough depth fuel (suc levels) → ty table.entry.now.source.names levels (tokens_of table.entry.now.source) at ≡ got t q → default_by (default_named types fuel) t ≡ some e → to.new ≡ emits to.old (expr_tokens e) }
+            { emit_type(table, depth, at, to) },
+        ),
     }
 }
 
@@ -172,7 +169,7 @@ fn emit_copies(table: &TypeTable<'_, '_>, depth: u32, at: usize, m: u32, output:
 fn emit_named(table: &TypeTable<'_, '_>, depth: u32, x: u32, output: &mut Output)
     ensures { (types : List TypeDef) (fuel : ℕ) (e : Expr) → Defines table.now types → Enough depth fuel 0 → default_named types fuel x ≡ some e → output.new ≡ emits output.old (expr_tokens e) }
 {
-    let Some(first) = layout::find_definition(table.source.values, table.places, x) else {
+    let Some(first) = table.find(x) else {
         return;
     };
     emit_definition(table, depth, table.places.at[first], output);
@@ -184,28 +181,28 @@ fn emit_definition(table: &TypeTable<'_, '_>, depth: u32, at: usize, output: &mu
     ensures { (types : List TypeDef) (fuel : ℕ) (d : TypeDef) (q : ℕ) (e : Expr) → Defines table.now types → Enough depth fuel 9 → type_def table.now.source.names (tokens_of table.now.source) at ≡ got d q → default_of (default_named types fuel) d d.body ≡ some e → output.new ≡ emits output.old (expr_tokens e) }
 {
     match layout::describe(&table.source, at) {
-        Some(Defined::Enum { first, .. }) => {
-            let v = layout::value_at(table.source.values, first);
+        Some(Defined::Enum { variants, .. }) => {
+            let v = layout::value_at(table.source.values, variants.at);
             output.emit(Token::Expression(ExprToken::Var(v)));
         }
-        Some(Defined::Record { name, count, first }) => {
+        Some(Defined::Record { name, fields }) => {
             output.emit_all(&[
                 Token::Expression(ExprToken::Struct(name)),
-                Token::Count(count),
+                Token::Count(fields.count),
             ]);
-            emit_fields(table, depth, count, first, output);
+            emit_fields(table, depth, fields, output);
         }
         Some(Defined::Alias { target, .. }) => emit_type(table, depth, target, output),
         None => {}
     }
 }
 
-// So many fields, each with its name and its default.
+// A record's fields, each with its name and its default.
 #[cycle(emits)]
-fn emit_fields(table: &TypeTable<'_, '_>, depth: u32, count: u32, at: usize, output: &mut Output)
-    ensures { (types : List TypeDef) (fuel : ℕ) (fs : List Declared) (q : ℕ) (es : Exprs) → Defines table.now types → Enough depth fuel 9 → times count (declaration table.now.source.names) (tokens_of table.now.source) at ≡ got fs q → defaults_by (default_named types fuel) fs ≡ some es → output.new ≡ emits output.old (field_tokens (map (λ f. f.name) fs) (operand_tokens es)) }
+fn emit_fields(table: &TypeTable<'_, '_>, depth: u32, fields: Span, output: &mut Output)
+    ensures { (types : List TypeDef) (fuel : ℕ) (fs : List Declared) (es : Exprs) → Defines table.now types → Enough depth fuel 9 → Spans (declaration table.now.source.names) (tokens_of table.now.source) fs fields → defaults_by (default_named types fuel) fs ≡ some es → output.new ≡ emits output.old (field_tokens (map (λ f. f.name) fs) (operand_tokens es)) }
 {
-    for field in layout::declarations_from(&table.source, count, at) {
+    for field in layout::declarations(&table.source, fields) {
         if output.full {
             return;
         }
@@ -228,7 +225,7 @@ pub fn type_has_default(table: &TypeTable<'_, '_>, has: &[bool; MOST_TYPES], at:
     let Some(x) = cycles::target_of(&table.source, ARRAY_LEVELS, at) else {
         return true;
     };
-    match layout::find_definition(table.source.values, table.places, x) {
+    match table.find(x) {
         Some(first) => has[first],
         None => false,
     }

@@ -3,7 +3,6 @@
 use mathlib.Core.Path.{◌≡◌, refl, sym, ◌∙◌, ap, ap₂, subst}
 use mathlib.Core.List.{List, [], ◌∷◌, ◌++◌, map, append_assoc}
 use Rattle.std.specs.Prelude.{Bool, true, false, ◌||◌}
-use Rattle.std.proofs.Props.{props}
 use Rattle.std.proofs.Math.Bool.{or-true, or-false}
 use Prim.Native.Nat.{ℕ, zero, suc, min, ◌+◌, ◌-◌, ◌≤◌, ◌<◌}
 use native.Mathlib.Omega.{arith}
@@ -18,7 +17,7 @@ use Rattle.definitions.specs.declared.Token.{Token}
 use Rattle.definitions.specs.Tokens.{TagValue, tag_value, code_of, tag_of, value_of}
 use Rattle.definitions.specs.Bytes.{tokens}
 use Rattle.emit.specs.declared.output.Output.{Output}
-use Rattle.emit.specs.Out.{put_by, put, puts, emits}
+use Rattle.emit.specs.Out.{room, put_by, put, puts, emits}
 
 -- one list after another
 pub puts-append : (o : Output) (a b : List TagValue) → puts (puts o a) b ≡ puts o (a ++ b)
@@ -41,97 +40,90 @@ unfolding emits
 emits-codes o a l e = rw e
 
 -- ---- what is written, field by field
--- so many tokens have no place; they have one
-pub none_fit : (full : Bool) (n : ℕ) → 8192 < n → true ≡ (full || ltb 8192 n)
-none_fit full n h = sym (ap (λ (b : Bool). full || b) (lt-ltb 8192 n h) ∙ or-true full)
+-- two tests of numbers that follow from each other
+same-test : (a b c d : ℕ) → (a < b → c < d) → (b ≤ a → d ≤ c) → ltb a b ≡ ltb c d
+same-test a b c d f g = go (ltb a b) refl
+  where
+    go : (t : Bool) → ltb a b ≡ t → t ≡ ltb c d
+    go true e = sym (lt-ltb c d (f (ltb-true a b e)))
+    go false e = sym (le-ltb c d (g (ltb-false a b e)))
 
-pub all_fit : (full : Bool) (n : ℕ) → n ≤ 8192 → full ≡ (full || ltb 8192 n)
-all_fit full n h = sym (ap (λ (b : Bool). full || b) (le-ltb 8192 n h) ∙ or-false full)
+-- where one had no place there is no room
+no-room : (o : Output) → o.full ≡ true → room o ≡ 0
+no-room o h = rw h refl
+
+-- where there is room, none was without a place
+some-room : (o : Output) → 0 < room o → (o.full ≡ false) × (room o ≡ 8192 - o.count)
+some-room o h = go o.full refl
+  where
+    go : (b : Bool) → o.full ≡ b → (o.full ≡ false) × (room o ≡ 8192 - o.count)
+    go true e = absurd (omega (arith, h, no-room o e))
+    go false e = (e, rw e refl)
 
 -- an output after these tags and values: those for which there is room stand behind the ones before; it is full, where some have no place
 pub record Written (o : Output) (l : List TagValue) (r : Output) : Type 0 where
-  pub tags : r.tags ≡ sets o.tags o.count (map (λ k. k.tag) (take (8192 - o.count) l))
-  pub values : r.values ≡ sets o.values o.count (map (λ k. k.value) (take (8192 - o.count) l))
-  pub count : r.count ≡ min (o.count + length l) 8192
-  pub full : r.full ≡ (o.full || ltb 8192 (o.count + length l))
+  pub tags : r.tags ≡ sets o.tags o.count (map (λ k. k.tag) (take (room o) l))
+  pub values : r.values ≡ sets o.values o.count (map (λ k. k.value) (take (room o) l))
+  pub count : r.count ≡ o.count + min (room o) (length l)
+  pub full : r.full ≡ (o.full || ltb (room o) (length l))
 
-put-written : (o : Output) (k : TagValue) (l : List TagValue) (room : Bool) (e : ltb o.count 8192 ≡ room) → ((o' : Output) → Written o' l (puts o' l)) → Written o (k ∷ l) (puts (put_by o k room e) l)
+put-written : (o : Output) (k : TagValue) (l : List TagValue) (b : Bool) → ltb 0 (room o) ≡ b → ((o' : Output) → Written o' l (puts o' l)) → Written o (k ∷ l) (puts (put_by o k b) l)
 put-written o k l true e more =
-    let h : o.count < 8192 = ltb-true o.count 8192 e in
-    let w = more (put_by o k true e) in
-    let n : 8192 - o.count ≡ suc (8192 - suc o.count) = omega arith in
+    let s = some-room o (ltb-true 0 (room o) e) in
+    let w = more (put_by o k true) in
+    let m : room (put_by o k true) ≡ 8192 - suc o.count = rw (s.0, add-one o.count) refl in
+    let n : room o ≡ suc (8192 - suc o.count) = omega (arith, s.1, ltb-true 0 (room o) e) in
     record {
-      tags = w.tags ∙ rw (n, add-one o.count) refl;
-      values = w.values ∙ rw (n, add-one o.count) refl;
-      count = w.count ∙ ap (λ (i : ℕ). min i 8192) (omega arith);
-      full = w.full ∙ ap (λ (i : ℕ). o.full || ltb 8192 i) (omega arith);
+      tags = w.tags ∙ rw (n, m, add-one o.count) refl;
+      values = w.values ∙ rw (n, m, add-one o.count) refl;
+      count = w.count ∙ omega (arith, m, n);
+      full = w.full ∙ ap (λ (t : Bool). o.full || t) (same-test (room (put_by o k true)) (length l) (room o) (suc (length l)) (λ h. omega (arith, h, m, n)) (λ h. omega (arith, h, m, n)));
     }
 put-written o k l false e more =
-    let c : o.count ≡ 8192 = omega (arith, o.within, ltb-false o.count 8192 e) in
-    let n : 8192 - o.count ≡ 0 = omega arith in
-    let w = more (put_by o k false e) in
+    let n : room o ≡ 0 = omega (arith, ltb-false 0 (room o) e) in
+    let w = more (put_by o k false) in
     record {
       tags = w.tags ∙ rw n refl;
       values = w.values ∙ rw n refl;
-      count = w.count ∙ omega arith;
-      full = w.full ∙ none_fit o.full (o.count + suc (length l)) (omega arith);
+      count = w.count ∙ omega (arith, n);
+      full = w.full ∙ sym (ap (λ (t : Bool). o.full || t) (lt-ltb (room o) (suc (length l)) (omega (arith, n))) ∙ or-true o.full);
     }
 
 pub puts-written : (l : List TagValue) (o : Output) → Written o l (puts o l)
 unfolding puts
 puts-written [] o = record {
-  tags = rw (take-nil (8192 - o.count)) refl;
-  values = rw (take-nil (8192 - o.count)) refl;
-  count = omega (arith, o.within);
-  full = all_fit o.full (o.count + 0) (omega (arith, o.within));
+  tags = rw (take-nil (room o)) refl;
+  values = rw (take-nil (room o)) refl;
+  count = omega arith;
+  full = sym (ap (λ (t : Bool). o.full || t) (le-ltb (room o) 0 (omega arith)) ∙ or-false o.full);
 }
-puts-written (k ∷ l) o = put-written o k l (ltb o.count 8192) refl (puts-written l)
+puts-written (k ∷ l) o = put-written o k l (ltb 0 (room o)) refl (puts-written l)
 
--- an output of these parts; which proofs it holds says nothing
-abbrev made : List ℕ → List ℕ → (n : ℕ) (b : Bool) → n ≤ 8192 → (b ≡ true → n ≡ 8192) → Output
-made ts vs n b w f = record { tags = ts; values = vs; count = n; full = b; within = w; none_left = f }
-
-proof_apart : (ts vs : List ℕ) (n : ℕ) (b : Bool) (w w' : n ≤ 8192) (f f' : b ≡ true → n ≡ 8192) → made ts vs n b w f ≡ made ts vs n b w' f'
-proof_apart ts vs n b w w' f f' =
-    let within_prop : IsProp (n ≤ 8192) = hlevel props in
-    let left_prop : IsProp (b ≡ true → n ≡ 8192) = hlevel props in
-    ap (λ u. made ts vs n b u f) (within_prop w w') ∙ ap (λ u. made ts vs n b w' u) (left_prop f f')
+-- an output of these parts
+abbrev made : List ℕ → List ℕ → ℕ → Bool → Output
+made ts vs n b = record { tags = ts; values = vs; count = n; full = b }
 
 -- two outputs with the same arrays, as many tokens and the same word of being full
 pub same_output : (r s : Output) → r.tags ≡ s.tags → r.values ≡ s.values → r.count ≡ s.count → r.full ≡ s.full → r ≡ s
-same_output r s a b c d =
-    let first : (w : r.count ≤ 8192) (f : r.full ≡ true → r.count ≡ 8192) → r ≡ made s.tags s.values r.count r.full w f =
-    λ w f. ap₂ (λ ts vs. made ts vs r.count r.full r.within r.none_left) a b ∙ proof_apart s.tags s.values r.count r.full r.within w r.none_left f in
-    let second : (w : s.count ≤ 8192) (f : r.full ≡ true → s.count ≡ 8192) → r ≡ made s.tags s.values s.count r.full w f =
-    subst (λ n. (w : n ≤ 8192) (f : r.full ≡ true → n ≡ 8192) → r ≡ made s.tags s.values n r.full w f) c first in
-    subst (λ b. (f : b ≡ true → s.count ≡ 8192) → r ≡ made s.tags s.values s.count b s.within f) d (second s.within) s.none_left
+same_output r s a b c d = ap₂ (λ ts vs. made ts vs r.count r.full) a b ∙ ap₂ (λ n t. made s.tags s.values n t) c d
 
 -- one tag and value more: where there is room; where there is none
 module _ (o r : Output) (k : TagValue) where
-  pub put-in : o.count < 8192 → r.tags ≡ set o.tags o.count k.tag → r.values ≡ set o.values o.count k.value → r.count ≡ o.count + 1 → r.full ≡ o.full → r ≡ puts o (k ∷ [])
+  pub put-in : 0 < room o → r.tags ≡ set o.tags o.count k.tag → r.values ≡ set o.values o.count k.value → r.count ≡ o.count + 1 → r.full ≡ o.full → r ≡ puts o (k ∷ [])
   unfolding puts
-  put-in h tags values count full = go (ltb o.count 8192) refl
-    where
-      go : (room : Bool) (e : ltb o.count 8192 ≡ room) → r ≡ put_by o k room e
-      go true e = same_output r (put_by o k true e) tags values count full
-      go false e = absurd (omega (arith, h, ltb-false o.count 8192 e))
+  put-in h tags values count full = same_output r (put_by o k true) tags values count full ∙ ap (put_by o k) (sym (lt-ltb 0 (room o) h))
 
-  pub put-out : 8192 ≤ o.count → r.tags ≡ o.tags → r.values ≡ o.values → r.count ≡ o.count → r.full ≡ true → r ≡ puts o (k ∷ [])
+  pub put-out : room o ≤ 0 → r.tags ≡ o.tags → r.values ≡ o.values → r.count ≡ o.count → r.full ≡ true → r ≡ puts o (k ∷ [])
   unfolding puts
-  put-out h tags values count full = go (ltb o.count 8192) refl
-    where
-      go : (room : Bool) (e : ltb o.count 8192 ≡ room) → r ≡ put_by o k room e
-      go true e = absurd (omega (arith, h, ltb-true o.count 8192 e))
-      go false e = same_output r (put_by o k false e) tags values count full
+  put-out h tags values count full = same_output r (put_by o k false) tags values count full ∙ ap (put_by o k) (sym (le-ltb 0 (room o) h))
 
 -- past the end nothing is written any more
 pub emits-stuck : (l : List Token) (o : Output) → o.full ≡ true → emits o l ≡ o
 unfolding emits
 emits-stuck l o h =
     let w = puts-written (map code_of l) o in
-    let c : o.count ≡ 8192 = o.none_left (h) in
-    let n : 8192 - o.count ≡ 0 = omega arith in
-    same_output (emits o l) o (w.tags ∙ rw n refl) (w.values ∙ rw n refl) (w.count ∙ omega arith) (w.full ∙ rw h refl)
+    let n = no-room o h in
+    same_output (emits o l) o (w.tags ∙ rw n refl) (w.values ∙ rw n refl) (w.count ∙ omega (arith, n)) (w.full ∙ rw h refl)
 
 -- what being full says, where writing started in empty arrays of 8,192
 module _ (o r : Output) (l : List Token) (none : o.count ≡ 0) (free : o.full ≡ false) (e : r ≡ emits o l) where
@@ -139,18 +131,23 @@ module _ (o r : Output) (l : List Token) (none : o.count ≡ 0) (free : o.full �
   unfolding emits
   written = subst (Written o (map code_of l)) (sym e) (puts-written (map code_of l) o)
 
-  full : r.full ≡ ltb 8192 (o.count + length (map code_of l))
-  full = written.full ∙ ap (λ (b : Bool). b || ltb 8192 (o.count + length (map code_of l))) free
+  all-free : room o ≡ 8192
+  all-free = rw (free, none) refl
+
+  full : r.full ≡ ltb (room o) (length (map code_of l))
+  full = written.full ∙ ap (λ (b : Bool). b || ltb (room o) (length (map code_of l))) free
 
   pub emits-long : r.full ≡ true → 8192 < length l
-  emits-long h = omega (arith, ltb-true 8192 (o.count + length (map code_of l)) (sym full ∙ h), none, length-map l code_of)
+  emits-long h = omega (arith, ltb-true (room o) (length (map code_of l)) (sym full ∙ h), all-free, length-map l code_of)
+
+  pub emits-few : r.full ≡ false → length l ≤ 8192
+  emits-few h = omega (arith, ltb-false (room o) (length (map code_of l)) (sym full ∙ h), all-free, length-map l code_of)
 
   pub emits-fit : r.full ≡ false → (r.count ≡ length l) × (r.tags ≡ sets o.tags 0 (map (λ k. k.tag) (map code_of l))) × (r.values ≡ sets o.values 0 (map (λ k. k.value) (map code_of l)))
   emits-fit h =
       let n = length-map l code_of in
-      let f : length (map code_of l) ≤ 8192 = omega (arith, none, ltb-false 8192 (o.count + length (map code_of l)) (sym full ∙ h)) in
-      let all : take (8192 - o.count) (map code_of l) ≡ map code_of l = ap (λ (i : ℕ). take (8192 - i) (map code_of l)) none ∙ take_all 8192 (map code_of l) f in (
-        omega (arith, written.count, none, n, f),
+      let all : take (room o) (map code_of l) ≡ map code_of l = ap (λ (i : ℕ). take i (map code_of l)) all-free ∙ take_all 8192 (map code_of l) (omega (arith, n, emits-few h)) in (
+        omega (arith, written.count, none, n, emits-few h, all-free),
         written.tags ∙ ap₂ (λ i ks. sets o.tags i (map (λ k. k.tag) ks)) none all,
         written.values ∙ ap₂ (λ i ks. sets o.values i (map (λ k. k.value) ks)) none all,
       )
@@ -171,7 +168,7 @@ emits-whole o r l z n e ht hv h =
     let f = emits-fit o r l z n e h in
     let a : length (map (λ k. k.tag) (map code_of l)) ≡ length l = length-map (map code_of l) (λ k. k.tag) ∙ length-map l code_of in
     let b : length (map (λ k. k.value) (map code_of l)) ≡ length l = length-map (map code_of l) (λ k. k.value) ∙ length-map l code_of in
-    let few : length l ≤ 8192 = omega (arith, f.0, r.within) in
+    let few = emits-few o r l z n e h in
     let u : take r.count r.tags ≡ map (λ k. k.tag) (map code_of l) = rw (f.1, f.0, ← a) (take-sets (map (λ k. k.tag) (map code_of l)) o.tags (omega arith)) in
     let v : take r.count r.values ≡ map (λ k. k.value) (map code_of l) = rw (f.2, f.0, ← b) (take-sets (map (λ k. k.value) (map code_of l)) o.values (omega arith)) in
     (f.0, rw (u, v) (tokens-map (map code_of l)))
@@ -214,35 +211,40 @@ map-replicate : {A B : Type 0} (f : A → B) (n : ℕ) (x : A) → map f (replic
 map-replicate f zero x = refl
 map-replicate f (suc n) x = ap (λ (l : List _). f x ∷ l) (map-replicate f n x)
 
--- items that are filled in are written one after the other, as far as there is room
-filled-sets : (xs ys : List ℕ) (at m to x : ℕ) → length xs ≡ 8192 → at ≤ 8192 → to ≡ min (at + m) 8192 → ys ≡ replicate (length (mid_of at (to - at) xs)) x
-    → put_mid at (to - at) xs ys ≡ sets xs at (replicate (min (8192 - at) m) x)
-filled-sets xs ys at m to x n a e f =
-    let k : min (8192 - at) m ≡ to - at = omega (arith, e, a) in
-    let mid : length (mid_of at (to - at) xs) ≡ to - at = mid_len at to xs (omega (arith, e, n)) in
-    let u : at + length (replicate (to - at) x) ≡ to = omega (arith, length-replicate (to - at) x, e, a) in
-    ap (λ (zs : List ℕ). take at xs ++ (zs ++ post_of at (to - at) xs)) (f ∙ ap (λ (i : ℕ). replicate i x) mid)
-    ∙ (ap (λ (zs : List ℕ). take at xs ++ (replicate (to - at) x ++ zs)) (Post-is at to xs (omega (arith, e, a)))
-    ∙ sym (ap (λ (i : ℕ). sets xs at (replicate i x)) k ∙ sets-eq (replicate (to - at) x) xs at (omega (arith, u, n, e)) ∙ append_assoc (take at xs) (replicate (to - at) x) _ ∙ ap (λ (i : ℕ). take at xs ++ (replicate (to - at) x ++ drop i xs)) u))
+-- items that are filled in are written one after the other, and none before or behind
+filled-sets : (xs ys : List ℕ) (at from to many x : ℕ) → length xs ≡ 8192 → many ≤ 8192 - at → from ≡ min at 8192 → to ≡ from + many → ys ≡ replicate (length (mid_of from (to - from) xs)) x
+    → put_mid from (to - from) xs ys ≡ sets xs at (replicate many x)
+filled-sets xs ys at from to many x n few e i f =
+    let mid : length (mid_of from (to - from) xs) ≡ many = mid_len from to xs (omega (arith, e, i, few, n)) ∙ omega (arith, i) in
+    let u : from + length (replicate many x) ≡ to = omega (arith, length-replicate many x, i) in
+    ap (λ (zs : List ℕ). take from xs ++ (zs ++ post_of from (to - from) xs)) (f ∙ ap (λ (m : ℕ). replicate m x) mid)
+    ∙ (ap (λ (zs : List ℕ). take from xs ++ (replicate many x ++ zs)) (Post-is from to xs (omega (arith, i)))
+    ∙ sym (sets-eq (replicate many x) xs from (omega (arith, u, e, i, few, n)) ∙ append_assoc (take from xs) (replicate many x) _ ∙ ap (λ (m : ℕ). take from xs ++ (replicate many x ++ drop m xs)) u)
+    ∙ moved many few)
+  where
+    -- from the place after those in use on; where that is past all, none is written
+    moved : (m : ℕ) → m ≤ 8192 - at → sets xs from (replicate m x) ≡ sets xs at (replicate m x)
+    moved zero h = refl
+    moved (suc m) h = ap (λ (p : ℕ). sets xs p (replicate (suc m) x)) (omega (arith, e, h))
 
 -- so many times a token, by its tag and value
-module _ (o r : Output) (t : Token) (m to tag value : ℕ) (tag-is : tag ≡ tag_of t) (value-is : value ≡ value_of t) (end : to ≡ min (o.count + m) 8192) where
+module _ (o r : Output) (t : Token) (m free many from to tag value : ℕ) (tag-is : tag ≡ tag_of t) (value-is : value ≡ value_of t) (room-is : free ≡ room o) (behind : free ≤ 8192 - o.count) (few : many ≡ min free m) (begin : from ≡ min o.count 8192) (end : to ≡ from + many) where
   pub many-written : (tags values : List ℕ) → length o.tags ≡ 8192 → length o.values ≡ 8192
-      → tags ≡ replicate (length (mid_of o.count (to - o.count) o.tags)) tag → values ≡ replicate (length (mid_of o.count (to - o.count) o.values)) value
-      → r.tags ≡ put_mid o.count (to - o.count) o.tags tags → r.values ≡ put_mid o.count (to - o.count) o.values values
-      → r.count ≡ to → r.full ≡ (o.full || ltb 8192 (o.count + m)) → r ≡ emits o (replicate m t)
+      → tags ≡ replicate (length (mid_of from (to - from) o.tags)) tag → values ≡ replicate (length (mid_of from (to - from) o.values)) value
+      → r.tags ≡ put_mid from (to - from) o.tags tags → r.values ≡ put_mid from (to - from) o.values values
+      → r.count ≡ o.count + many → r.full ≡ (o.full || ltb many m) → r ≡ emits o (replicate m t)
   unfolding emits
   many-written tags values tags-long values-long tags-filled values-filled r-tags r-values r-count r-full =
       let ks = map code_of (replicate m t) in
       let w = puts-written ks o in
       let n : length ks ≡ m = length-map (replicate m t) code_of ∙ length-replicate m t in
-      let room : ℕ = min (8192 - o.count) m in
+      let k : min (room o) m ≡ many = omega (arith, few, room-is) in
       same_output r (emits o (replicate m t))
-      (r-tags ∙ filled-sets o.tags tags o.count m to tag tags-long o.within end tags-filled ∙ sym (w.tags ∙ ap (sets o.tags o.count) (front (λ k. k.tag) ∙ ap (replicate room) (sym tag-is))))
-      (r-values ∙ filled-sets o.values values o.count m to value values-long o.within end values-filled ∙ sym (w.values ∙ ap (sets o.values o.count) (front (λ k. k.value) ∙ ap (replicate room) (sym value-is))))
-      (r-count ∙ end ∙ sym (w.count ∙ ap (λ (i : ℕ). min (o.count + i) 8192) n))
-      (r-full ∙ sym (w.full ∙ ap (λ (i : ℕ). o.full || ltb 8192 (o.count + i)) n))
+      (r-tags ∙ filled-sets o.tags tags o.count from to many tag tags-long (omega (arith, few, behind)) begin end tags-filled ∙ sym (w.tags ∙ ap (sets o.tags o.count) (front (λ k. k.tag) ∙ ap₂ replicate k (sym tag-is))))
+      (r-values ∙ filled-sets o.values values o.count from to many value values-long (omega (arith, few, behind)) begin end values-filled ∙ sym (w.values ∙ ap (sets o.values o.count) (front (λ k. k.value) ∙ ap₂ replicate k (sym value-is))))
+      (r-count ∙ sym (w.count ∙ ap (λ (i : ℕ). o.count + i) (ap (min (room o)) n ∙ k)))
+      (r-full ∙ ap (λ (b : Bool). o.full || b) (same-test many m (room o) (length ks) (λ h. omega (arith, h, k, n)) (λ h. omega (arith, h, k, n))) ∙ sym w.full)
     where
-      front : (f : TagValue → ℕ) → map f (take (8192 - o.count) (map code_of (replicate m t))) ≡ replicate (min (8192 - o.count) m) (f (code_of t))
+      front : (f : TagValue → ℕ) → map f (take (room o) (map code_of (replicate m t))) ≡ replicate (min (room o) m) (f (code_of t))
       front f =
-          rw (map-replicate code_of m t, ← take_min (8192 - o.count) (replicate m (code_of t)), length-replicate m (code_of t), take-replicate (min (8192 - o.count) m) m (code_of t) (omega arith)) (map-replicate f (min (8192 - o.count) m) (code_of t))
+          rw (map-replicate code_of m t, ← take_min (room o) (replicate m (code_of t)), length-replicate m (code_of t), take-replicate (min (room o) m) m (code_of t) (omega arith)) (map-replicate f (min (room o) m) (code_of t))

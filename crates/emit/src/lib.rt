@@ -18,6 +18,7 @@ pub use output::Output;
 mod output;
 
 // A token, then the items that stand there.
+// Stays (no plainer): output and source, here and below: a struct of both would promise at each call that both references stay.
 fn put_items(output: &mut Output, source: &Source<'_>, head: Token, s: Span)
     ensures { (l : List Token) → Copies (tokens_of source.now) l s.at s.end → output.new ≡ emits output.old (head ∷ l) }
 {

@@ -1,6 +1,4 @@
 // The output's tokens, one written after the other.
-ghost use Rattle.std.specs.Prelude.{◌≡◌, ◌≤◌, true};
-
 use definitions::{Token, WORKING_TOKENS};
 
 // Arrays of tags and of values, apart as a sheet's bytes have them, of which so many are written; full, where a token had no place.
@@ -12,20 +10,29 @@ pub struct Output {
     pub count: usize,
     // Stays (no plainer): what is written goes on past a token without a place, and would hand its answer on through each writer.
     pub full: bool,
-    pub ghost within: { count ≤ 8192 },
-    pub ghost none_left: { full ≡ true → count ≡ 8192 },
 }
 
 impl Output {
-    ghost use Rattle.std.specs.Prelude.{[], ◌∷◌, replicate};
+    ghost use Rattle.std.specs.Prelude.{◌≡◌, ◌≤◌, ◌-◌, [], ◌∷◌, replicate};
     ghost use Rattle.definitions.specs.Tokens.{tag_value};
-    ghost use Rattle.emit.specs.Out.{puts, emits};
+    ghost use Rattle.emit.specs.Out.{room, puts, emits};
+
+    // For how many tokens more there is room: none, where one had no place.
+    fn room(&self) -> usize
+        ensures room { result ≡ room self.now }
+        ensures behind { result ≤ 8192 - self.now.count }
+    {
+        if self.full {
+            return 0;
+        }
+        WORKING_TOKENS.saturating_sub(self.count)
+    }
 
     // A tag and a value.
     pub fn put(&mut self, tag: u8, value: u32)
         ensures { self.new ≡ puts self.old (tag_value tag value ∷ []) }
     {
-        if self.count < WORKING_TOKENS {
+        if 0 < self.room() {
             self.tags[self.count] = tag;
             self.values[self.count] = value;
             self.count += 1;
@@ -56,13 +63,12 @@ impl Output {
         ensures { self.new ≡ emits self.old (replicate m t) }
     {
         let (tag, value) = grammar::code_of(t);
-        let end = self.count + m as usize;
-        let to = end.min(WORKING_TOKENS);
-        self.tags[self.count..to].fill(tag);
-        self.values[self.count..to].fill(value);
-        self.count = to;
-        if to < end {
-            self.full = true;
-        }
+        let many = self.room().min(m as usize);
+        let from = self.count.min(WORKING_TOKENS);
+        let to = from + many;
+        self.tags[from..to].fill(tag);
+        self.values[from..to].fill(value);
+        self.count += many;
+        self.full |= many < m as usize;
     }
 }

@@ -20,8 +20,11 @@ use Rattle.findings.specs.Value.{fault_of, found_of}
 use Rattle.infer_clocks.specs.Clocked.{is_deep, Deeply}
 use Rattle.stateless.proofs.Answers.{text-refused}
 use Rattle.lines.specs.Lending.{lent_text, Gives}
-use Rattle.query.specs.Standing.{first_from}
-use Rattle.query.proofs.Nodes.{first-deep, first-behind, first-there}
+use Rattle.query.specs.declared.FoundNode.{FoundNode}
+use Rattle.query.specs.Standing.{first_from, FoundAt, NodeFound}
+use Rattle.query.proofs.Nodes.{found-at, first-deep, first-behind, first-there}
+use Rattle.index.specs.declared.Index.{Index}
+use Rattle.index.specs.Indexed.{Indexed}
 use Rattle.findings.specs.declared.Found as value
 use Rattle.std.specs.Prelude as rust
 use Rattle.std.specs.Prelude.{None, Some, ok_or}
@@ -112,6 +115,16 @@ module _ (names : List Letters) (letters : ℕ → Letters) (e : letters ≡ let
   pub text-missing : (o : rust.Option value.Found) (x : Refusal) (r : Result ℕ Refusal) → o ≡ None → ◌≡◌ {A = Result value.Found Refusal} (Err x) (ok_or o Refusal.Missing) → r ≡ Err x → ListingGiven (text_in names (found_of o) (length lent)) lent lent r
   text-missing None x r h v g = let y : x ≡ Refusal.Missing = cc in rw (g, y) text-none
   text-missing (Some f) x r h v g = let z : ◌≡◌ {A = ℕ} 0 1 = cc in absurd (omega arith)
+
+-- ---- what is known behind the search for node k: the sheet is indexed, what was found, and the tables keep their room
+pub record Sought (index : Index) (i : Input) (k : ℕ) (r : Result FoundNode Refusal) (w : Working) : Type 0 where
+  pub indexed : Indexed index i
+  pub found : NodeFound index.source i k r
+  pub room : RoomToPlan index.source.names (length index.source.tags.now) w
+
+-- the node, where it was found
+pub node-of : {index : Index} {i : Input} {k : ℕ} {r : Result FoundNode Refusal} {w : Working} (f : FoundNode) → Sought index i k r w → r ≡ Ok f → FoundAt index.source i k f
+node-of {index} {i} {k} f z e = found-at index.source i k f (rw e at z.found)
 
 -- ---- room to plan, by the source that the index has
 pub room-of : {s s' : Source} {w : Working} → s' ≡ s → RoomToPlan s.names (length s.tags.now) w → RoomToPlan s'.names (length s'.tags.now) w

@@ -54,7 +54,7 @@ pub fn text_in(
     let index = index::index_of(source, names.condact());
     let nodes = index.whole.nodes;
     let FoundNode { layout, behind } = query::find_node(&index.source, nodes, k, working)?;
-    let mut holds = [HeldOperand { at: 0, row: 0 }; MOST_NAMES];
+    let mut holds = [HeldOperand::default(); MOST_NAMES];
     let fault = first_faults::fault_in(&index, k, layout, j, working, &mut holds)?;
     behind?;
     text_found(out, names, fault)
@@ -123,7 +123,7 @@ fn put_lines(
     ensures same_room { SameRoom working.old working.new }
     ensures text_stands { (i : Input) → Indexed index.now i → letters_in names.entry.spelling ≡ letters_of i.names → RoomToPlan index.now.source.names (length index.now.source.tags.now) working.old → TextStands (lines_text i) out.old out.new result }
 {
-    let mut holds = [HeldOperand { at: 0, row: 0 }; MOST_NAMES];
+    let mut holds = [HeldOperand::default(); MOST_NAMES];
     let mut text = TextWriter { out, at: 0 };
     write_lines(&mut text, names, index, working, &mut holds)
 }

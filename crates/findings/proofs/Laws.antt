@@ -13,7 +13,8 @@ use Rattle.definitions.specs.Clock.{Clock, is_base}
 use Rattle.std.proofs.Math.Option.{none, some}
 use Rattle.std.proofs.Math.ListN.{get_elem?}
 use lib.Dec.{eqb, ltb}
-use borrow.Author.Tests.{ltb-true, ltb-false}
+use borrow.Author.Tests.{ltb-true, ltb-false, ne_eqb}
+use Rattle.std.proofs.lemmas.Bool.{le-ltb}
 use Rattle.std.specs.Prelude.{Some, None}
 use Rattle.std.specs.List.{range_with_len, list_any, filter, slice_get}
 use Rattle.std.proofs.lemmas.Option.{slice_get-get_or, slice_get_within, get_or_from_slice_get}
@@ -54,6 +55,18 @@ module _ (t : List ℕ) where
 
   pub in-last : (n : ℕ) → findings_in t (n + 1) ≡ findings_in t n ++ (finding_in t (38 * n) ∷ [])
   in-last n = let e : 0 + n ≡ n = omega arith in rw (add-one n) (from_last 0 n ∙ rw e)
+
+-- ---- a row by its kind
+-- a kind past the others says too deep a clock
+pub deep-row : (t : List ℕ) (b k : ℕ) → k ≡ get_or t (b + 0) 0 → 6 ≤ k → too_deep ≡ finding_in t b
+deep-row t b k e h =
+    let z : b + 0 ≡ b = omega arith in
+    let f : k ≡ get_or t b 0 = rw z at e in
+    rw (le-ltb (get_or t b 0) 5 (omega (arith, f, h)), ne_eqb (get_or t b 0) 5 (λ q. omega (arith, f, h, q))) refl
+
+-- the kind behind the faults says a site
+pub site-kind : (k x w i : ℕ) (c d e : Clock) → k ≡ 5 → d ≡ e → finding_as k x w i c d ≡ site e
+site-kind k x w i c d e h j = rw (h, j) refl
 
 -- ---- a row is its words
 module _ (t t' : List ℕ) where

@@ -207,28 +207,30 @@ fn clock_at(t: &[u32], i: usize, j: usize) -> Clock
 }
 
 // The fault of a row that has one.
-fn fault_of(row: Row) -> ClockFault
-    ensures { clock_fault_of result ≡ fault_as row.kind row.elsewhere.name row.flag (value_of row.elsewhere.on) (value_of row.elsewhere.expected) }
-{
-    let elsewhere = row.elsewhere;
-    match row.kind {
-        1 => {
-            let port = row.flag == 1;
-            ClockFault::LeftElsewhere { elsewhere, port }
-        }
-        2 => ClockFault::UsedElsewhere(elsewhere),
-        3 => {
-            let test = clock_tables::test_of(row.flag);
-            let condition = Condition {
-                name: elsewhere.name,
-                test,
-            };
-            ClockFault::WhenElsewhere {
-                condition,
-                expected: elsewhere.expected,
+impl From<Row> for ClockFault {
+    fn from(row: Row) -> ClockFault
+        ensures { clock_fault_of result ≡ fault_as row.kind row.elsewhere.name row.flag (value_of row.elsewhere.on) (value_of row.elsewhere.expected) }
+    {
+        let elsewhere = row.elsewhere;
+        match row.kind {
+            1 => {
+                let port = row.flag == 1;
+                ClockFault::LeftElsewhere { elsewhere, port }
             }
+            2 => ClockFault::UsedElsewhere(elsewhere),
+            3 => {
+                let test = clock_tables::test_of(row.flag);
+                let condition = Condition {
+                    name: elsewhere.name,
+                    test,
+                };
+                ClockFault::WhenElsewhere {
+                    condition,
+                    expected: elsewhere.expected,
+                }
+            }
+            _ => ClockFault::ClockNameElsewhere(elsewhere),
         }
-        _ => ClockFault::ClockNameElsewhere(elsewhere),
     }
 }
 
@@ -263,7 +265,7 @@ fn finding_in(table: &[u32], i: usize) -> Finding
     let row = row_in(table, i);
     Finding::Fault {
         equation: row.equation,
-        fault: fault_of(row),
+        fault: ClockFault::from(row),
     }
 }
 
@@ -347,7 +349,7 @@ impl FindingList<'_> {
         let i = (0..self.count).filter(|&i| is_fault(words, i)).nth(j)?;
         let row = row_in(words, i);
         Some(Found {
-            fault: Fault::Clock(fault_of(row)),
+            fault: Fault::Clock(ClockFault::from(row)),
             equation: row.equation,
         })
     }

@@ -2,7 +2,7 @@
 -- Assumes nothing.
 use Prim.Native.Nat.{ℕ, zero, suc, ◌+◌, ◌≤◌, ◌<◌, min}
 use mathlib.Core.Path.{◌≡◌, refl, sym, ap, ◌∙◌, subst}
-use mathlib.Core.List.{List, [], ◌∷◌, ◌++◌, append-nil}
+use mathlib.Core.List.{List, [], ◌∷◌, ◌++◌}
 use mathlib.Core.Bool.{Bool, true, false}
 use mathlib.Core.Option.{Option, none, some, none-ne-some, some-injective}
 use native.Mathlib.Omega.{arith}
@@ -27,19 +27,12 @@ use Rattle.query.proofs.Entries.{set-behind}
 use Rattle.first_faults.specs.Faults.{fault_in, Recorded}
 
 -- ---- records over a list
-over-long : (l lent : List FaultRecord) → length (over l lent) ≡ length lent
+pub over-long : (l lent : List FaultRecord) → length (over l lent) ≡ length lent
 over-long [] lent = refl
 over-long (f ∷ l) [] = refl
 over-long (f ∷ l) (g ∷ lent) = ap suc (over-long l lent)
 
--- ---- the first of a node's faults behind others
-module _ (lent l : List FaultRecord) (m : ℕ) (now : List FaultRecord) (h : Recorded lent l m now) (node : ℕ) where
-  -- there is none
-  pub record-none : (fs : List NodeFault) → none ≡ get_elem? fs 0 → Recorded lent (l ++ first_of node fs) m now
-  record-none [] e = record { counted = h.counted ∙ ap length (sym (append-nil l)); written = h.written ∙ ap (λ (x : List FaultRecord). over x lent) (sym (append-nil l)) }
-  record-none (g ∷ fs) e = absurd (none-ne-some g e)
-
--- there is one: its record
+-- ---- the first of a node's faults behind others: its record
 module _ (lent l : List FaultRecord) (m : ℕ) (now : List FaultRecord) (h : Recorded lent l m now) (node : ℕ) (fs : List NodeFault) (f : NodeFault) (told : some f ≡ get_elem? fs 0) where
   first-is : first_of node fs ≡ record { node = node; fault = fault_number f.fault; equation = f.equation } ∷ []
   first-is = go fs told

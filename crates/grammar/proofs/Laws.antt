@@ -2,6 +2,7 @@
 -- Assumes nothing.
 use Rattle.std.specs.Prelude.{Result, Ok, Err}
 use Rattle.std.specs.Result.{IsErr, IsErrAnd}
+use Rattle.std.specs.Option.{ok_or}
 use Rattle.std.proofs.lemmas.Result.{err_from_is_err_and}
 use mathlib.Core.Path.{◌≡◌, refl, sym, ◌∙◌, ap}
 use mathlib.Core.List.{List, [], ◌∷◌}
@@ -15,10 +16,10 @@ use Rattle.definitions.specs.declared.Refusal.{Refusal}
 use Rattle.definitions.specs.declared.Primitive.{Primitive}
 use Rattle.definitions.specs.declared.ExprToken.{ExprToken}
 use Rattle.definitions.specs.declared.TypeToken.{TypeToken}
-use Rattle.definitions.specs.Tokens.{TagValue, words, type_token_of, expr_token_of}
+use Rattle.definitions.specs.Tokens.{TagValue, type_token_of, expr_token_of}
 use Rattle.definitions.specs.Tree.{Expr}
 use Rattle.definitions.specs.Reading.{Got, got, rejected, Reader, after, allowed, at_token, token, limited, times}
-use Rattle.definitions.specs.Grammar.{tagged, counted, name, ty, exprs, fields, form, expr}
+use Rattle.definitions.specs.Grammar.{name, ty, exprs, fields, form, expr}
 use Rattle.definitions.specs.Bytes.{tokens}
 use Rattle.std.specs.declared.option.Option as code
 use Rattle.std.specs.declared.option.Option.TheVariants.{None, Some}
@@ -106,6 +107,13 @@ list-got (rejected t) r n q e g = let z : ◌≡◌ {A = ℕ} 0 1 = cc in absurd
 pub passes : {A : Type 0} (r w : Result A Refusal) (t : Refusal) → IsErr r × IsErrAnd r (λ y. y ≡ t) → Err t ≡ w → r ≡ w
 passes r w t e h = let p = err_from_is_err_and r e.1 in rw (p.1, p.2) h
 
+-- the same, where an option gave nothing
+pub none-passes : {A B : Type 0} (o : code.Option A) (u : Refusal) (r w : Result B Refusal) (t : Refusal) → Err t ≡ ok_or o u → o ≡ None → IsErr r × IsErrAnd r (λ y. y ≡ t) → Err u ≡ w → r ≡ w
+none-passes {A} o u r w t e n i h =
+    let f : ◌≡◌ {A = Result A Refusal} (Err t) (Err u) = rw n at e in
+    let g : t ≡ u = cc in
+    passes r w t i (ap Err g ∙ h)
+
 -- a first reading that gave something, and the rest; one that was refused; a rest that only wraps what was read
 pub then : {A B : Type 0} (x : Got A) (f : A → ℕ → Got B) (a : A) (q : ℕ) (s : Result ℕ Refusal) → x ≡ got a q → s ≡ outcome (f a q) → s ≡ outcome (after x f)
 then x f a q s e h = rw e h
@@ -127,13 +135,6 @@ stopped x f r t e g = stop x f t (refused x r t e g)
 pub counting : {B : Type 0} (x : Got ℕ) (f : ℕ → ℕ → Got B) (r : Result (ℕ × ℕ) Refusal) (s : Result ℕ Refusal) (n q : ℕ) → r ≡ told x → r ≡ Ok (n, q) → s ≡ outcome (f n q) → s ≡ outcome (after x f)
 counting x f r s n q e g h = then x f n q s (told-got x r n q e g) h
 
--- a count, by the word that stands there
-module _ (ts : List TagValue) (p : ℕ) (r : Result (ℕ × ℕ) Refusal) where
-  module _ (tag low most : ℕ) (e : r ≡ told (tagged tag words ts p)) where
-    pub count-few : (n q : ℕ) → r ≡ Ok (n, q) → n < low → Err (Refusal.Limit p) ≡ told (counted tag low most ts p)
-    unfolding counted limited
-    count-few n q g h = rw (told-got (tagged tag words ts p) r n q e g) (simp (lt-leb low n h))
-
 -- a reading in two parts, by the outcomes of both
 pub onward-after : {A B : Type 0} (x : Got A) (f : A → ℕ → Got B) (s : ℕ → Result ℕ Refusal) → ((a : A) (q : ℕ) → outcome (f a q) ≡ s q) → outcome (after x f) ≡ onward (outcome x) s
 onward-after (got a q) f s h = h a q
@@ -143,17 +144,8 @@ onward-again : (x : Result ℕ Refusal) (f g : ℕ → Result ℕ Refusal) → o
 onward-again (Ok q) f g = refl
 onward-again (Err t) f g = refl
 
-pub onward-ok : (x : Result ℕ Refusal) (f : ℕ → Result ℕ Refusal) (q : ℕ) (y : Result ℕ Refusal) → x ≡ Ok q → f q ≡ y → onward x f ≡ y
-onward-ok x f q y e h = rw e h
-
-pub onward-err : (x : Result ℕ Refusal) (f : ℕ → Result ℕ Refusal) (t : Refusal) → x ≡ Err t → onward x f ≡ Err t
-onward-err x f t e = rw e
-
 -- so many readings in a row, whose whole outcome is w: none is left; one more; one that is refused
 module _ (r : ℕ → Result ℕ Refusal) where
-  pub repeated_begins : (k p : ℕ) → repeated k r p ≡ repeated (k - 0) r p
-  repeated_begins k p = let j : k ≡ k - 0 = omega arith in ap (λ (m : ℕ). repeated m r p) j
-
   pub repeated-ends : (k p : ℕ) → k ≤ 0 → repeated k r p ≡ Ok p
   unfolding repeated
   repeated-ends zero p e = refl

@@ -14,7 +14,7 @@ use Rattle.definitions.specs.Grammar.{high, count, counted, exprs, fields, const
 use Rattle.grammar.specs.declared.Shape.{Shape}
 use Rattle.grammar.specs.Outcome.{outcome, told}
 use Rattle.grammar.specs.Shape.{shape_of, literal_shape, following}
-use Rattle.grammar.proofs.Laws.{wrap, counting, expr-step, told-got}
+use Rattle.grammar.proofs.Laws.{wrap, expr-step, told-got}
 
 -- two readings that go on alike have the same outcome
 pub alike : {A B C : Type 0} (x : Got A) (f : A → ℕ → Got B) (g : A → ℕ → Got C) → ((a : A) (q : ℕ) → outcome (f a q) ≡ outcome (g a q)) → outcome (after x f) ≡ outcome (after x g)
@@ -79,10 +79,3 @@ pub expr-follows : (M : ℕ) (ts : List TagValue) (p : ℕ) (r : Result (ExprTok
 expr-follows M ts p r i d q h e n z j s f =
     f ∙ (ap (λ (y : Shape). outcome (following M y (expr M (d - 1)) ts q)) j ∙ (sym (formed M (expr M (d - 1)) ts q h) ∙
     ap outcome (sym (expr-step M ts p d q h n (told-got (token (expr_token_of M) ts p) r h q i e)))))
-
--- what follows, by its shape
-module _ (M : ℕ) (R : Reader Expr) (ts : List TagValue) (p : ℕ) where
-  module _ (r : Result (ℕ × ℕ) Refusal) (e : r ≡ told (counted 3 0 64 ts p)) where
-    pub record-more : (n q : ℕ) (s : Result ℕ Refusal) → r ≡ Ok (n, q) → s ≡ outcome (fields M n R ts q) → s ≡ outcome (following M Shape.Fields R ts p)
-    unfolding following count
-    record-more n q s g h = counting (counted 3 0 64 ts p) _ r s n q e g (h ∙ wrap (fields M n R ts q) _)

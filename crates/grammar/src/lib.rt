@@ -1,7 +1,7 @@
 // Reading a sheet's tokens: one token at a place, all of them in their order.
 #![tactic(auto)]
 
-ghost use Rattle.std.specs.Prelude.{◌≡◌, ℕ, ◌<◌, ◌^◌, IfSome, Ok, Result};
+ghost use Rattle.std.specs.Prelude.{◌≡◌, ℕ, ◌<◌, ◌^◌, IfSome, Result};
 ghost use Rattle.std.proofs.Math.Option.{Option};
 ghost use Rattle.definitions.specs.Tokens.{type_token_of, definition_token_of, expr_token_of, words};
 ghost use Rattle.definitions.specs.Reading.{token};
@@ -69,13 +69,9 @@ fn read_token<T, F: Fn(u8, u32) -> Option<T>>(
     requires { F.IsAlwaysCallable find }
     ensures { (f : ℕ → ℕ → Option T) → Finds (F.post find) f → result ≡ told (token f (tokens_of source.now) at) }
 {
-    let Some((tag, value, next)) = token_at(source, at) else {
-        return Err(Refusal::Token(at));
-    };
-    match find(tag, value) {
-        Some(t) => Ok((t, next)),
-        None => Err(Refusal::Token(at)),
-    }
+    let (tag, value, next) = token_at(source, at).ok_or(Refusal::Token(at))?;
+    let t = find(tag, value).ok_or(Refusal::Token(at))?;
+    Ok((t, next))
 }
 
 // So many parts in a row, each of which `read` reads: the place after the last.
@@ -219,6 +215,7 @@ fn literal_shape(l: Literal) -> Shape
 }
 
 // What follows an expression's first token.
+// Stays (no plainer): no `From`, as for constants above: what follows a token is read from it, and is no other form of it.
 pub fn shape_of(t: ExprToken) -> Shape
     ensures { result ≡ shape_of t }
 {
@@ -241,26 +238,11 @@ pub fn shape_of(t: ExprToken) -> Shape
     }
 }
 
-// A name that stands there, in an expression that may be so deep: the place after it.
-// Stays (speed): `rewrite` of 4,096 tokens without a clock misses its bar; unproved it takes 855,000 instructions, by tokens 1,065,000.
-#[tactic(auto, unfolding(definitions::specs::Grammar::expr, definitions::specs::Grammar::form, definitions::specs::Tokens::expr_token_of))]
-fn var_end(source: &Source<'_>, depth: u32, at: usize) -> Option<usize>
-    ensures { IfSome result (λ next. Ok next ≡ outcome (expr source.now.names depth (tokens_of source.now) at)) }
-{
-    match token_at(source, at) {
-        Some((tags::VAR, value, next)) if 0 < depth && value < source.names => Some(next),
-        _ => None,
-    }
-}
-
 // An expression at most `depth` deep.
 #[cycle(reading)]
 fn read_expr(source: &Source<'_>, depth: u32, at: usize) -> Result<usize, Refusal>
     ensures { result ≡ outcome (expr source.now.names depth (tokens_of source.now) at) }
 {
-    if let Some(next) = var_end(source, depth, at) {
-        return Ok(next);
-    }
     let (t, next) = expr_head(source, at)?;
     if depth == 0 {
         return Err(Refusal::Limit(at));
@@ -386,7 +368,7 @@ fn read_probe(source: &Source<'_>, at: usize) -> Result<usize, Refusal>
 }
 
 // Names behind their count, which is from `low` to `most`.
-// Stays (no plainer): here and below two lines read a count, then so many parts; one function would take tag, limits, reader and place.
+// Stays (no plainer): here, above and below two lines read a count, then parts; one function would take tag, limits, reader, place.
 #[tactic(auto, unfolding(crate::specs::Parts::names))]
 fn read_names(source: &Source<'_>, low: u32, most: u32, at: usize) -> Result<usize, Refusal>
     ensures { result ≡ outcome (names source.now.names low most (tokens_of source.now) at) }

@@ -2,6 +2,7 @@
 ghost use Rattle.std.specs.Prelude.{◌≡◌, ◌<◌, ◌^◌, length, IfSome};
 
 // A sheet's tokens, their tags beside their values, and how many names it has.
+// Stays (C interface): two slices, as a sheet's bytes have them: "A reader borrows the sheet's tags and values", says document 01.
 #[derive(Clone, Copy)]
 pub struct Source<'a> {
     pub tags: &'a [u8],

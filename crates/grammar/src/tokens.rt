@@ -12,26 +12,15 @@ use definitions::{
     BinOp, DefinitionToken, ExprToken, Literal, Primitive, Token, TypeToken, UnaryOp,
 };
 
-// "10 enum(id), 11 record(id), 12 alias(id)": the token of a tag among these, its id in range.
-#[tactic(auto, unfolding(definitions::specs::Tokens::definition_token_of))]
-fn definition_token(tag: u8, value: u32) -> DefinitionToken
-    requires { (10 ≤ tag) × (tag ≤ 12) }
-    ensures { (M : ℕ) → value < M → definition_token_of M tag value ≡ some result }
-{
-    match tag {
-        tags::ENUM => DefinitionToken::Enum(value),
-        tags::RECORD => DefinitionToken::Record(value),
-        _ => DefinitionToken::Alias(value),
-    }
-}
-
-// The first token of a definition that a tag and a value are, if they are one.
+// The first token of a definition that a tag and a value are, if they are one: "10 enum(id), 11 record(id), 12 alias(id)".
 #[tactic(auto, unfolding(definitions::specs::Tokens::definition_token_of))]
 pub(crate) fn find_definition(names: u32, tag: u8, value: u32) -> Option<DefinitionToken>
     ensures { option_of result ≡ definition_token_of names tag value }
 {
     match tag {
-        tags::ENUM..=tags::ALIAS if value < names => Some(definition_token(tag, value)),
+        tags::ENUM => (value < names).then_some(DefinitionToken::Enum(value)),
+        tags::RECORD => (value < names).then_some(DefinitionToken::Record(value)),
+        tags::ALIAS => (value < names).then_some(DefinitionToken::Alias(value)),
         _ => None,
     }
 }
@@ -52,10 +41,9 @@ pub(crate) fn find_type(names: u32, tag: u8, value: u32) -> Option<TypeToken>
     }
 }
 
-// "50 bool(0/1)" to "71 fold(id)": the token of a tag among these, if its value is in range.
+// The first token of an expression that a tag and a value are, if they are one: "50 bool(0/1)" to "71 fold(id)".
 #[tactic(auto, unfolding(definitions::specs::Tokens::expr_token_of))]
-fn expr_token(names: u32, tag: u8, value: u32) -> Option<ExprToken>
-    requires { (50 ≤ tag) × (tag ≤ 71) }
+pub(crate) fn find_expr(names: u32, tag: u8, value: u32) -> Option<ExprToken>
     ensures { option_of result ≡ expr_token_of names tag value }
 {
     match tag {
@@ -80,17 +68,7 @@ fn expr_token(names: u32, tag: u8, value: u32) -> Option<ExprToken>
         tags::WHEN_NOT => (value < names).then_some(ExprToken::WhenNot(value)),
         tags::MERGE => (value < names).then_some(ExprToken::Merge(value)),
         tags::MAP => (value < names).then_some(ExprToken::Map(value)),
-        _ => (value < names).then_some(ExprToken::Fold(value)),
-    }
-}
-
-// The first token of an expression that a tag and a value are, if they are one.
-#[tactic(auto, unfolding(definitions::specs::Tokens::expr_token_of))]
-pub(crate) fn find_expr(names: u32, tag: u8, value: u32) -> Option<ExprToken>
-    ensures { option_of result ≡ expr_token_of names tag value }
-{
-    match tag {
-        tags::BOOL..=tags::FOLD => expr_token(names, tag, value),
+        tags::FOLD => (value < names).then_some(ExprToken::Fold(value)),
         _ => None,
     }
 }

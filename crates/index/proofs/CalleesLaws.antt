@@ -17,16 +17,20 @@ use Rattle.definitions.specs.Lists.{choose, find, place_by}
 use Rattle.definitions.specs.declared.values.UnknownValue.{UnknownValue}
 use Rattle.definitions.specs.Tokens.{converted, kind_of}
 use Rattle.definitions.specs.Bytes.{tokens}
-use Rattle.definitions.specs.Tree.{Node}
+use Rattle.definitions.specs.Tree.{Ty, TypeDef, Node}
 use Rattle.definitions.specs.Reading.{got}
-use Rattle.definitions.specs.Grammar.{declaration, equation, probe, node}
+use Rattle.definitions.specs.Grammar.{ty, declaration, equation, probe, node}
+use Rattle.definitions.specs.Types.{default}
 use Rattle.definitions.specs.Declock.{is_operator_kind, operator_outputs}
 use Rattle.grammar.specs.Read.{tokens_of}
 use Rattle.layout.specs.declared.Span.{Span}
 use Rattle.layout.specs.Spans.{past_in, kind_in, kind_or, Spanned, Spans}
-use Rattle.layout.specs.Table.{Found}
+use Rattle.layout.specs.Table.{Found, Table}
 use Rattle.layout.proofs.Laws.{nowhere, laid, spanned-by}
 use Rattle.layout.proofs.TypedefsLaws.{found}
+use Rattle.cycles.specs.declared.TypeTable.{TypeTable}
+use Rattle.defaults.specs.Has as defaulted
+use Rattle.defaults.specs.Has.{DefaultsKnown}
 use Rattle.index.specs.declared.Index.{Index}
 use Rattle.index.specs.Callees.{first_named, operator_in, is_there, OutputsStand}
 use Rattle.index.specs.Indexed.{NodesIn, OperatorStands}
@@ -131,3 +135,9 @@ module _ (t : Index) (l : List Node) (s : NodesIn t l) where
   operator-called f r p h e b s o eb ei eo =
       let k : OperatorStands t f l (Some p) = rw e at h in
       rw (operator-named f k.0 k.2 k.1 p k.3 k.4) ((at_place k.0 k.1).2 p b s o k.3 eb ei eo)
+
+-- whether a type has a default, by the table that the index lends
+pub lent-has : (t : TypeTable) (d : Index) → (t.source ≡ d.source) × (t.places.now ≡ d.types) → (at : ℕ) (has : List Bool) (b : Bool) →
+    ((types : List TypeDef) (a : Ty) (q : ℕ) → Table t.source.names (tokens_of t.source) t.places.now.at t.places.now.count types → DefaultsKnown types t.places.now.count t.places.now.count has → ty t.source.names 8 (tokens_of t.source) at ≡ got a q → b ≡ defaulted.is_some (default types a)) →
+    (types : List TypeDef) (a : Ty) (q : ℕ) → Table d.source.names (tokens_of d.source) d.types.at d.types.count types → DefaultsKnown types d.types.count d.types.count has → ty d.source.names 8 (tokens_of d.source) at ≡ got a q → b ≡ defaulted.is_some (default types a)
+lent-has t d e at has b f = rw (e.0, e.1) at f

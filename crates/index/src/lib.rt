@@ -3,10 +3,13 @@
 
 ghost use Rattle.std.specs.Prelude.{◌≡◌, List, ℕ};
 ghost use Rattle.grammar.specs.Read.{tokens_of};
-ghost use Rattle.definitions.specs.Tree.{Node};
+ghost use Rattle.definitions.specs.Tree.{Ty, TypeDef, Node};
 ghost use Rattle.definitions.specs.Declock.{operator_outputs};
 ghost use Rattle.definitions.specs.Reading.{got};
-ghost use Rattle.definitions.specs.Grammar.{sheet};
+ghost use Rattle.definitions.specs.Grammar.{sheet, ty};
+ghost use Rattle.definitions.specs.Types.{default};
+ghost use Rattle.layout.specs.Table.{Table};
+ghost use Rattle.defaults.specs.Has.{is_some, DefaultsKnown};
 ghost use Rattle.definitions.specs.Output.{condact_id};
 ghost use Rattle.definitions.specs.Answer.{Input};
 ghost use Rattle.index.specs.Callees.{operator_in, is_there, OutputsStand};
@@ -73,6 +76,13 @@ impl<'a> Index<'a> {
             source: self.source,
             places: &self.types,
         }
+    }
+
+    // Has the type at a place a default?
+    pub fn has_default(&self, at: usize) -> bool
+        ensures { (types : List TypeDef) (t : Ty) (q : ℕ) → Table self.now.source.names (tokens_of self.now.source) self.now.types.at self.now.types.count types → DefaultsKnown types self.now.types.count self.now.types.count self.now.has → ty self.now.source.names 8 (tokens_of self.now.source) at ≡ got t q → result ≡ is_some (default types t) }
+    {
+        defaults::type_has_default(&self.type_table(), &self.has, at)
     }
 
     // The place of the second token of the first node of a name, where it is an operator.

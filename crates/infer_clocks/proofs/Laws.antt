@@ -3,6 +3,7 @@ use mathlib.Core.Path.{◌≡◌, refl, sym, ◌∙◌, ap}
 use mathlib.Core.List.{List, [], ◌∷◌, ◌++◌, map, append_assoc, append-nil}
 use mathlib.Core.Bool.{Bool, true, false}
 use mathlib.Core.Logic.{inl, inr}
+use mathlib.Core.Option.{Option}
 use Prim.Native.Nat.{ℕ, suc, ◌+◌, ◌-◌, ◌*◌, ◌≤◌, ◌<◌}
 use native.Mathlib.Omega.{arith}
 use native.Mathlib.Numerals.{add-one}
@@ -30,20 +31,19 @@ use Rattle.grammar.proofs.Laws.{tokens-length}
 use Rattle.grammar.proofs.Got.{times-nil, times-cons}
 use Rattle.grammar.proofs.Longer.{times-keeps, keeps, equation-grows}
 use Rattle.clock_tables.specs.Environment.{Agrees}
-use Rattle.operands.specs.Spread.{tree}
-use Rattle.layout.specs.declared.EquationLayout.{EquationLayout}
 use Rattle.layout.specs.declared.NodeLayout.{NodeLayout}
-use Rattle.layout.specs.Laid.{LaidNode, LaidEquation}
+use Rattle.layout.specs.Laid.{LaidNode}
 use Rattle.findings.specs.Findings.{findings_in, FindingsHeld}
 use Rattle.findings.proofs.Laws.{holds-none, holds_fits, length_from}
 use Rattle.clock_tables.specs.Rows.{clocks_in, RowsHold}
 use Rattle.clock_tables.proofs.RowsLaws as row-laws
 use Rattle.inference.specs.Passes.{Marked, Infers}
 use Rattle.checking.specs.declared.CheckOutput.{CheckOutput}
-use Rattle.checking.specs.Walk.{PortMarks}
+use Rattle.checking.specs.declared.CheckInput.{CheckInput}
+use Rattle.checking.specs.Walk.{ReadsNode}
 use Rattle.checking.proofs.Size.{equations-fit}
 use Rattle.infer_clocks.specs.declared.NodeClocked.{NodeClocked}
-use Rattle.infer_clocks.specs.Clocked.{is_deep, found_in, found_from, joined, Tallied, Counted, ClockedOrDeep, Deeply}
+use Rattle.infer_clocks.specs.Clocked.{is_deep, found_in, found_from, joined, Tallied, Counted, ClockedOrDeep, Deeply, RoomToClock}
 
 -- ---- findings after findings
 module _ (fs gs : List Finding) where
@@ -69,6 +69,13 @@ joined-none (formed l) = refl
 pub or_value : (o : maybe.Option struct.Clock) (b c : struct.Clock) → value_of b ≡ base → c ≡ unwrap_or o b → value_of c ≡ or_base (option_of o)
 or_value maybe.None b c e i = ap value_of i ∙ e
 or_value (maybe.Some d) b c e i = ap value_of i
+
+-- too deep a clock is none
+pub natural-told : (r : Result (maybe.Option struct.Clock) TooDeep) (d : TooDeep) (v : Natural) (o : Option Clock) → natural_of r ≡ v → r ≡ Err d → v ≡ formed o → ⊥
+natural-told r d v o e j f =
+    let x : deep ≡ formed o = sym (ap natural_of j) ∙ (e ∙ f) in
+    let z : ◌≡◌ {A = ℕ} 0 1 = cc in
+    absurd (omega arith)
 
 -- ---- one equation
 module _ (n : Node) (clocks : Clocks) (o : CheckOutput) (fs : List Finding) (i : ℕ) (e : Equation) where
@@ -136,36 +143,29 @@ going_end x M ts n clocks o left i place q v z h =
     let f : formed (h.so_far ++ []) ≡ v = rw e.0 at h.final in
     (h.so_far, sym f ∙ ap formed (append-nil h.so_far), h.holds)
 
-module _ {A : Type 0} (M : ℕ) (ts : List TagValue) (n : Node) (clocks : Clocks) (env : List ℕ) (marks : List Bool) (o o' : CheckOutput) (count i place q : ℕ) (v : Formed (List Finding)) (l : EquationLayout) (r : Result A TooDeep) (z : i < count) (a : Agrees env M clocks) (b : PortMarks marks M n)
-    (L : (e : Equation) (q : ℕ) → equation M ts place ≡ got e q → LaidEquation M ts e q l)
-    (E : (n : Node) (clocks : Clocks) (e : Equation) (q : ℕ) (fs : List Finding) → Agrees env M clocks → PortMarks marks M n → equation M ts place ≡ got e q → tree M ts l.right ≡ got e.right q → FindingsHeld o.findings.now.words.now o.findings.now.count fs → Tallied o' r (joined fs (found_in n clocks i e)))
-    (h : Going M ts n clocks o (count - i) i place q v) where
-  pub going_step : (k : A) → r ≡ Ok k → Going M ts n clocks o' (count - (i + 1)) (i + 1) l.end q v
+module _ {A : Type 0} (M : ℕ) (ts : List TagValue) (n : Node) (clocks : Clocks) (I : CheckInput) (o o' : CheckOutput) (count i place q : ℕ) (v : Formed (List Finding)) (r : Result A TooDeep) (z : i < count)
+    (E : (n : Node) (clocks : Clocks) (e : Equation) (q : ℕ) (fs : List Finding) → ReadsNode I n clocks → equation M ts place ≡ got e q → FindingsHeld o.findings.now.words.now o.findings.now.count fs → Tallied o' r (joined fs (found_in n clocks i e)))
+    (a : ReadsNode I n clocks) (h : Going M ts n clocks o (count - i) i place q v) where
+  pub going_step : (k : A) → r ≡ Ok k → (end : ℕ) → ((e : Equation) (q : ℕ) → equation M ts place ≡ got e q → end ≡ q) → Going M ts n clocks o' (count - (i + 1)) (i + 1) end q v
   unfolding Tallied found_from
-  going_step k j =
+  going_step k j end L =
       let c = times-cons (equation M) ts (count - i) place h.rest q (λ y. omega (arith, y)) h.items in
-      let d = L c.0 c.1 c.3 in
-      let x : Tallied o' (Ok k) (joined h.so_far (found_in n clocks i c.0)) = rw j at (E n clocks c.0 c.1 h.so_far a b c.3 d.right h.holds) in
+      let x : Tallied o' (Ok k) (joined h.so_far (found_in n clocks i c.0)) = rw j at (E n clocks c.0 c.1 h.so_far a c.3 h.holds) in
       let f : joined h.so_far (found_from n clocks i (c.0 ∷ c.2)) ≡ v = rw c.5 at h.final in
       let w : joined x.0 (found_from n clocks (suc i) c.2) ≡ v = joined-next h.so_far x.0 (found_in n clocks i c.0) (found_from n clocks (suc i) c.2) v x.1 f in
       let u : count - (i + 1) ≡ count - i - 1 = omega arith in
-      record { rest = c.2; so_far = x.0; items = rw (d.ends, u) c.4; holds = x.2; final = rw (add-one i) w }
+      record { rest = c.2; so_far = x.0; items = rw (L c.0 c.1 c.3, u) c.4; holds = x.2; final = rw (add-one i) w }
 
   pub going-deep : (B : Type 0) (w u : TooDeep) → r ≡ Err w → Tallied {A = B} o' (Err u) v
   unfolding Tallied found_from
   going-deep B w u j =
       let c = times-cons (equation M) ts (count - i) place h.rest q (λ y. omega (arith, y)) h.items in
-      let d = L c.0 c.1 c.3 in
-      let x : Tallied {A = A} o' (Err w) (joined h.so_far (found_in n clocks i c.0)) = rw j at (E n clocks c.0 c.1 h.so_far a b c.3 d.right h.holds) in
+      let x : Tallied {A = A} o' (Err w) (joined h.so_far (found_in n clocks i c.0)) = rw j at (E n clocks c.0 c.1 h.so_far a c.3 h.holds) in
       let w : joined h.so_far (found_from n clocks i (c.0 ∷ c.2)) ≡ deep = joined-deep h.so_far (found_in n clocks i c.0) (found_from n clocks (suc i) c.2) x in
       let f : joined h.so_far (found_from n clocks i (c.0 ∷ c.2)) ≡ v = rw c.5 at h.final in
       sym f ∙ w
 
 -- ---- a node
--- the marks of inputs and outputs
-ports-known : (marks : List Bool) (m : ℕ) (n : Node) → Marked marks m (ports n) → PortMarks marks m n
-ports-known marks m n k = record { same = k.same }
-
 -- what is said of a node's equations with their clocks
 abbrev saying : Node → Inferred → List Clocked → Formed Clocking
 saying n i es =
@@ -247,8 +247,8 @@ unfolding Counted
 counted-all t s c v e h = rw e at h
 
 -- room in tables
-pub still : (a b c : ℕ) → a ≤ b → c ≡ b → a ≤ c
-still a b c h e = omega arith
+pub room-kept : {M many : ℕ} {env env' table table' : List ℕ} {marks marks' : List Bool} → length env' ≡ length env → length marks' ≡ length marks → length table' ≡ length table → RoomToClock M many env marks table → RoomToClock M many env' marks' table'
+room-kept e m t r = record { clocked = omega (arith, e, r.clocked); marked = omega (arith, m, r.marked); rowed = omega (arith, t, r.rowed) }
 
 pub room-stays : (ts vs t t' : List ℕ) → length vs ≡ length ts → 38 * length ts ≤ length t → length t' ≡ length t → 38 * length (tokens ts vs) ≤ length t'
 room-stays ts vs t t' e h k = omega (arith, tokens-length ts vs e, h, k)
@@ -265,16 +265,16 @@ pub laid-deep : (M : ℕ) (n : Node) (env : List ℕ) (r : Result ℕ TooDeep) (
 unfolding Infers
 laid-deep M n env r d j i = let e : inferred n ≡ deep = rw j at i in node-deep n e
 
-module _ (M : ℕ) (ts : List TagValue) (n : Node) (env : List ℕ) (marks : List Bool) (t : List ℕ) (r : Result ℕ TooDeep) (s : Result ℕ TooDeep) (k count at q : ℕ)
-    (j : r ≡ Ok k) (i : Infers env M r (inferred n)) (m : Marked marks M (ports n))
-    (g : times count (equation M) ts at ≡ got n.equations q)
-    (C : (n : Node) (clocks : Clocks) (es : List Equation) (q : ℕ) → Agrees env M clocks → PortMarks marks M n → times count (equation M) ts at ≡ got es q → Counted t s (found_from n clocks 0 es)) where
-  made : (i : Inferred) × (inferred n ≡ formed i) × (i.passes ≡ k) × Agrees env M i.clocks
+module _ (ts : List TagValue) (n : Node) (I : CheckInput) (t : List ℕ) (r : Result ℕ TooDeep) (s : Result ℕ TooDeep) (k count at q : ℕ)
+    (C : (n : Node) (clocks : Clocks) (es : List Equation) (q : ℕ) → ReadsNode I n clocks → times count (equation I.source.names) ts at ≡ got es q → Counted t s (found_from n clocks 0 es))
+    (j : r ≡ Ok k) (i : Infers I.env.now I.source.names r (inferred n)) (m : Marked I.ports.now I.source.names (ports n))
+    (g : times count (equation I.source.names) ts at ≡ got n.equations q) where
+  made : (i : Inferred) × (inferred n ≡ formed i) × (i.passes ≡ k) × Agrees I.env.now I.source.names i.clocks
   unfolding Infers
   made = rw j at i
 
   counted : Counted t s (found_from n made.0.clocks 0 n.equations)
-  counted = C n made.0.clocks n.equations q made.3 (ports-known marks M n m) g
+  counted = C n made.0.clocks n.equations q (record { agrees = made.3; ports = record { same = m.same } }) g
 
   pub laid-sunk : (d : TooDeep) → s ≡ Err d → clocking n ≡ deep
   laid-sunk d e = equations-deep n made.0 made.1 (counted-deep t s d (found_from n made.0.clocks 0 n.equations) e counted)
@@ -284,10 +284,10 @@ module _ (M : ℕ) (ts : List TagValue) (n : Node) (env : List ℕ) (marks : Lis
     all-found = counted-all t s c (found_from n made.0.clocks 0 n.equations) e counted
 
     pub laid-found : b ≡ true → clocking n ≡ deep
-    laid-found f = findings-deep n made.0 made.1 M ts count at q g all-found.0 all-found.1 env t c room all-found.2 (sym d ∙ f)
+    laid-found f = findings-deep n made.0 made.1 I.source.names ts count at q g all-found.0 all-found.1 I.env.now t c room all-found.2 (sym d ∙ f)
 
-    pub laid-told : b ≡ false → ClockedOrDeep env t M (Ok (record { passes = k; findings = c })) (clocking n)
-    laid-told f = findings-told n made.0 made.1 M ts count at q g all-found.0 all-found.1 env t c room all-found.2 (sym d ∙ f) made.3 k made.2
+    pub laid-told : b ≡ false → ClockedOrDeep I.env.now t I.source.names (Ok (record { passes = k; findings = c })) (clocking n)
+    laid-told f = findings-told n made.0 made.1 I.source.names ts count at q g all-found.0 all-found.1 I.env.now t c room all-found.2 (sym d ∙ f) made.3 k made.2
 
 -- ---- was too deep a clock formed in a node?
 is-deep : {A : Type 0} (v : Formed A) → is_deep v ≡ true → v ≡ deep

@@ -53,6 +53,17 @@ pub record ClocksStand (env t : List ℕ) (m passes n : ℕ) (k : Clocking) : Ty
   pub room : 38 * n ≤ length t
   pub all : findings_in t n ≡ k.findings
 
+-- the tables of chains and of their order have a row and a place for each of so many findings
+pub record ChainRoom (count : ℕ) (rows chain : List ℕ) : Type 0 where
+  pub rowed : 17 * count ≤ length rows
+  pub placed : count ≤ length chain
+
+-- the tables of names' clocks, of marks and of findings have room for so many names and tokens
+pub record RoomToClock (names many : ℕ) (env : List ℕ) (marks : List Bool) (table : List ℕ) : Type 0 where
+  pub clocked : 17 * names ≤ length env
+  pub marked : names ≤ length marks
+  pub rowed : 38 * many ≤ length table
+
 -- the equations' clocks stand in the rows of their counts, and where nothing but sites was found, each site's in its own
 pub record SitesTold (M : ℕ) (gs vs sites : List ℕ) (fs : List Finding) (cs : List Clocked) (p q : ℕ) : Type 0 where
   pub on : EquationsOn M gs vs sites cs p q

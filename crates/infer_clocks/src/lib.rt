@@ -2,7 +2,7 @@
 // `env` has seventeen words a name, `marks` has a mark a name, `table` thirty-eight words a token, `sites` seventeen words a token.
 #![tactic(auto)]
 
-ghost use Rattle.std.specs.Prelude.{◌≡◌, List, ◌++◌, ℕ, ◌+◌, ◌*◌, ◌≤◌, ◌<◌, length, IsOk};
+ghost use Rattle.std.specs.Prelude.{◌≡◌, List, ◌++◌, ℕ, ◌+◌, ◌*◌, ◌≤◌, ◌<◌, length, IsOk, Ok};
 ghost use Rattle.std.proofs.Math.Option.{Option};
 ghost use Rattle.grammar.specs.Read.{tokens_of};
 ghost use Rattle.definitions.specs.Lists.{join, numbered};
@@ -18,14 +18,13 @@ ghost use Rattle.clock_tables.specs.Rows.{RowsHold};
 ghost use Rattle.findings.specs.Findings.{findings_in, FindingsHeld};
 ghost use Rattle.spelling.specs.Places.{letters_in};
 ghost use Rattle.chain_order.specs.Order.{ordered_clocks};
-ghost use Rattle.operands.specs.Spread.{tree};
 ghost use Rattle.layout.specs.Laid.{LaidNode};
-ghost use Rattle.checking.specs.Walk.{PortMarks, EquationStored, Stays};
-ghost use Rattle.infer_clocks.specs.Clocked.{is_deep, found_in, found_from, joined, Tallied, Counted, ClockedOrDeep, Deeply, SitesTold};
+ghost use Rattle.checking.specs.Walk.{ReadsNode, EquationStored, Stays};
+ghost use Rattle.infer_clocks.specs.Clocked.{is_deep, found_in, found_from, joined, Tallied, Counted, ClockedOrDeep, Deeply, SitesTold, RoomToClock, ChainRoom};
 
 use chain_order::OrderedClocks;
 use checking::{CheckInput, CheckOutput};
-use clock_tables::{Clock, ClockTable, TooDeep};
+use clock_tables::{Clock, ClockList, ClockTable, TooDeep};
 use definitions::Refusal;
 use findings::{FindingList, Findings};
 use grammar::Source;
@@ -39,21 +38,21 @@ pub struct NodeClocked {
     pub findings: usize,
 }
 
-// What is found in the equation that stands there, its right side at `right`.
+// What is found in the equation that stands there: where it ends.
 fn check_one(
     input: &CheckInput<'_>,
     output: &mut CheckOutput<'_, '_>,
     at: usize,
-    right: usize,
-) -> Result<(), TooDeep>
+) -> Result<usize, TooDeep>
     ensures stays { Stays output.old output.new }
-    ensures tallied { (node : Node) (clocks : Clocks) (e : Equation) (q : ℕ) (fs : List Finding) → Agrees input.now.env.now input.now.source.names clocks → PortMarks input.now.ports.now input.now.source.names node → equation input.now.source.names (tokens_of input.now.source) at ≡ got e q → tree input.now.source.names (tokens_of input.now.source) right ≡ got e.right q → FindingsHeld output.old.findings.now.words.now output.old.findings.now.count fs → Tallied output.new result (joined fs (found_in node clocks input.now.equation e)) }
-    ensures equation_stored { (clocks : Clocks) (e : Equation) (q : ℕ) (o : Option trees.Clock) → Agrees input.now.env.now input.now.source.names clocks → equation input.now.source.names (tokens_of input.now.source) at ≡ got e q → tree input.now.source.names (tokens_of input.now.source) right ≡ got e.right q → rules.natural clocks e.right ≡ formed o → EquationStored input.now.source.names input.now.source.tags.now input.now.source.values.now output.old.sites.now output.new.sites.now input.now.equation (or_base o) e at q }
+    ensures ends { (e : Equation) (q end : ℕ) → equation input.now.source.names (tokens_of input.now.source) at ≡ got e q → result ≡ Ok end → end ≡ q }
+    ensures tallied { (node : Node) (clocks : Clocks) (e : Equation) (q : ℕ) (fs : List Finding) → ReadsNode input.now node clocks → equation input.now.source.names (tokens_of input.now.source) at ≡ got e q → FindingsHeld output.old.findings.now.words.now output.old.findings.now.count fs → Tallied output.new result (joined fs (found_in node clocks input.now.equation e)) }
+    ensures equation_stored { (clocks : Clocks) (e : Equation) (q : ℕ) (o : Option trees.Clock) → Agrees input.now.env.now input.now.source.names clocks → equation input.now.source.names (tokens_of input.now.source) at ≡ got e q → rules.natural clocks e.right ≡ formed o → EquationStored input.now.source.names input.now.source.tags.now input.now.source.values.now output.old.sites.now output.new.sites.now input.now.equation (or_base o) e at q }
 {
-    let own = inference::natural_clock(&input.source, input.env, right)?;
+    let left = layout::names_at(&input.source, at);
+    let own = inference::natural_clock(&input.source, input.env, left.end)?;
     let on = own.unwrap_or(Clock::base());
-    checking::check_equation(input, output, on, at);
-    Ok(())
+    Ok(checking::check_equation(input, output, on, at))
 }
 
 // What is found in these equations, one after another.
@@ -63,15 +62,12 @@ fn check_all(
     equations: Span,
 ) -> Result<(), TooDeep>
     ensures stays { Stays output.old output.new }
-    ensures tallied { (node : Node) (clocks : Clocks) (es : List Equation) (q : ℕ) → Agrees input.now.env.now input.now.source.names clocks → PortMarks input.now.ports.now input.now.source.names node → times equations.count (equation input.now.source.names) (tokens_of input.now.source) equations.at ≡ got es q → output.old.findings.now.count ≡ 0 → Tallied output.new result (found_from node clocks 0 es) }
+    ensures tallied { (node : Node) (clocks : Clocks) (es : List Equation) (q : ℕ) → ReadsNode input.now node clocks → times equations.count (equation input.now.source.names) (tokens_of input.now.source) equations.at ≡ got es q → output.old.findings.now.count ≡ 0 → Tallied output.new result (found_from node clocks 0 es) }
     ensures by_index { (node : Node) (clocks : Clocks) (es : List Equation) (q : ℕ) (cs : List Clocked) → IsOk result → Agrees input.now.env.now input.now.source.names clocks → times equations.count (equation input.now.source.names) (tokens_of input.now.source) equations.at ≡ got es q → 17 * length input.now.source.tags.now ≤ length output.old.sites.now → clocked_by clocks es ≡ formed cs → SitesTold input.now.source.names input.now.source.tags.now input.now.source.values.now output.new.sites.now (join (numbered (check_equation node clocks) 0 cs)) cs equations.at q }
 {
     let mut place = equations.at;
     for equation in 0..equations.count {
-        let numbered = CheckInput { equation, ..*input };
-        let laid = layout::equation_at(&input.source, place);
-        check_one(&numbered, output, place, laid.right)?;
-        place = laid.end;
+        place = check_one(&CheckInput { equation, ..*input }, output, place)?;
     }
     Ok(())
 }
@@ -83,7 +79,7 @@ fn check_node(
     table: &mut [u32],
     sites: &mut [u32],
 ) -> Result<usize, TooDeep>
-    ensures counted { (node : Node) (clocks : Clocks) (es : List Equation) (q : ℕ) → Agrees input.now.env.now input.now.source.names clocks → PortMarks input.now.ports.now input.now.source.names node → times equations.count (equation input.now.source.names) (tokens_of input.now.source) equations.at ≡ got es q → Counted table.new result (found_from node clocks 0 es) }
+    ensures counted { (node : Node) (clocks : Clocks) (es : List Equation) (q : ℕ) → ReadsNode input.now node clocks → times equations.count (equation input.now.source.names) (tokens_of input.now.source) equations.at ≡ got es q → Counted table.new result (found_from node clocks 0 es) }
     ensures by_index { (node : Node) (clocks : Clocks) (es : List Equation) (q : ℕ) (cs : List Clocked) → IsOk result → Agrees input.now.env.now input.now.source.names clocks → times equations.count (equation input.now.source.names) (tokens_of input.now.source) equations.at ≡ got es q → 17 * length input.now.source.tags.now ≤ length sites.old → clocked_by clocks es ≡ formed cs → SitesTold input.now.source.names input.now.source.tags.now input.now.source.values.now sites.new (join (numbered (check_equation node clocks) 0 cs)) cs equations.at q }
 {
     let mut findings = Findings {
@@ -108,8 +104,8 @@ pub fn clock_laid(
     table: &mut [u32],
     sites: &mut [u32],
 ) -> Result<NodeClocked, TooDeep>
-    ensures clocked_or_deep { (n : Node) (q : ℕ) → LaidNode source.now.names (tokens_of source.now) n q l → 17 * source.now.names ≤ length env.old → source.now.names ≤ length marks.old → 38 * length source.now.tags.now ≤ length table.old → ClockedOrDeep env.new table.new source.now.names result (clocking n) }
-    ensures sites_told { (n : Node) (q : ℕ) (k : Clocking) → LaidNode source.now.names (tokens_of source.now) n q l → clocking n ≡ formed k → 17 * source.now.names ≤ length env.old → source.now.names ≤ length marks.old → 38 * length source.now.tags.now ≤ length table.old → 17 * length source.now.tags.now ≤ length sites.old → SitesTold source.now.names source.now.tags.now source.now.values.now sites.new k.findings k.equations l.equations.at l.equations.end }
+    ensures clocked_or_deep { (n : Node) (q : ℕ) → LaidNode source.now.names (tokens_of source.now) n q l → RoomToClock source.now.names (length source.now.tags.now) env.old marks.old table.old → ClockedOrDeep env.new table.new source.now.names result (clocking n) }
+    ensures sites_told { (n : Node) (q : ℕ) (k : Clocking) → LaidNode source.now.names (tokens_of source.now) n q l → clocking n ≡ formed k → RoomToClock source.now.names (length source.now.tags.now) env.old marks.old table.old → 17 * length source.now.tags.now ≤ length sites.old → SitesTold source.now.names source.now.tags.now source.now.values.now sites.new k.findings k.equations l.equations.at l.equations.end }
 {
     let passes = inference::infer(source, l, env, marks)?;
     let parts = layout::parts_table();
@@ -140,14 +136,14 @@ fn deep_laid(
     table: &mut [u32],
     sites: &mut [u32],
 ) -> bool
-    ensures { (n : Node) (q : ℕ) → LaidNode source.now.names (tokens_of source.now) n q l → 17 * source.now.names ≤ length env.old → source.now.names ≤ length marks.old → 38 * length source.now.tags.now ≤ length table.old → result ≡ is_deep (clocking n) }
+    ensures { (n : Node) (q : ℕ) → LaidNode source.now.names (tokens_of source.now) n q l → RoomToClock source.now.names (length source.now.tags.now) env.old marks.old table.old → result ≡ is_deep (clocking n) }
 {
     l.uses_clocks(source) && clock_laid(source, l, env, marks, table, sites).is_err()
 }
 
 // Where so many nodes end, the first of which stands there and has this number; or refusal 9 at the first in which too deep a clock is
 // formed.
-// Stays (no plainer): a count and a place, for nodes before or behind one that is asked about: no part of a sheet, which a `Span` is.
+// Stays (no plainer): a count and a place, as nodes before or behind one asked about are no `Span`; by place, as the last's end is told.
 pub fn first_deep(
     source: &Source<'_>,
     number: u32,
@@ -158,7 +154,7 @@ pub fn first_deep(
     table: &mut [u32],
     sites: &mut [u32],
 ) -> Result<usize, Refusal>
-    ensures { (ns : List Node) (q : ℕ) → times count (node source.now.names) (tokens_of source.now) at ≡ got ns q → 17 * source.now.names ≤ length env.old → source.now.names ≤ length marks.old → 38 * length source.now.tags.now ≤ length table.old → Deeply q result (clockings number ns) }
+    ensures { (ns : List Node) (q : ℕ) → times count (node source.now.names) (tokens_of source.now) at ≡ got ns q → RoomToClock source.now.names (length source.now.tags.now) env.old marks.old table.old → Deeply q result (clockings number ns) }
 {
     let first = number as usize;
     let mut place = at;
@@ -192,11 +188,14 @@ pub fn chain_rows<'a>(
     rows: &'a mut [u32],
     chain: &'a mut [u32],
 ) -> OrderedClocks<'a>
-    ensures { 17 * findings.entry.count ≤ length rows.old → findings.entry.count ≤ length chain.old → findings.entry.count < 4294967296 → ordered_clocks result ≡ chains (letters_in spelling.entry) (findings_in findings.entry.words.now findings.entry.count) }
+    ensures { ChainRoom findings.entry.count rows.old chain.old → findings.entry.count < 4294967296 → ordered_clocks result ≡ chains (letters_in spelling.entry) (findings_in findings.entry.words.now findings.entry.count) }
 {
     let sites = site_rows(findings, rows).min(chain.len());
-    let n = u32::try_from(sites).unwrap_or(0);
-    let count = chain_order::sort_rows(spelling, rows, chain, n);
+    let clocks = ClockList {
+        words: rows,
+        count: u32::try_from(sites).unwrap_or(0) as usize,
+    };
+    let count = chain_order::sort_rows(spelling, clocks, chain);
     OrderedClocks {
         rows,
         order: &chain[..count],

@@ -3,6 +3,7 @@ pub mod Low
 pub mod NaturalLaws
 pub mod Leaf
 pub mod Scan
+pub mod Looks
 pub mod Naming
 pub mod Calm
 pub mod PassesLaws

@@ -34,7 +34,7 @@ use Rattle.grammar.proofs.Laws.{tokens-length}
 use Rattle.grammar.proofs.Got.{same, tagged-value, times-nil, times-cons}
 use Rattle.layout.proofs.TypedefsLaws.{filled_more}
 use Rattle.layout.specs.Walk.{LaidAll}
-use Rattle.layout.proofs.Walks.{first-laid, none-laid}
+use Rattle.layout.proofs.Walks.{first-laid}
 use Rattle.operands.proofs.Laws.{name-place}
 use Rattle.layout.specs.Spans.{end_of, Spanned}
 use Rattle.layout.specs.Laid.{LaidEquation}
@@ -74,9 +74,6 @@ shift false false u v w e = e
 abbrev name_of : Declared → ℕ
 name_of d = d.name
 
-pub places-start : (m : ℕ) (t : List ℕ) (p : List Bool) (l : List ℕ) → PortsPlaced m t p l t p l
-places-start m t p l = record { clocks = λ x u. refl; marks = λ x u. refl }
-
 pub places-step : (m : ℕ) (t : List ℕ) (p : List Bool) (t' : List ℕ) (p' : List Bool) (t₀ : List ℕ) (p₀ : List Bool) (rest l : List ℕ) (x : ℕ) → PortsPlaced m t' p' [] t p (x ∷ []) → PortsPlaced m t p (x ∷ rest) t₀ p₀ l → PortsPlaced m t' p' rest t₀ p₀ l
 places-step m t p t' p' t₀ p₀ rest l x a b =
     record {
@@ -89,12 +86,6 @@ pub record Placing (M : ℕ) (ts : List TagValue) (t : List ℕ) (p : List Bool)
   pub rest : List Declared
   pub laid : LaidAll M ts rest ls
   pub places : PortsPlaced M t p (map name_of rest) t₀ p₀ (map name_of l)
-
-pub placing-start : (M : ℕ) (ts : List TagValue) (t : List ℕ) (p : List Bool) (l : List Declared) {ls : List DeclarationLayout} → LaidAll M ts l ls → Placing M ts t p t p l ls
-placing-start M ts t p l h = record { rest = l; laid = h; places = places-start M t p (map name_of l) }
-
-pub placing-end : {M : ℕ} {ts : List TagValue} {t t₀ : List ℕ} {p p₀ : List Bool} {l : List Declared} (ls : List DeclarationLayout) → ls ≡ [] → Placing M ts t p t₀ p₀ l ls → PortsPlaced M t p [] t₀ p₀ (map name_of l)
-placing-end ls z h = let e : map name_of h.rest ≡ [] = ap (map name_of) (none-laid (rw z at h.laid)) in rw e at h.places
 
 -- the next declaration
 module _ (M : ℕ) (gs vs : List ℕ) (same_length : length vs ≡ length gs) where
@@ -252,7 +243,7 @@ ends_more M ts n p i place end ends l q g h b e f =
 -- ---- an equation that is read
 module _ (M : ℕ) (gs vs : List ℕ) (same_length : length vs ≡ length gs) (at : ℕ) (l : Span) (i : Spanned (name M) gs vs at l) (e : Equation) (q : ℕ) (g : equation M (tokens gs vs) at ≡ got e q) where
   -- where its parts stand
-  pub lies : LaidEquation M (tokens gs vs) e q (record { left = l; right = l.end; end = end_of (outcome (expr M 32 (tokens gs vs) l.end)) at })
+  pub lies : LaidEquation M (tokens gs vs) e q l (end_of (outcome (expr M 32 (tokens gs vs) l.end)) at)
   lies = laid-equation gs vs same_length M at l i _ (λ a u h. ap (λ (x : Got Expr). end_of (outcome x) at) h) e q g
 
 module _ (n : Node) (e : Equation) (p : Pass) (present : ℕ) (since : List ℕ) (f : Result (maybe.Option struct.Clock) TooDeep) (h : natural_of f ≡ natural p.clocks e.right) where

@@ -1,13 +1,15 @@
 -- The natural clock of an expression by its tokens: that of the first name that has one, where no when or merge stands before it;
 -- none, where no token gives one. Assumes nothing.
-use Prim.Native.Nat.{ℕ, ◌+◌, ◌-◌, ◌*◌, ◌<◌}
+use Prim.Native.Nat.{ℕ, ◌+◌, ◌-◌, ◌*◌, ◌<◌, min}
 use mathlib.Core.Path.{◌≡◌, refl, sym, ◌∙◌, ap, ap₂, subst}
 use mathlib.Core.List.{List}
 use mathlib.Core.Bool.{Bool, true, false, not}
 use mathlib.Core.Option.{Option, none, some}
 use native.Mathlib.Omega.{arith}
 use lib.Dec.{eqb, ltb}
-use lib.ListN.{length, get_or}
+use lib.ListN.{length, get_or, take, drop}
+use lib.Seq.{take-length}
+use Rattle.std.proofs.lemmas.List.{get_or-drop, length-drop}
 use borrow.Author.Tests.{ne_eqb, lt-ltb, ltb-true}
 use Rattle.definitions.specs.Lists.{choose}
 use Rattle.definitions.specs.Bytes.{tokens}
@@ -111,16 +113,18 @@ pub record Left (env gs vs : List ℕ) (p owed place : ℕ) : Type 0 where
   left : (q : ℕ) (b : Option Mark) → Owed gs vs p 1 q → Marks (listed env) gs vs p q b → Owed gs vs place owed q × Marks (listed env) gs vs place q b
 
 module _ {env gs vs : List ℕ} {p : ℕ} where
-  pub left-all : Left env gs vs p 1 p
-  left-all = record { left = λ q b h k. (h, k) }
+  pub left-all : {place : ℕ} → place ≡ p → Left env gs vs p 1 place
+  left-all e = record { left = λ q b h k. rw e (h, k) }
 
-  pub left-on : {owed place : ℕ} → Left env gs vs p owed place → 0 < owed → there (mark_of (listed env) (get_or gs place 0) (get_or vs place 0)) ≡ false → (more : ℕ) → more ≡ follows (get_or gs place 0) (get_or vs place 0) → Left env gs vs p (owed - 1 + more) (place + 1)
-  left-on {owed} {place} l z m more i = record {
+  pub left-on : {owed place next : ℕ} → Left env gs vs p owed place → 0 < owed → (tag : ℕ) → tag ≡ get_or gs place 0 → (v : ℕ) → v ≡ get_or vs place 0 → there (mark_of (listed env) tag v) ≡ false
+      → (more : ℕ) → more ≡ follows tag v → next ≡ place + 1 → Left env gs vs p (owed - 1 + more) next
+  left-on {owed} {place} {next} l z tag i v j m more f e = record {
     left = λ q b h k.
         let o = l.left q b h k in
         let s = owed-step o.0 z in
         let n = owed-on s.1 in
-        (rw i s.1, marks-past o.1 (omega arith) (there-none _ m));
+        let g : more ≡ follows (get_or gs place 0) (get_or vs place 0) = f ∙ ap₂ follows i j in
+        rw (e, g) (s.1, marks-past o.1 (omega arith) (there-none _ (ap₂ (λ x y. there (mark_of (listed env) x y)) (sym i) (sym j) ∙ m)));
   }
 
   module _ {owed place : ℕ} (l : Left env gs vs p owed place) (same : length vs ≡ length gs) (M : ℕ) (e : Expr) (q : ℕ) (clocks : Clocks) (g : tree M (tokens gs vs) p ≡ got e q) (a : Agrees env M clocks) where
@@ -139,3 +143,21 @@ module _ {env gs vs : List ℕ} {p : ℕ} where
         let n = owed-on rest.0 in
         let s = says-by clocks M e (some (named v)) (marks-found (named v) rest.1 (omega arith) m) in
         s.0 ∙ ap formed (sym (a.same v s.2))
+
+-- the token that is looked at: the k-th from the place where a scan began, which is its own where there is one
+pub record Here (gs vs : List ℕ) (at from k tag v : ℕ) : Type 0 where
+  pub began : from ≡ at
+  pub tags : tag ≡ get_or gs (from + k) 0
+  pub values : v ≡ get_or vs (from + k) 0
+
+-- what is cut off behind a place is all that is left
+pub all-left : (l : List ℕ) (n : ℕ) → take (length l - n) (drop n l) ≡ drop n l
+all-left l n = ap (λ k. take k (drop n l)) (sym (length-drop n l)) ∙ take-length (drop n l)
+
+pub here-of : (gs vs : List ℕ) (at from k tag v : ℕ) → from ≡ min at (length gs)
+    → (k < length (drop from gs)) × (k < length (drop from vs)) × ((d : ℕ) → tag ≡ get_or (drop from gs) k d) × ((d : ℕ) → v ≡ get_or (drop from vs) k d) → Here gs vs at from k tag v
+here-of gs vs at from k tag v m t = record {
+  began = omega (arith, m, t.0, length-drop from gs);
+  tags = t.2 0 ∙ get_or-drop from gs k 0;
+  values = t.3 0 ∙ get_or-drop from vs k 0;
+}

@@ -24,10 +24,16 @@ use clock_tables::{Clock, Natural, TooDeep};
 use definitions::{Condition, MOST_EQUATIONS, MOST_NAMES};
 use grammar::{Source, tags};
 use layout::{NodeLayout, Span};
-use operands::{Leaf, Operands, Role};
+use operands::{Operands, Role};
 
 // ---- The natural clock of an expression of an accepted sheet: that of its first operand that has one, the rest unread.
-// `env` has the names' clocks.
+
+// What it is found by: the sheet, and the names' clocks.
+#[derive(Clone, Copy)]
+struct ClockInput<'a> {
+    source: Source<'a>,
+    env: &'a [u32],
+}
 
 // What a walk comes to: a clock; where what has none ends.
 #[derive(Clone, Copy)]
@@ -61,96 +67,84 @@ fn above(source: &Source<'_>, found: Walked, at: usize) -> Walked
 }
 
 // Where a leaf without a clock ends.
-fn free_leaf(source: &Source<'_>, env: &[u32], at: usize) -> Option<usize>
-    ensures { (M : ℕ) (e : Expr) (q end : ℕ) (clocks : Clocks) → tree M (tokens_of source.now) at ≡ got e q → Agrees env.now M clocks → result ≡ Some end → (natural clocks e ≡ formed none) × (end ≡ q) }
+fn free_leaf(input: &ClockInput<'_>, at: usize) -> Option<usize>
+    ensures { (M : ℕ) (e : Expr) (q end : ℕ) (clocks : Clocks) → tree M (tokens_of input.now.source) at ≡ got e q → Agrees input.now.env.now M clocks → result ≡ Some end → (natural clocks e ≡ formed none) × (end ≡ q) }
 {
-    match operands::leaf_at(source, at)? {
-        Leaf::Name(x, end) => {
-            if clock_tables::is_assigned(env, x) {
-                return None;
-            }
-            Some(end)
-        }
-        Leaf::Constant(end) => Some(end),
+    let leaf = operands::leaf_at(&input.source, at)?;
+    match leaf.name {
+        Some(x) if clock_tables::is_assigned(input.env, x) => None,
+        _ => Some(leaf.end),
     }
 }
 
 // The natural clock of the expression that stands there, by its operands.
 #[cycle(natural)]
-fn found_at(source: &Source<'_>, env: &[u32], at: usize) -> Result<Walked, TooDeep>
-    ensures { (e : Expr) (q : ℕ) (clocks : Clocks) → tree source.now.names (tokens_of source.now) at ≡ got e q → Agrees env.now source.now.names clocks → Finds result (natural clocks e) q }
+fn found_at(input: &ClockInput<'_>, at: usize) -> Result<Walked, TooDeep>
+    ensures { (e : Expr) (q : ℕ) (clocks : Clocks) → tree input.now.source.names (tokens_of input.now.source) at ≡ got e q → Agrees input.now.env.now input.now.source.names clocks → Finds result (natural clocks e) q }
 {
-    let v = operands::view_at(source, at);
-    if v.operands.first <= at {
+    let v = operands::view_at(&input.source, at);
+    if v.operands.rest.next <= at {
         return Ok(Walked::Free(at));
     }
     match v.role {
-        Role::Name(x) => match clock_tables::lookup(env, x) {
+        Role::Name(x) => match clock_tables::lookup(input.env, x) {
             Some(c) => Ok(Walked::On(c)),
-            None => Ok(Walked::Free(v.operands.first)),
+            None => Ok(Walked::Free(v.operands.rest.next)),
         },
         Role::Sample(k) => {
-            let found = first_found(source, env, false, v.operands)?;
-            sampled(env, k, found)
+            let found = first_found(input, false, v.operands)?;
+            sampled(input.env, k, found)
         }
-        Role::Join(x) => match clock_tables::lookup(env, x) {
+        Role::Join(x) => match clock_tables::lookup(input.env, x) {
             Some(own) => Ok(Walked::On(own)),
-            None => first_found(source, env, true, v.operands),
+            None => first_found(input, true, v.operands),
         },
-        _ => first_found(source, env, false, v.operands),
+        _ => first_found(input, false, v.operands),
     }
 }
 
 // The natural clock of the operand that stands there, or the parent of it.
+// Stays (no plainer): a flag, here and below: what is found has a parent or not, and a closure for each would say nothing more.
 #[cycle(natural)]
-fn operand_clock(source: &Source<'_>, env: &[u32], up: bool, at: usize) -> Result<Walked, TooDeep>
-    ensures { (e : Expr) (q : ℕ) (clocks : Clocks) → tree source.now.names (tokens_of source.now) at ≡ got e q → Agrees env.now source.now.names clocks → Finds result (lifted up (natural clocks e)) q }
+fn operand_clock(input: &ClockInput<'_>, up: bool, at: usize) -> Result<Walked, TooDeep>
+    ensures { (e : Expr) (q : ℕ) (clocks : Clocks) → tree input.now.source.names (tokens_of input.now.source) at ≡ got e q → Agrees input.now.env.now input.now.source.names clocks → Finds result (lifted up (natural clocks e)) q }
 {
-    let found = found_at(source, env, at)?;
+    let found = found_at(input, at)?;
     if up {
-        return Ok(above(source, found, at));
+        return Ok(above(&input.source, found, at));
     }
     Ok(found)
 }
 
 // The first clock among operands, or the first parent of one; a loop, since a call an operand costs stack.
 #[cycle(natural)]
-fn first_found(
-    source: &Source<'_>,
-    env: &[u32],
-    up: bool,
-    operands: Operands,
-) -> Result<Walked, TooDeep>
-    ensures { (es : Exprs) (q : ℕ) (clocks : Clocks) → spread source.now.names operands.gap operands.count (tree source.now.names) (tokens_of source.now) operands.first ≡ got es q → Agrees env.now source.now.names clocks → Finds result (first_of clocks up es) q }
+fn first_found(input: &ClockInput<'_>, up: bool, operands: Operands) -> Result<Walked, TooDeep>
+    ensures { (es : Exprs) (q : ℕ) (clocks : Clocks) → spread input.now.source.names operands.rest.gap operands.count (tree input.now.source.names) (tokens_of input.now.source) operands.rest.next ≡ got es q → Agrees input.now.env.now input.now.source.names clocks → Finds result (first_of clocks up es) q }
 {
-    let mut from = operands.first;
-    let mut between = operands.gap;
+    let mut rest = operands.rest;
     for _ in 0..operands.count {
-        let place = operands::operand_at(source.tags, between, from);
-        let end = match free_leaf(source, env, place) {
+        let place = rest.place(input.source.tags);
+        let end = match free_leaf(input, place) {
             Some(end) => end,
             None => {
-                let found = operand_clock(source, env, up, place)?;
+                let found = operand_clock(input, up, place)?;
                 match found {
                     Walked::On(_) => return Ok(found),
                     Walked::Free(end) => end,
                 }
             }
         };
-        let rest = operands::after_operand(source.tags, between, end);
-        let next = rest.next;
-        if next <= from {
-            return Ok(Walked::Free(from));
+        let others = rest.behind(input.source.tags, end);
+        if others.next <= rest.next {
+            return Ok(Walked::Free(rest.next));
         }
-        from = next;
-        between = rest.gap;
+        rest = others;
     }
-    Ok(Walked::Free(from))
+    Ok(Walked::Free(rest.next))
 }
 
 // Can a token give a clock? A when or a merge does, and a name that has one.
-// Stays (speed): by tags, here and below: `clocks` of 64 equations in reverse order takes 11.28 million instructions unproved, by whole
-// tokens 11.65.
+// Stays (speed): tags, here and below: `clocks` of 64 equations takes 5.52 million instructions, 6.2 by whole tokens; the bar is 5.67.
 fn gives(env: &[u32], tag: u8, value: u32) -> bool
     ensures { result ≡ there (mark_of (listed env.now) tag value) }
 {
@@ -161,6 +155,7 @@ fn gives(env: &[u32], tag: u8, value: u32) -> bool
 }
 
 // What the tokens of an expression tell of its natural clock.
+// Stays (no plainer): `Option<Option<u32>>` would have the cases unnamed, and none of them is an error or says that nothing is there.
 enum TokensTell {
     NoClock,
     // The clock of this name.
@@ -170,18 +165,18 @@ enum TokensTell {
 }
 
 // What the tokens of the expression that stands there tell, up to the first that gives a clock.
-fn scanned(source: &Source<'_>, env: &[u32], at: usize) -> TokensTell
-    ensures { (M : ℕ) (e : Expr) (q : ℕ) (clocks : Clocks) → tree M (tokens_of source.now) at ≡ got e q → Agrees env.now M clocks → Tells result env.now (natural clocks e) }
+fn scanned(input: &ClockInput<'_>, at: usize) -> TokensTell
+    ensures { (M : ℕ) (e : Expr) (q : ℕ) (clocks : Clocks) → tree M (tokens_of input.now.source) at ≡ got e q → Agrees input.now.env.now M clocks → Tells result input.now.env.now (natural clocks e) }
 {
     let table = layout::parts_table();
+    let Source { tags, values, .. } = input.source;
+    let from = at.min(tags.len());
     let mut owed: usize = 1;
-    for place in at..source.tags.len() {
-        if source.tags.len() < owed {
+    for (&tag, &value) in tags[from..].iter().zip(values[from..].iter()) {
+        if tags.len() < owed {
             return TokensTell::NoMore;
         }
-        let tag = source.tags[place];
-        let value = source.values[place];
-        if gives(env, tag, value) {
+        if gives(input.env, tag, value) {
             return if tag == tags::VAR {
                 TokensTell::ClockOf(value)
             } else {
@@ -201,11 +196,15 @@ fn scanned(source: &Source<'_>, env: &[u32], at: usize) -> TokensTell
 pub fn natural_clock(source: &Source<'_>, env: &[u32], at: usize) -> Natural
     ensures { (e : Expr) (q : ℕ) (clocks : Clocks) → tree source.now.names (tokens_of source.now) at ≡ got e q → Agrees env.now source.now.names clocks → natural_of result ≡ natural clocks e }
 {
-    match scanned(source, env, at) {
+    let input = ClockInput {
+        source: *source,
+        env,
+    };
+    match scanned(&input, at) {
         TokensTell::NoClock => Ok(None),
         TokensTell::ClockOf(x) => Ok(clock_tables::lookup(env, x)),
         TokensTell::NoMore => {
-            let found = found_at(source, env, at)?;
+            let found = found_at(&input, at)?;
             match found {
                 Walked::On(c) => Ok(Some(c)),
                 Walked::Free(_) => Ok(None),
@@ -228,6 +227,7 @@ struct Round<'a> {
 }
 
 // What a pass writes: the names' clocks, and for each name the pass, from 1, in which its clock last changed.
+// Stays (no plainer): beside `Round`: as one `&mut self`, each function would have to say that the sheet, marks and number stay.
 #[derive(Drop)]
 struct PassTables<'a> {
     env: &'a mut [u32],
@@ -251,6 +251,7 @@ impl PassTables<'_> {
 }
 
 // An input or output: on base, and marked.
+// Stays (no plainer): names' clocks and marks, here and below: ports write both, passes write the first and read the second.
 fn set_port(env: &mut [u32], marks: &mut [bool], x: u32)
     ensures { (m : ℕ) → 17 * m ≤ length env.old → m ≤ length marks.old → x < m → PortsPlaced m env.new marks.new [] env.old marks.old (x ∷ []) }
 {
@@ -337,7 +338,12 @@ fn touched(source: &Source<'_>, since: &[usize], made: usize, from: usize, to: u
         return true;
     }
     let Source { tags, values, .. } = *source;
-    (from..to.min(tags.len())).any(|i| is_changed(since, tags[i], values[i], made))
+    let end = to.min(tags.len());
+    let start = from.min(end);
+    tags[start..end]
+        .iter()
+        .zip(values[start..end].iter())
+        .any(|(tag, value)| is_changed(since, *tag, *value, made))
 }
 
 // One equation that is read in a pass: did a clock change?
@@ -387,11 +393,10 @@ fn equation_ends(source: &Source<'_>, equations: Span) -> [usize; MOST_EQUATIONS
 fn end_at(source: &Source<'_>, ends: &[usize; MOST_EQUATIONS], i: u32, at: usize) -> usize
     ensures { (e : Equation) (q : ℕ) → equation source.now.names (tokens_of source.now) at ≡ got e q → (i < 64 → get_or ends.now i 0 ≡ end_from source.now.names (tokens_of source.now) at) → result ≡ end_from source.now.names (tokens_of source.now) at }
 {
-    let k = i as usize;
-    if k < MOST_EQUATIONS {
-        return ends[k];
+    match ends.get(i as usize) {
+        Some(end) => *end,
+        None => layout::equation_end(source, at),
     }
-    layout::equation_end(source, at)
 }
 
 // One pass over a node's equations: did a clock change?
@@ -430,6 +435,7 @@ fn repeat_passes<'a>(
         since: &mut since,
     };
     let most = (equations.count as usize) + 1;
+    // Stays (speed): by `1..most + 1` `rewrite` of 64 equations takes 6.96 million instructions unproved, 6.74 so; the bar is 6.81.
     for made in 0..most {
         let round = Round {
             source,

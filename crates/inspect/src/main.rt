@@ -6,15 +6,14 @@ ghost use Rattle.grammar.specs.Read.{tokens_of};
 ghost use Rattle.definitions.specs.Tree.{TypeDef};
 ghost use Rattle.definitions.specs.Reading.{got};
 ghost use Rattle.definitions.specs.Grammar.{type_def};
-ghost use Rattle.parts.specs.Answers.{Accepted, sizes_of};
 ghost use Rattle.inspect.specs.Summary.{type_summary};
 
 use arguments::Asked;
 use definitions::{MOST_NAMES, MOST_NODES, MOST_TOKENS, MOST_TYPES, NodeKind};
 use grammar::Source;
 use layout::{Defined, NodeLayout};
-use parts::Sizes;
-use spelling::Spelling;
+use parts::{AcceptedSheet, Sizes, TokenArrays};
+use spelling::{NamedSource, Spelling};
 use std::io::Write;
 use std::{fmt, io};
 
@@ -58,15 +57,15 @@ fn type_summary(source: &Source<'_>, at: usize) -> Option<TypeSummary>
     ensures { (d : TypeDef) (q : ℕ) → type_def source.now.names (tokens_of source.now) at ≡ got d q → result ≡ Some (type_summary d) }
 {
     Some(match layout::describe(source, at)? {
-        Defined::Enum { name, count, .. } => TypeSummary {
+        Defined::Enum { name, variants } => TypeSummary {
             name,
             kind: TypeKind::Enum,
-            count,
+            count: variants.count,
         },
-        Defined::Record { name, count, .. } => TypeSummary {
+        Defined::Record { name, fields } => TypeSummary {
             name,
             kind: TypeKind::Record,
-            count,
+            count: fields.count,
         },
         Defined::Alias { name, .. } => TypeSummary {
             name,
@@ -84,14 +83,9 @@ fn print_type(to: &mut impl Write, spelling: Spelling<'_>, t: TypeSummary) -> io
 }
 
 // `node NAME function|operator|imported INPUTS OUTPUTS LOCALS EQUATIONS PROBES clocks|base`
-fn print_node(
-    to: &mut impl Write,
-    spelling: Spelling<'_>,
-    n: NodeLayout,
-    source: &Source<'_>,
-) -> io::Result<()> {
+fn print_node(to: &mut impl Write, named: NamedSource<'_>, n: NodeLayout) -> io::Result<()> {
     to.write_all(b"node ")?;
-    to.write_all(spelling.name(n.name))?;
+    to.write_all(named.spelling.name(n.name))?;
     write!(
         to,
         " {} {} {}",
@@ -104,61 +98,52 @@ fn print_node(
         " {} {} {}",
         n.locals.count, n.equations.count, n.probes.count
     )?;
-    let uses_clocks = n.uses_clocks(source);
+    let uses_clocks = n.uses_clocks(&named.source);
     writeln!(to, " {}", if uses_clocks { "clocks" } else { "base" })
 }
 
 // The lines of a sheet: `sheet M L T`, then one for each type and each node.
-fn print_lines(
-    to: &mut impl Write,
-    source: &Source<'_>,
-    spelling: Spelling<'_>,
-    sizes: Sizes,
-) -> io::Result<()> {
+fn print_lines(to: &mut impl Write, named: NamedSource<'_>, sizes: Sizes) -> io::Result<()> {
     writeln!(
         to,
         "sheet {} {} {}",
         sizes.names, sizes.letters, sizes.tokens
     )?;
+    let source = &named.source;
     let whole = layout::sheet_at(source);
     let types = layout::definition_places(source, whole.types);
     for &at in &types.at[..types.count] {
         if let Some(t) = type_summary(source, at) {
-            print_type(to, spelling, t)?;
+            print_type(to, named.spelling, t)?;
         }
     }
     for node in layout::nodes(source, whole.nodes) {
-        print_node(to, spelling, node, source)?;
+        print_node(to, named, node)?;
     }
     Ok(())
 }
 
-// The lines of an accepted sheet, whose tokens stand at the front of these arrays.
-fn report(
-    to: &mut impl Write,
-    bytes: &[u8],
-    tags: &[u8; MOST_TOKENS],
-    values: &[u32; MOST_TOKENS],
-    sizes: Sizes,
-) -> io::Result<()>
-    requires { Accepted bytes.now × (sizes ≡ sizes_of bytes.now) }
-{
-    let from = 12 + sizes.names;
-    let end = from + sizes.letters;
+// The lines of an accepted sheet, which has these tokens.
+fn report(to: &mut impl Write, sheet: AcceptedSheet<'_>, source: Source<'_>) -> io::Result<()> {
     let mut starts = [0u32; MOST_NAMES + 1];
-    spelling::fill_starts(&bytes[12..from], &mut starts);
+    spelling::fill_starts(sheet.lengths(), &mut starts);
     let spelling = Spelling {
         starts: &starts,
-        letters: &bytes[from..end],
+        letters: sheet.letters(),
     };
-    print_lines(to, &sheet::source_of(tags, values, sizes), spelling, sizes)
+    print_lines(to, NamedSource { spelling, source }, sheet.sizes)
 }
 
 fn inspect(output: &mut impl Write, errors: &mut impl Write, bytes: &[u8]) -> io::Result<()> {
-    let mut tags = [0u8; MOST_TOKENS];
-    let mut values = [0u32; MOST_TOKENS];
-    match sheet::read(bytes, &mut tags, &mut values) {
-        Ok(sizes) => report(output, bytes, &tags, &values, sizes),
+    let mut tokens = TokenArrays {
+        tags: [0; MOST_TOKENS],
+        values: [0; MOST_TOKENS],
+    };
+    match sheet::read(bytes, &mut tokens) {
+        Ok(sizes) => {
+            let source = sheet::source_of(&tokens, sizes);
+            report(output, AcceptedSheet { bytes, sizes }, source)
+        }
         Err(r) => arguments::refuse(errors, r),
     }
 }

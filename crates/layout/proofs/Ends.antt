@@ -13,6 +13,7 @@ use Rattle.grammar.proofs.Laws.{after-got, tokens-length}
 use Rattle.grammar.proofs.Longer.{keeps, name-grows, probe-grows, times-keeps, counted-grows}
 use Rattle.grammar.proofs.Got.{times-nil, times-cons, tagged-value, counted-value, equation-got}
 use Rattle.layout.specs.declared.Defined.{Defined}
+use Rattle.layout.specs.declared.Span.{Span}
 use Rattle.layout.specs.Table.{Described}
 use Rattle.layout.specs.Owed.{Owed}
 use Rattle.layout.proofs.Owed.{owed_all, type-owes, expr-owes, declaration-owes, times-owes}
@@ -68,18 +69,18 @@ module _ (gs vs : List ℕ) (same : length vs ≡ length gs) where
   type-part M d p t q g = owed_all gs vs same (ty M d) 1 (type-owes gs vs same M d) p t q g
 
   -- a definition ends where the last of its parts does
-  module _ (M : ℕ) (d : TypeDef) (q : ℕ) (D : Defined) (h : Described M (tokens gs vs) d q D) (r : ℕ) where
-    pub enum-ends : (x n p : ℕ) → D ≡ Defined.Enum x n p → ((m : ℕ) (l : List ℕ) (s : ℕ) → times n (name m) (tokens gs vs) p ≡ got l s → r ≡ s) → r ≡ q
+  module _ (M : ℕ) (d : TypeDef) (q : ℕ) (D : Defined) (h : Described M (tokens gs vs) d q D) where
+    pub enum-ends : (x : ℕ) (s : Span) → D ≡ Defined.Enum x s → s.end ≡ q
     unfolding Described
-    enum-ends x n p e f = let a = rw e at h in f M a.0 q a.1
+    enum-ends x s e = let a = rw e at h in a.2
 
-    pub record-ends : (x n p : ℕ) → D ≡ Defined.Record x n p → ((m : ℕ) (l : List Declared) (s : ℕ) → times n (declaration m) (tokens gs vs) p ≡ got l s → r ≡ s) → r ≡ q
+    pub record-ends : (x : ℕ) (s : Span) → D ≡ Defined.Record x s → s.end ≡ q
     unfolding Described
-    record-ends x n p e f = let a = rw e at h in f M a.0 q a.1
+    record-ends x s e = let a = rw e at h in a.2
 
-    pub alias-ends : (x p : ℕ) → D ≡ Defined.Alias x p → ((s : ℕ) → Owed gs vs p 1 s → r ≡ s) → r ≡ q
+    pub alias-ends : (r x p : ℕ) → D ≡ Defined.Alias x p → ((s : ℕ) → Owed gs vs p 1 s → r ≡ s) → r ≡ q
     unfolding Described
-    alias-ends x p e f = let a = rw e at h in f q (type-part M 8 p a.0 q a.1)
+    alias-ends r x p e f = let a = rw e at h in f q (type-part M 8 p a.0 q a.1)
 
   -- an equation's parts, by their ends
   pub equation-ends : (p n first right r : ℕ) → n ≡ get_or vs p 0 → (1 ≤ length gs - p → first ≡ p + 1)

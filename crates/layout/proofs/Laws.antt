@@ -14,6 +14,7 @@ use lib.ListN.{length, get_or, take, drop, get_elem?}
 use lib.Seq.{drop-cons}
 use borrow.Author.Tests.{lt-ltb}
 use Rattle.definitions.specs.declared.Refusal.{Refusal}
+use Rattle.definitions.specs.declared.DefinitionToken.{DefinitionToken}
 use Rattle.definitions.specs.declared.NodeKind.{NodeKind}
 use Rattle.definitions.specs.Lists.{choose}
 use Rattle.definitions.specs.declared.values.UnknownValue.{UnknownValue}
@@ -21,17 +22,18 @@ use Rattle.definitions.specs.Tokens.{TagValue, converted, kind_of}
 use Rattle.definitions.specs.Tree.{TypeDef, Declared, Expr, Equation, Node, Sheet}
 use Rattle.definitions.specs.Bytes.{tokens}
 use Rattle.definitions.specs.Reading.{Got, got, Reader, token, times}
-use Rattle.definitions.specs.Grammar.{tagged, counted, count, name, kind_at, declaration, declarations, type_def, expr, equation, probe, node, sheet}
+use Rattle.definitions.specs.Grammar.{tagged, counted, count, name, kind_at, declaration, declarations, definition, type_def, expr, equation, probe, node, sheet}
 use Rattle.grammar.specs.Outcome.{outcome}
 use Rattle.grammar.proofs.Laws.{tokens-length, times-length}
 use Rattle.grammar.proofs.Parts.{counted-within}
 use Rattle.grammar.proofs.Longer.{token-got, counted-grows, tagged-grows, name-grows}
-use Rattle.grammar.proofs.Got.{times-nil, times-cons, token-value, tagged-value, counted-value, declaration-got, declarations-got, same, equation-got, node-got, sheet-got}
+use Rattle.grammar.proofs.Got.{times-nil, times-cons, token-value, tagged-value, counted-value, declaration-got, declarations-got, enum-got, record-got, same, equation-got, node-got, sheet-got}
 use Rattle.layout.proofs.TypedefsLaws.{place_at, item}
 use Rattle.layout.specs.declared.Span.{Span}
+use Rattle.layout.specs.declared.Defined.{Defined}
 use Rattle.layout.specs.declared.SheetLayout.{SheetLayout}
 use Rattle.layout.specs.Spans.{past_in, kind_or, kind_in, end_of, Spanned, Spans}
-use Rattle.layout.specs.Table.{Table}
+use Rattle.layout.specs.Table.{Table, Described}
 use Rattle.layout.specs.Laid.{LaidDeclaration, LaidNode, LaidEquation, LaidSheet, Places}
 
 past_is : (n p : ℕ) → p < n → past_in n p ≡ p + 1
@@ -75,6 +77,22 @@ module _ (ts vs : List ℕ) (same_length : length vs ≡ length ts) where
         let i : times s.count R (tokens ts vs) s.at ≡ got l q = moved R n s.count u s.at l q c k h in
         let z = e.ended l q i in
         (record { items = i ∙ ap (got l) (sym z); many = sym c ∙ sym (times-length R (tokens ts vs) n u l q h) }, z)
+
+  -- a definition's variants or fields
+  module _ (M x s : ℕ) (d : TypeDef) (q : ℕ) (v : Span) where
+    pub described-enum : definition M (DefinitionToken.Enum x) (tokens ts vs) s ≡ got d q → Spanned (name M) ts vs s v → Described M (tokens ts vs) d q (Defined.Enum x v)
+    unfolding Described count
+    described-enum g e =
+        let a = enum-got M (tokens ts vs) s x d q g in
+        let t = span-at (name M) s 3 0 64 a.0 a.1 a.2 q a.3 a.4 v s e refl in
+        (a.2, t.0, t.1, a.5)
+
+    pub described-record : definition M (DefinitionToken.Record x) (tokens ts vs) s ≡ got d q → Spanned (declaration M) ts vs s v → Described M (tokens ts vs) d q (Defined.Record x v)
+    unfolding Described count
+    described-record g e =
+        let a = record-got M (tokens ts vs) s x d q g in
+        let t = span-at (declaration M) s 3 0 64 a.0 a.1 a.2 q a.3 a.4 v s e refl in
+        (a.2, t.0, t.1, a.5)
 
   at_name : (M p x q : ℕ) → p < length ts → name M (tokens ts vs) p ≡ got x q → (x ≡ get_or vs p 0) × (q ≡ p + 1)
   unfolding name
@@ -168,7 +186,7 @@ module _ (ts vs : List ℕ) (same_length : length vs ≡ length ts) where
         }
 
     pub laid-equation : (p : ℕ) (l : Span) → Spanned (name M) ts vs p l → (z : ℕ) → ((e : Expr) (q : ℕ) → expr M 32 (tokens ts vs) l.end ≡ got e q → z ≡ q) →
-        (e : Equation) (q : ℕ) → equation M (tokens ts vs) p ≡ got e q → LaidEquation M (tokens ts vs) e q (record { left = l; right = l.end; end = z })
+        (e : Equation) (q : ℕ) → equation M (tokens ts vs) p ≡ got e q → LaidEquation M (tokens ts vs) e q l z
     laid-equation p l el z ez e q g =
         let t = equation-got M (tokens ts vs) p e q g in
         let s = span-at (name M) p 3 1 8 t.0 t.1 t.2 t.3 t.5 t.6 l p el refl in

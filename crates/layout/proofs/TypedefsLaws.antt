@@ -21,18 +21,16 @@ use Rattle.definitions.specs.declared.Primitive.{Primitive}
 use Rattle.definitions.specs.declared.TypeToken.{TypeToken}
 use Rattle.definitions.specs.Lists.{choose, find, place_by}
 use Rattle.definitions.specs.Tokens.{TagValue, given, type_token_of, definition_token_of}
-use Rattle.definitions.specs.Tree.{Ty, Declared, TypeDef}
+use Rattle.definitions.specs.Tree.{Ty, TypeDef}
 use Rattle.definitions.specs.Reading.{Got, got, rejected, Reader, token, times}
-use Rattle.definitions.specs.Grammar.{counted, count, name, tagged, ty, declaration, definition, type_def}
+use Rattle.definitions.specs.Grammar.{name, tagged, ty, definition, type_def}
 use Rattle.definitions.specs.Bytes.{tokens}
 use Rattle.grammar.specs.Outcome.{told}
 use Rattle.grammar.proofs.Laws.{told-got, told-refused, after-got, wrap-got, times-length, tokens-length}
 use Rattle.grammar.proofs.Longer.{token-got}
-use Rattle.grammar.proofs.Got.{definition-got, enum-got, record-got, alias-got, token-value, tagged-value, type-got, primitive-got, named-got, element-got, times-cons}
+use Rattle.grammar.proofs.Got.{definition-got, enum-got, record-got, alias-got, token-value, tagged-value, type-got, primitive-got, named-got, element-got}
 use Rattle.layout.specs.declared.Defined.{Defined}
-use Rattle.layout.specs.declared.DeclarationLayout.{DeclarationLayout}
 use Rattle.layout.specs.Spans.{Ended, here, later}
-use Rattle.layout.specs.Laid.{LaidDeclaration}
 use Rattle.layout.specs.Table.{nowhere, def_at, is_named, Found, FoundFirst, Table, Named, Described}
 
 -- what a reading was, by its good answer
@@ -225,8 +223,8 @@ module _ (M : ℕ) (ts : List TagValue) (p : ℕ) (r : Result (DefinitionToken �
       let z : ◌≡◌ {A = ℕ} 0 1 = cc in omega arith
 
   module _ (h : DefinitionToken) (s : ℕ) (e : r ≡ Ok (h, s)) where
-    is : (k : DefinitionToken) → h ≡ k → definition M k ts s ≡ got d q
-    is k j =
+    pub definition-is : (k : DefinitionToken) → h ≡ k → definition M k ts s ≡ got d q
+    definition-is k j =
         let a = definition-got M ts p d q g in
         let f = told-got (token (definition_token_of M) ts p) r h s i e in
         let u : a.0 ≡ k = cc in
@@ -235,40 +233,7 @@ module _ (M : ℕ) (ts : List TagValue) (p : ℕ) (r : Result (DefinitionToken �
 
     pub describe-alias : (x : ℕ) → h ≡ DefinitionToken.Alias x → Described M ts d q (Defined.Alias x s)
     unfolding Described
-    describe-alias x j = alias-got M ts s x d q (is (DefinitionToken.Alias x) j)
-
-    module _ (c : Result (ℕ × ℕ) Refusal) (ec : c ≡ told (counted 3 0 64 ts s)) (x : ℕ) where
-      pub describe-enum : (n u : ℕ) → h ≡ DefinitionToken.Enum x → c ≡ Ok (n, u) → Described M ts d q (Defined.Enum x n u)
-      unfolding Described count
-      describe-enum n u j f =
-          let a = enum-got M ts s x d q (is (DefinitionToken.Enum x) j) in
-          let b = told-got (counted 3 0 64 ts s) c n u ec f in
-          let v : a.0 ≡ n = cc in
-          let w : a.1 ≡ u = cc in
-          (a.2, rw (v, w) at a.4, a.5)
-
-      pub describe-record : (n u : ℕ) → h ≡ DefinitionToken.Record x → c ≡ Ok (n, u) → Described M ts d q (Defined.Record x n u)
-      unfolding Described count
-      describe-record n u j f =
-          let a = record-got M ts s x d q (is (DefinitionToken.Record x) j) in
-          let b = told-got (counted 3 0 64 ts s) c n u ec f in
-          let v : a.0 ≡ n = cc in
-          let w : a.1 ≡ u = cc in
-          (a.2, rw (v, w) at a.4, a.5)
-
-      pub describe-no-enum : (t : Refusal) → h ≡ DefinitionToken.Enum x → c ≡ Err t → ⊥
-      unfolding count
-      describe-no-enum t j f =
-          let a = enum-got M ts s x d q (is (DefinitionToken.Enum x) j) in
-          let b = told-refused (counted 3 0 64 ts s) c t ec f in
-          let z : ◌≡◌ {A = ℕ} 0 1 = cc in omega arith
-
-      pub describe-no-record : (t : Refusal) → h ≡ DefinitionToken.Record x → c ≡ Err t → ⊥
-      unfolding count
-      describe-no-record t j f =
-          let a = record-got M ts s x d q (is (DefinitionToken.Record x) j) in
-          let b = told-refused (counted 3 0 64 ts s) c t ec f in
-          let z : ◌≡◌ {A = ℕ} 0 1 = cc in omega arith
+    describe-alias x j = alias-got M ts s x d q (definition-is (DefinitionToken.Alias x) j)
 
 -- a type by its first token, as the code finds it
 module _ (M : ℕ) (ts : List TagValue) (p : ℕ) (r : Result (TypeToken × ℕ) Refusal) (i : r ≡ told (token (type_token_of M) ts p)) (depth : ℕ) (t : Ty) (q : ℕ) (g : ty M depth ts p ≡ got t q) where
@@ -300,40 +265,6 @@ module _ (M : ℕ) (ts : List TagValue) (p : ℕ) (r : Result (TypeToken × ℕ)
         let u : a.0 ≡ TypeToken.Array n = cc in
         let v : p + 1 ≡ s = cc in
         element-got M ts p n depth t q s (rw (u, v) at a.3) (rw u at a.2)
-
--- the first of so many fields, whose type stands at `first`
-pub record FirstField (M : ℕ) (ts : List TagValue) (k p first : ℕ) (fs : List Declared) (q : ℕ) : Type 0 where
-  pub id : ℕ
-  pub type : Ty
-  pub next : ℕ
-  pub rest : List Declared
-  pub label : name M ts p ≡ got id first
-  pub typed : ty M 8 ts first ≡ got type next
-  pub others : times (k - 1) (declaration M) ts next ≡ got rest q
-  pub whole : fs ≡ record { name = id; type = type } ∷ rest
-
-module _ (M : ℕ) (ts : List TagValue) (k p : ℕ) (fs : List Declared) (q : ℕ) (some_left : k ≡ 0 → ⊥) (g : times k (declaration M) ts p ≡ got fs q) where
-  pub declared-there : ((d : Declared) (s : ℕ) → declaration M ts p ≡ got d s → ⊥) → ⊥
-  declared-there f = let a = times-cons (declaration M) ts k p fs q some_left g in f a.0 a.1 a.3
-
-  pub declared-first : (l : DeclarationLayout) → ((d : Declared) (s : ℕ) → declaration M ts p ≡ got d s → LaidDeclaration M ts p d s l) →
-      (f : FirstField M ts k p l.type_at fs q) × (times (k - 1) (declaration M) ts l.end ≡ got f.rest q) × (l.name ≡ f.id)
-  declared-first l f =
-      let a = times-cons (declaration M) ts k p fs q some_left g in
-      let h = f a.0 a.1 a.3 in (
-        record {
-          id = a.0.name;
-          type = a.0.type;
-          next = l.end;
-          rest = a.2;
-          label = h.label;
-          typed = h.typed ∙ ap (got a.0.type) (sym h.ends);
-          others = rw h.ends a.4;
-          whole = a.5;
-        },
-        rw h.ends a.4,
-        h.named,
-      )
 
 -- the first definition that passes a test, and whether there is one
 module _ (p : TypeDef → Bool) where

@@ -20,9 +20,6 @@ use Rattle.layout.specs.declared.walk.Nodes.{Nodes}
 use Rattle.layout.specs.Laid.{LaidDeclaration, LaidNode}
 use Rattle.layout.specs.Walk.{layouts_in, LaidAll, all-laid, laid-before, GivesNode, NodesLeft}
 
-pub suc-left : (n : ℕ) → (n ≡ 0 → ⊥) → n ≡ suc (n - 1)
-suc-left n h = omega (arith, h)
-
 some_not_none : {A : Type 0} {r : Option A} {a : A} → r ≡ Some a → r ≡ None → ⊥
 some_not_none {A} {r} {a} i j = let z : ◌≡◌ {A = Option A} (Some a) None = sym i ∙ j in cc
 

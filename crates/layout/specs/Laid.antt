@@ -9,8 +9,8 @@ use Rattle.definitions.specs.Grammar.{name, ty, declaration, expr, equation, pro
 use Rattle.layout.specs.Spans.{Spans}
 use Rattle.layout.specs.declared.DeclarationLayout.{DeclarationLayout}
 use Rattle.layout.specs.declared.NodeLayout.{NodeLayout}
-use Rattle.layout.specs.declared.EquationLayout.{EquationLayout}
 use Rattle.layout.specs.declared.SheetLayout.{SheetLayout}
+use Rattle.layout.specs.declared.Span.{Span}
 
 -- a name with its type, from p up to q: the type stands behind the name, where the layout says
 pub record LaidDeclaration (M : ℕ) (ts : List TagValue) (p : ℕ) (d : Declared) (q : ℕ) (l : DeclarationLayout) : Type 0 where
@@ -30,11 +30,11 @@ pub record LaidNode (M : ℕ) (ts : List TagValue) (n : Node) (q : ℕ) (l : Nod
   pub probes : Spans (probe M) ts n.probes l.probes
   pub ends : l.end ≡ q
 
--- an equation that ends at q: its left names and its right side stand where the layout says
-pub record LaidEquation (M : ℕ) (ts : List TagValue) (e : Equation) (q : ℕ) (l : EquationLayout) : Type 0 where
-  pub left : Spans (name M) ts e.left l.left
-  pub right : expr M 32 ts l.right ≡ got e.right q
-  pub ends : l.end ≡ q
+-- an equation that ends at q: its left names stand there, and its right side behind them
+pub record LaidEquation (M : ℕ) (ts : List TagValue) (e : Equation) (q : ℕ) (l : Span) (end : ℕ) : Type 0 where
+  pub left : Spans (name M) ts e.left l
+  pub right : expr M 32 ts l.end ≡ got e.right q
+  pub ends : end ≡ q
 
 -- a sheet: its types and its nodes stand where the layout says, and fill it
 pub record LaidSheet (M : ℕ) (ts : List TagValue) (s : Sheet) (l : SheetLayout) : Type 0 where

@@ -3,9 +3,10 @@ use Rattle.std.specs.Prelude.{ℕ, ◌<◌, ◌≡◌, List, [], Bool, eqb, leng
 use Rattle.definitions.specs.Lists.{place_by}
 use Rattle.definitions.specs.Tokens.{TagValue}
 use Rattle.definitions.specs.Tree.{Ty, Declared, Body, TypeDef}
-use Rattle.definitions.specs.Reading.{got, times}
+use Rattle.definitions.specs.Reading.{got}
 use Rattle.definitions.specs.Grammar.{name, ty, declaration, type_def}
 use Rattle.layout.specs.declared.Defined.{Defined}
+use Rattle.layout.specs.Spans.{Spans}
 
 -- what stands past the last definition
 abbrev pub nowhere : TypeDef
@@ -46,10 +47,10 @@ pub record Named (vs : List ℕ) (places : List ℕ) (n : ℕ) (types : List Typ
   pub count : length types ≡ n
   pub same : (i : ℕ) → i < n → get_or vs (get_or places i 0) 0 ≡ name_at types i
 
--- the parts of a definition that ends at q: its name, how many variants or fields it has and where the first is, or where its type is
+-- the parts of a definition that ends at q: its name and its variants or fields, or where its type is
 unfoldable pub Described : ℕ → List TagValue → TypeDef → ℕ → Defined → Type 0
-Described M ts d q (Defined.Enum x n p) =
-    (vs : List ℕ) × (times n (name M) ts p ≡ got vs q) × (d ≡ record { name = x; body = Body.enum vs })
-Described M ts d q (Defined.Record x n p) =
-    (fs : List Declared) × (times n (declaration M) ts p ≡ got fs q) × (d ≡ record { name = x; body = Body.fields fs })
+Described M ts d q (Defined.Enum x s) =
+    (vs : List ℕ) × Spans (name M) ts vs s × (s.end ≡ q) × (d ≡ record { name = x; body = Body.enum vs })
+Described M ts d q (Defined.Record x s) =
+    (fs : List Declared) × Spans (declaration M) ts fs s × (s.end ≡ q) × (d ≡ record { name = x; body = Body.fields fs })
 Described M ts d q (Defined.Alias x p) = (t : Ty) × (ty M 8 ts p ≡ got t q) × (d ≡ record { name = x; body = Body.alias t })

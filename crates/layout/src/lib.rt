@@ -15,14 +15,14 @@ ghost use Rattle.definitions.specs.Lists.{any};
 ghost use Rattle.layout.specs.Owed.{Owed};
 ghost use Rattle.layout.specs.Marks.{is_sample, nowhere, there, Mark, Marks};
 ghost use Rattle.layout.specs.Spans.{past_in, Spanned, Spans, Ended};
-ghost use Rattle.layout.specs.Laid.{LaidDeclaration, LaidNode, LaidEquation, LaidSheet, Places};
+ghost use Rattle.layout.specs.Laid.{LaidDeclaration, LaidNode, LaidSheet, Places};
 ghost use Rattle.layout.specs.Walk.{layouts_in, declared_left, LaidAll};
 
 mod follow;
 mod place_table;
 mod walk;
 
-use definitions::{DefinitionToken, MOST_ITEMS, MOST_NODES, MOST_TYPES, NodeKind};
+use definitions::{DefinitionToken, MOST_NODES, MOST_TYPES, NodeKind};
 pub use follow::{PartsTable, parts_table};
 use grammar::{Source, tags};
 pub use place_table::PlaceTable;
@@ -30,11 +30,11 @@ pub use walk::{Declarations, Nodes};
 
 // ---- Where the definitions of a sheet's types stand, and their parts: document 01, "The sheet".
 
-// A definition: its name, how many variants or fields it has and the first's place; or its name and its type's place.
+// A definition: its name and its variants or fields; or its name and its type's place.
 #[derive(Clone, Copy)]
 pub enum Defined {
-    Enum { name: u32, count: u32, first: usize },
-    Record { name: u32, count: u32, first: usize },
+    Enum { name: u32, variants: Span },
+    Record { name: u32, fields: Span },
     Alias { name: u32, target: usize },
 }
 
@@ -57,27 +57,15 @@ pub fn find_definition(values: &[u32], types: &PlaceTable<MOST_TYPES>, x: u32) -
 pub fn describe(source: &Source<'_>, at: usize) -> Option<Defined>
     ensures { (d : TypeDef) (q : ℕ) → type_def source.now.names (tokens_of source.now) at ≡ got d q → IsSomeAnd result (Described source.now.names (tokens_of source.now) d q) }
 {
-    let (t, next) = grammar::definition_head(source, at).ok()?;
-    match t {
+    let (head, next) = grammar::definition_head(source, at).ok()?;
+    match head {
         DefinitionToken::Enum(name) => {
-            let (count, first) = grammar::read_count(
-                source,
-                tags::COUNT,
-                0,
-                MOST_ITEMS,
-                next,
-            ).ok()?;
-            Some(Defined::Enum { name, count, first })
+            let variants = names_at(source, next);
+            Some(Defined::Enum { name, variants })
         }
         DefinitionToken::Record(name) => {
-            let (count, first) = grammar::read_count(
-                source,
-                tags::COUNT,
-                0,
-                MOST_ITEMS,
-                next,
-            ).ok()?;
-            Some(Defined::Record { name, count, first })
+            let fields = declared_at(source, next);
+            Some(Defined::Record { name, fields })
         }
         DefinitionToken::Alias(name) => Some(Defined::Alias { name, target: next }),
     }
@@ -164,8 +152,8 @@ fn definition_end(source: &Source<'_>, at: usize) -> usize
     ensures { (d : TypeDef) (q : ℕ) → type_def source.now.names (tokens_of source.now) at ≡ got d q → result ≡ q }
 {
     match describe(source, at) {
-        Some(Defined::Enum { count, first, .. }) => names_end(source, count, first),
-        Some(Defined::Record { count, first, .. }) => declarations_end(source, count, first),
+        Some(Defined::Enum { variants, .. }) => variants.end,
+        Some(Defined::Record { fields, .. }) => fields.end,
         Some(Defined::Alias { target, .. }) => past(source, 1, target),
         None => at,
     }
@@ -234,14 +222,6 @@ impl NodeLayout {
     }
 }
 
-// An equation: its left names, where its right side stands, and the place after it.
-#[derive(Clone, Copy)]
-pub struct EquationLayout {
-    pub left: Span,
-    pub right: usize,
-    pub end: usize,
-}
-
 // A sheet: its types' definitions, and its nodes.
 #[derive(Clone, Copy)]
 pub struct SheetLayout {
@@ -307,24 +287,16 @@ pub(crate) fn declaration_at(source: &Source<'_>, at: usize) -> Option<Declarati
     Some(DeclarationLayout { name, type_at, end })
 }
 
-// So many names with their types, of which the first stands at a place, one after another.
-pub fn declarations_from<'a>(source: &Source<'a>, count: u32, at: usize) -> Declarations<'a>
-    ensures left { declared_left result ≡ layouts_in source.now.names (tokens_of source.now) count at }
-    ensures laid { (ds : List Declared) (q : ℕ) → times count (declaration source.now.names) (tokens_of source.now) at ≡ got ds q → LaidAll source.now.names (tokens_of source.now) ds (declared_left result) }
-{
-    Declarations {
-        source: *source,
-        at,
-        left: count,
-    }
-}
-
 // The names with their types of a span, one after another.
 pub fn declarations<'a>(source: &Source<'a>, declared: Span) -> Declarations<'a>
     ensures left { declared_left result ≡ layouts_in source.now.names (tokens_of source.now) declared.count declared.at }
     ensures laid { (ds : List Declared) → Spans (declaration source.now.names) (tokens_of source.now) ds declared → LaidAll source.now.names (tokens_of source.now) ds (declared_left result) }
 {
-    declarations_from(source, declared.count, declared.at)
+    Declarations {
+        source: *source,
+        at: declared.at,
+        left: declared.count,
+    }
 }
 
 // The parts of the node that stands at a place.
@@ -372,16 +344,6 @@ pub fn nodes<'a>(source: &Source<'a>, nodes: Span) -> Nodes<'a>
     }
 }
 
-// The parts of the equation that stands at a place.
-pub fn equation_at(source: &Source<'_>, at: usize) -> EquationLayout
-    ensures { (e : Equation) (q : ℕ) → equation source.now.names (tokens_of source.now) at ≡ got e q → LaidEquation source.now.names (tokens_of source.now) e q result }
-{
-    let left = names_at(source, at);
-    let right = left.end;
-    let end = expr_end(source, right);
-    EquationLayout { left, right, end }
-}
-
 // The parts of a sheet: its nodes fill it.
 pub fn sheet_at(source: &Source<'_>) -> SheetLayout
     ensures { (s : Sheet) (q : ℕ) → sheet source.now.names (tokens_of source.now) 0 ≡ got s q → LaidSheet source.now.names (tokens_of source.now) s result }
@@ -402,10 +364,10 @@ fn places_of<const N: usize, F: Fn(usize) -> usize>(items: Span, item_end: F) ->
 {
     let count = N.min(items.count as usize);
     let mut places = [0usize; N];
-    let mut place = items.at;
-    for i in 0..count {
-        places[i] = place;
-        place = item_end(place);
+    let mut next = items.at;
+    for place in places[..count].iter_mut() {
+        *place = next;
+        next = item_end(next);
     }
     PlaceTable { at: places, count }
 }

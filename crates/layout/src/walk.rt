@@ -32,6 +32,7 @@ impl<'a> Iterator for Declarations<'a> {
 }
 
 // The nodes that are left, so many, of which the first stands at a place.
+// Stays (no plainer): beside `Declarations`; one walk for both is over a trait, which states the law of what each reads.
 #[derive(Clone, Copy)]
 pub struct Nodes<'a> {
     pub(crate) source: Source<'a>,

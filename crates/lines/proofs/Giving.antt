@@ -1,14 +1,13 @@
 -- A text measured, and then put where the lent bytes are enough.
-use Prim.Native.Nat.{ℕ, ◌≤◌, ◌<◌}
+use Prim.Native.Nat.{ℕ, ◌≤◌}
 use mathlib.Core.Path.{◌≡◌, refl, ap, ◌∙◌}
 use mathlib.Core.List.{List, [], ◌∷◌, ◌++◌}
 use lib.ListN.{length, take, drop}
-use borrow.Author.Tests.{le-leb, lt-leb}
+use borrow.Author.Tests.{le-leb}
 use Rattle.definitions.specs.Lists.{over, Letters}
 use Rattle.spelling.specs.Writing.{Put, farthest}
 use Rattle.spelling.proofs.Writing.{put-measure, put-over}
-use Rattle.std.specs.Prelude.{Ok, Err}
-use Rattle.definitions.specs.declared.Refusal.{Refusal}
+use Rattle.std.specs.Prelude.{Ok}
 use Rattle.lines.specs.Lending.{Gives}
 
 -- a text over as many bytes as it has, before the others
@@ -26,10 +25,3 @@ module _ (text : Letters) (lent : List ℕ) (n : ℕ) {none none₁ : List ℕ} 
       let g = le-leb (length text) (length lent) f in
       let b : part ++ drop n lent ≡ over text lent = ap (λ r. r ++ drop n lent) (put-over v) ∙ ap (λ i. over text (take i lent) ++ drop i lent) e ∙ over-part text lent in
       record { answer = rw g; size = e; bytes = rw g b }
-
-  pub gives-lent : length lent < n → Gives text lent (Err (Refusal.Lent n)) lent
-  gives-lent k =
-      let e : n ≡ length text = put-measure h u in
-      let f : length lent < length text = rw e at k in
-      let g = lt-leb (length text) (length lent) f in
-      record { answer = rw (g, e); size = e; bytes = rw g }

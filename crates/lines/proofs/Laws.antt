@@ -1,24 +1,23 @@
 -- The lines of a node's listing, one behind another. Assumes nothing.
-use mathlib.Core.Path.{◌≡◌, refl, sym, subst, ◌∙◌, ap}
+use mathlib.Core.Path.{◌≡◌, refl, sym, ◌∙◌, ap}
 use mathlib.Core.List.{List, [], ◌∷◌, ◌++◌, map, append_assoc, append-nil}
 use mathlib.Core.Bool.{Bool, true, false}
 use mathlib.Core.Option.{Option}
-use Prim.Native.Nat.{ℕ, suc, ◌+◌, ◌-◌, ◌*◌, ◌≤◌, ◌<◌}
+use Prim.Native.Nat.{ℕ, suc, ◌+◌, ◌*◌, ◌<◌}
 use native.Mathlib.Omega.{arith}
 use native.Mathlib.Numerals.{add-one}
 use lib.ListN.{length, get_or, take, length-append, length-map}
-use lib.Seq.{take-suc, take_all}
+use lib.Seq.{take-suc}
 use Rattle.std.proofs.lemmas.List.{map-append}
 use Rattle.definitions.specs.Lists.{choose, any, join, numbered, Letters}
-use Rattle.definitions.specs.Bytes.{tokens}
 use Rattle.definitions.specs.Tree.{Equation, Node}
-use Rattle.definitions.specs.Reading.{got}
-use Rattle.definitions.specs.Grammar.{equation}
 use Rattle.definitions.specs.Clock.{Clock}
 use Rattle.definitions.specs.InferClocks.{Formed, deep, formed, ◌>>=◌, Natural, Clocks, Clocked, Clocking, Inferred, Finding, found, NodeFault, is_too_deep, natural, or_base, clocked_by, check_equation, inferred, clocking, chains, clock_faults}
 use Rattle.definitions.specs.Texts.{fault_line}
 use Rattle.definitions.specs.Answer.{node_clocks, node_listing}
-use Rattle.clock_tables.specs.Flat.{clock_in}
+use Rattle.clock_tables.specs.Value.{value_of}
+use Rattle.clock_tables.specs.declared.clock.Clock as value
+use Rattle.std.specs.Prelude.{Some, None}
 use Rattle.findings.specs.Findings.{finding_in, findings_in}
 use Rattle.findings.proofs.Laws.{none_yet, faults-one, faults-no}
 use Rattle.spelling.specs.Places.{letters_in}
@@ -34,6 +33,9 @@ use Rattle.lines.specs.declared.ListedNode.{ListedNode}
 use Rattle.lines.specs.declared.NamedText.{NamedText}
 use Rattle.lines.specs.Spelled.{Spells}
 use Rattle.lines.specs.Listed.{Lists, AreChains, listed}
+use Rattle.lines.specs.Walk.{GivesClock, ClocksLeft}
+use Rattle.lines.specs.declared.equation_clocks.EquationClocks.{EquationClocks}
+use Rattle.lines.proofs.Walks.{clocks-next, clocks-end}
 use Rattle.lines.proofs.Listing.{put-numbered}
 use Rattle.lines.proofs.Spelled.{spells_then, spells_as, spells_none, line_more, listing_spelled}
 
@@ -64,9 +66,6 @@ module _ (f : ℕ → Clock) (o : List ℕ) (w : NamedText) where
       ap (λ (x : Clock). map f (take i o) ++ (x ∷ [])) e ∙ sym (map-append f (take i o) (get_or o i 0 ∷ [])) ∙ ap (map f) (sym (take-suc o i 0 h)) ∙ ap (λ (k : ℕ). map f (take k o)) (sym (add-one i)) in
       spells_as (λ n. ap (λ (l : List Clock). join (map (chain_line n) l)) g) (line_more chain_line (map f (take i o)) c u v)
 
-  pub chains-all : (i : ℕ) {w₁ : NamedText} → length o ≤ i → Spells (λ n. join (map (chain_line n) (map f (take i o)))) w w₁ → Spells (λ n. join (map (chain_line n) (map f o))) w w₁
-  chains-all i h u = spells_as (λ n. ap (λ (l : List ℕ). join (map (chain_line n) (map f l))) (take_all i o h)) u
-
 -- ---- a line for each equation
 module _ (clocks : Clocks) where
   -- an equation with its clock, before others
@@ -92,56 +91,37 @@ module _ (clocks : Clocks) where
       let a = clocked-cons e es cs h in
       ap (λ (l : List Clocked). length (map (λ (c : Clocked). c.clock) l)) a.4 ∙ ap suc (clocked-many es a.1 a.3)
 
--- one clock more
-one_more : (l : List Clock) (c : Clocked) (ds : List Clocked) (v : Clock) (all : List Clock) → v ≡ c.clock → l ++ map (λ (c : Clocked). c.clock) (c ∷ ds) ≡ all → (l ++ (v ∷ [])) ++ map (λ (c : Clocked). c.clock) ds ≡ all
-one_more l c ds v all a h = append_assoc l (v ∷ []) (map (λ (c : Clocked). c.clock) ds) ∙ (ap (λ (x : Clock). l ++ (x ∷ map (λ (c : Clocked). c.clock) ds)) a ∙ h)
-
 -- the lines so far, and the equations left; all clocks are `all`
-pub record Lines (M : ℕ) (gs vs sites : List ℕ) (line : ℕ → Clock → Letters) (left i place q : ℕ) (w w₁ : TextWriter) (all : List Clock) : Type 0 where
-  pub rest : List Clocked
+pub record Lines (line : ℕ → Clock → Letters) (i : ℕ) (s : EquationClocks) (w w₁ : TextWriter) (all : List Clock) : Type 0 where
+  pub rest : List Clock
   pub so_far : List Clock
-  pub on : EquationsOn M gs vs sites rest place q
-  pub count : length rest ≡ left
+  pub left : ClocksLeft rest s
   pub many : i ≡ length so_far
-  pub whole : so_far ++ map (λ (c : Clocked). c.clock) rest ≡ all
+  pub whole : so_far ++ rest ≡ all
   pub lines : Wrote (join (numbered line 0 so_far)) w w₁
 
-module _ (M : ℕ) (gs vs sites : List ℕ) (line : ℕ → Clock → Letters) (w : TextWriter) where
-  pub lines_start : (count n at q : ℕ) (cs : List Clocked) → n ≡ count → EquationsOn M gs vs sites cs at q → length cs ≡ count
-      → Lines M gs vs sites line (n - 0) 0 at q w w (map (λ (c : Clocked). c.clock) cs)
-  lines_start count n at q cs c g h = record { rest = cs; so_far = []; on = g; count = omega (arith, c, h); many = refl; whole = refl; lines = wrote_none w }
+module _ (line : ℕ → Clock → Letters) (w : TextWriter) (all : List Clock) where
+  pub lines_start : (i : ℕ) (s : EquationClocks) → i ≡ 0 → ClocksLeft all s → Lines line i s w w all
+  lines_start i s z h = record { rest = all; so_far = []; left = h; many = z; whole = refl; lines = wrote_none w }
 
-  module _ (left i place q : ℕ) (all : List Clock) {w₁ : TextWriter} (z : left ≡ 0) (h : Lines M gs vs sites line left i place q w w₁ all) where
-    lines-all : h.so_far ≡ all
-    lines-all = go h.rest h.count h.whole
-      where
-        go : (l : List Clocked) → length l ≡ left → h.so_far ++ map (λ (c : Clocked). c.clock) l ≡ all → h.so_far ≡ all
-        go [] k e = sym (append-nil h.so_far) ∙ e
-        go (c ∷ l) k e = absurd (omega (arith, z, k))
+  module _ {i : ℕ} {s : EquationClocks} {w₁ : TextWriter} (h : Lines line i s w w₁ all) (t : EquationClocks) where
+    pub lines_step : (n j : ℕ) (c : value.Clock) {w₂ : TextWriter} → GivesClock s (Some c) t → j ≡ i → n ≡ i + 1 → Wrote (line j (value_of c)) w₁ w₂ → Lines line n t w w₂ all
+    lines_step n j c g e k u =
+        let v = value_of c in
+        let r = clocks-next h.left t c g in
+        record {
+          rest = r.0;
+          so_far = h.so_far ++ (v ∷ []);
+          left = r.2;
+          many = simp length-append (omega (arith, h.many, k));
+          whole = append_assoc h.so_far (v ∷ []) r.0 ∙ (ap (λ x. h.so_far ++ x) (sym r.1) ∙ h.whole);
+          lines = put-numbered line h.so_far j v (e ∙ h.many) h.lines u;
+        }
 
-    pub lines_end : Wrote (join (numbered line 0 all)) w w₁
-    lines_end = wrote_as (ap (λ (l : List Clock). join (numbered line 0 l)) lines-all) h.lines
-
-  pub lines_step : (n i place q end : ℕ) (all : List Clock) (v : Clock) {w₁ w₂ : TextWriter} → i < n → v ≡ clock_in sites (17 * place)
-      → ((M : ℕ) (e : Equation) (q : ℕ) → equation M (tokens gs vs) place ≡ got e q → end ≡ q)
-      → Wrote (line i v) w₁ w₂
-      → Lines M gs vs sites line (n - i) i place q w w₁ all → Lines M gs vs sites line (n - (i + 1)) (i + 1) end q w w₂ all
-  unfolding EquationsOn
-  lines_step n i place q end all v {w₁} {w₂} z a E u h = go h.rest h.on h.count h.whole
-    where
-      go : (l : List Clocked) → EquationsOn M gs vs sites l place q → length l ≡ n - i → h.so_far ++ map (λ (c : Clocked). c.clock) l ≡ all → Lines M gs vs sites line (n - (i + 1)) (i + 1) end q w w₂ all
-      go [] o c y = absurd (omega (arith, z, c))
-      go (x ∷ l) o c y =
-          let m : i + 1 ≡ length (h.so_far ++ (v ∷ [])) = simp length-append (omega (arith, h.many)) in
-          record {
-            rest = l;
-            so_far = h.so_far ++ (v ∷ []);
-            on = subst (λ (y : ℕ). EquationsOn M gs vs sites l y q) (sym (E M x.equation o.0 o.1)) o.3;
-            count = omega (arith, z, c);
-            many = m;
-            whole = one_more h.so_far x l v all (a ∙ o.2) y;
-            lines = put-numbered line h.so_far i v h.many h.lines u;
-          }
+    pub lines_end : GivesClock s None t → Wrote (join (numbered line 0 all)) w w₁
+    lines_end g =
+        let z : h.so_far ≡ all = sym (append-nil h.so_far) ∙ (ap (λ x. h.so_far ++ x) (sym (clocks-end h.left t g)) ∙ h.whole) in
+        wrote_as (ap (λ (l : List Clock). join (numbered line 0 l)) z) h.lines
 
 -- ---- a node
 -- a node's equations have the clocks that its names' clocks say
@@ -175,15 +155,15 @@ head-same : (letters : ℕ → Letters) (a a' b b' c c' d d' : ℕ) → a ≡ a'
 head-same letters a a' b b' c c' d d' e f g h = rw (e, f, g, h)
 
 -- the head, the lines of equations, chains and faults are the node's listing
-pub node-put : (l : ListedNode) (o : OrderedClocks) (n : ClockedNode) {w w₁ w₂ w₃ w₄ : NamedText} → w.spelling ≡ l.spelling → Lists l n → AreChains l o
+pub node-put : (l : ListedNode) (o : OrderedClocks) (n : ClockedNode) {w w₁ w₂ w₃ w₄ : NamedText} → w.spelling ≡ l.named.spelling → Lists l n → AreChains l o
     → Spells (λ s. head_line s l.told.layout.name l.told.layout.equations.count l.told.clocked.passes (length o.order.now)) w w₁
-    → ((M : ℕ) (cs : List Clocked) (q : ℕ) → EquationsOn M l.source.tags.now l.source.values.now l.sites.now cs l.told.layout.equations.at q → length cs ≡ l.told.layout.equations.count → Spells (λ s. join (numbered (equation_line s) 0 (map (λ (c : Clocked). c.clock) cs))) w₁ w₂)
+    → ((M : ℕ) (cs : List Clocked) (q : ℕ) → EquationsOn M l.named.source.tags.now l.named.source.values.now l.sites.now cs l.told.layout.equations.at q → length cs ≡ l.told.layout.equations.count → Spells (λ s. join (numbered (equation_line s) 0 (map (λ (c : Clocked). c.clock) cs))) w₁ w₂)
     → Spells (λ s. join (map (chain_line s) (ordered_clocks o))) w₂ w₃
     → Spells (λ s. join (map (fault_line s l.told.number) (clock_faults (findings_in l.table.now l.told.clocked.findings)))) w₃ w₄
     → Wrote (listed l n) w.text.now w₄.text.now
 unfolding node_listing node_clocks
 node-put l o n {w} {w₄ = w₄} same h e u v x y =
-    let letters = letters_in l.spelling in
+    let letters = letters_in l.named.spelling in
     let told = l.told in
     let k = n.clocking in
     let clocks = map (λ (c : Clocked). c.clock) k.equations in

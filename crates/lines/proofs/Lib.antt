@@ -6,5 +6,6 @@ pub mod Pieces
 pub mod Listing
 pub mod TextsLengths
 pub mod Giving
+pub mod Walks
 pub mod Laws
 pub mod ListingLengths

@@ -5,7 +5,6 @@ use mathlib.Core.List.{List, [], ◌∷◌, ◌++◌}
 use native.Mathlib.Nat.{zero-add}
 use lib.ListN.{length}
 use Rattle.definitions.specs.Lists.{join, numbered, Letters}
-use Rattle.definitions.specs.Texts.{listing}
 use Rattle.spelling.specs.Written.{Wrote}
 use Rattle.spelling.specs.declared.text_writer.TextWriter.{TextWriter}
 use Rattle.spelling.proofs.Writers.{wrote_then, wrote_as}

@@ -177,17 +177,17 @@ low-read M gs vs sites (c ∷ cs) p q h = (omega (arith, ap depth h.2, depth-in 
 pub node-fits : (l : ListedNode) (o : OrderedClocks) (n : ClockedNode) → Lists l n → AreChains l o → IsSmall l → length (listed l n) ≤ farthest
 unfolding node_listing node_clocks
 node-fits l o n h e small =
-    let letters = letters_in l.spelling in
+    let letters = letters_in l.named.spelling in
     let t = l.table.now in
     let k = n.clocking in
     let told = l.told in
-    let tags = l.source.tags.now in
-    let values = l.source.values.now in
-    let short : (j : ℕ) → length (letters j) ≤ 16384 = λ j. omega (arith, name-length l.spelling.starts.now l.spelling.letters.now j, small.letters) in
+    let tags = l.named.source.tags.now in
+    let values = l.named.source.values.now in
+    let short : (j : ℕ) → length (letters j) ≤ 16384 = λ j. omega (arith, name-length l.named.spelling.starts.now l.named.spelling.letters.now j, small.short.few-letters) in
     let b : Low (map (λ (c : Clocked). c.clock) k.equations) = low-read told.names tags values l.sites.now k.equations told.layout.equations.at told.layout.equations.end h.tells.on in
     let c : Low (chains letters (findings_in t told.clocked.findings)) = rw e at (low-rows o.rows.now o.order.now) in
     let d : length (map (λ (c : Clocked). c.clock) k.equations) ≤ 4096 =
-    omega (arith, length-map k.equations (λ (c : Clocked). c.clock), node-many n.node k h.formed, h.laid.equations.many, few-equations told.names (tokens tags values) told.layout.equations.count told.layout.equations.at n.node.equations told.layout.equations.end h.laid.equations.items, tokens-length tags values l.source.same_length, small.tokens) in
+    omega (arith, length-map k.equations (λ (c : Clocked). c.clock), node-many n.node k h.formed, h.laid.equations.many, few-equations told.names (tokens tags values) told.layout.equations.count told.layout.equations.at n.node.equations told.layout.equations.end h.laid.equations.items, tokens-length tags values l.named.source.same_length, small.short.few-tokens) in
     let g : length (chains letters (findings_in t told.clocked.findings)) ≤ 4096 = omega (arith, few-chains letters (findings_in t told.clocked.findings), length_from t 0 told.clocked.findings, small.findings) in
     let r = parts-fit letters short told.number n.node.name k.passes told.clocked.findings (map (λ (c : Clocked). c.clock) k.equations) (chains letters (findings_in t told.clocked.findings)) t b c d g small.findings in
     rw h.tells.all at r

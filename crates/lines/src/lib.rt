@@ -9,6 +9,7 @@ ghost use Rattle.findings.specs.Value.{clock_fault_of, fault_of};
 ghost use Rattle.spelling.specs.Places.{letters_in};
 ghost use Rattle.spelling.specs.Writing.{Put, farthest};
 ghost use Rattle.spelling.specs.Written.{Wrote};
+ghost use Rattle.infer_clocks.specs.Clocked.{ChainRoom};
 ghost use Rattle.lines.specs.Pieces.{words, on_another, head_line, equation_line, chain_line};
 ghost use Rattle.lines.specs.Lending.{Gives, PutsFront};
 ghost use Rattle.lines.specs.Spelled.{Spells, Stays};
@@ -19,14 +20,16 @@ ghost use Rattle.chain_order.specs.Order.{ordered_clocks};
 ghost use Rattle.skeleton.specs.Sites.{EquationsOn};
 ghost use Rattle.lines.specs.Listed.{Lists, AreChains, IsSmall, listed};
 
+mod equation_clocks;
+
 use chain_order::OrderedClocks;
 use clock_tables::Clock;
 use definitions::{Condition, Refusal, Test};
+pub use equation_clocks::EquationClocks;
 use findings::{ClockFault, Elsewhere, Fault, Finding, FindingList};
-use grammar::Source;
 use infer_clocks::NodeClocked;
 use layout::NodeLayout;
-use spelling::{Spelling, TextWriter};
+use spelling::{NamedSource, Spelling, TextWriter};
 
 // ---- The texts of faults, and the lines of a listing, put at a place of lent bytes.
 
@@ -336,8 +339,7 @@ pub struct ToldNode {
 // equation in the row of its first token.
 #[derive(Clone, Copy)]
 pub struct ListedNode<'a> {
-    pub spelling: Spelling<'a>,
-    pub source: Source<'a>,
+    pub named: NamedSource<'a>,
     pub told: ToldNode,
     // Stays (no plainer): its count is told with the node's passes, by what writes the table; `findings` puts both together.
     pub table: &'a [u32],
@@ -356,22 +358,31 @@ impl ListedNode<'_> {
         }
     }
 
+    // The clocks of its equations, one after another.
+    pub fn equation_clocks(&self) -> EquationClocks<'_>
+        ensures { result ≡ record { source = self.now.named.source; sites = self.now.sites; at = self.now.told.layout.equations.at; left = self.now.told.layout.equations.count } }
+    {
+        let equations = self.told.layout.equations;
+        EquationClocks {
+            source: self.named.source,
+            sites: self.sites,
+            at: equations.at,
+            left: equations.count,
+        }
+    }
+
     // A line for each of its equations.
     fn put_equations(&self, lines: &mut NamedText<'_, '_>)
         ensures stays { Stays lines.old lines.new }
-        ensures spelled { (M : ℕ) (cs : List Clocked) (q : ℕ) → EquationsOn M self.now.source.tags.now self.now.source.values.now self.now.sites.now cs self.now.told.layout.equations.at q → length cs ≡ self.now.told.layout.equations.count → Spells (λ n. join (numbered (equation_line n) 0 (map (λ c. c.clock) cs))) lines.old lines.new }
+        ensures spelled { (M : ℕ) (cs : List Clocked) (q : ℕ) → EquationsOn M self.now.named.source.tags.now self.now.named.source.values.now self.now.sites.now cs self.now.told.layout.equations.at q → length cs ≡ self.now.told.layout.equations.count → Spells (λ n. join (numbered (equation_line n) 0 (map (λ c. c.clock) cs))) lines.old lines.new }
     {
-        let s = self.told.layout.equations;
-        let mut place = s.at;
-        for i in 0..s.count as usize {
-            let c = clock_tables::get(self.sites, place);
-            lines.put_equation_line(i, c);
-            place = layout::equation_end(&self.source, place);
+        for (i, clock) in self.equation_clocks().enumerate() {
+            lines.put_equation_line(i, clock);
         }
     }
 
     // A line for each of its clock faults.
-    // Stays (no plainer): an iterator of findings asks for laws of its own, for this walk and those of `query` and `findings`.
+    // Stays (no plainer): by number: a fault is one case of a finding, so that over an iterator the walk would keep its `if let`.
     fn put_faults(&self, lines: &mut NamedText<'_, '_>)
         ensures { Spells (λ n. join (map (fault_line n self.now.told.number) (clock_faults (findings_in self.now.table.now self.now.told.clocked.findings)))) lines.old lines.new }
     {
@@ -396,7 +407,7 @@ impl ListedNode<'_> {
         } = self.told;
         let mut lines = NamedText {
             text,
-            spelling: self.spelling,
+            spelling: self.named.spelling,
         };
         let equations = layout.equations.count as usize;
         lines.put_head(layout.name, equations, clocked.passes, ordered.order.len());
@@ -421,9 +432,9 @@ impl ListedNode<'_> {
         rows: &mut [u32],
         chain: &mut [u32],
     ) -> Result<usize, Refusal>
-        ensures { (n : ClockedNode) → Lists self.now n → 17 * self.now.told.clocked.findings ≤ length rows.old → self.now.told.clocked.findings ≤ length chain.old → IsSmall self.now → Gives (listed self.now n) out.old result out.new }
+        ensures { (n : ClockedNode) → Lists self.now n → ChainRoom self.now.told.clocked.findings rows.old chain.old → IsSmall self.now → Gives (listed self.now n) out.old result out.new }
     {
-        let ordered = infer_clocks::chain_rows(self.spelling, self.findings(), rows, chain);
+        let ordered = infer_clocks::chain_rows(self.named.spelling, self.findings(), rows, chain);
         lend_put(out, |bytes: &mut [u8]| self.put(bytes, &ordered))
     }
 }

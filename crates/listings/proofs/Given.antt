@@ -14,9 +14,15 @@ use Rattle.definitions.specs.Answer.{Input, input, NodeClocks, node_at, node_clo
 use Rattle.lines.specs.declared.ToldNode as listing
 use Rattle.lines.specs.Lending.{lent_text, Gives}
 use Rattle.query.specs.declared.NodeCounts.{NodeCounts}
-use Rattle.query.specs.Standing.{NodeWithClocks, NodeTold}
+use Rattle.spelling.specs.declared.named.NamedSource.{NamedSource}
+use Rattle.spelling.specs.Named.{Short}
+use Rattle.query.specs.Standing.{Standing, NodeWithClocks, NodeTold}
 use Rattle.query.specs.Words.{Written}
 use Rattle.listings.specs.Answers.{clocks_of, listing_of, listings_of, listing_answered, ClocksGiven, ListingGiven}
+
+-- a sheet that stands is short
+pub short-of : {n : NamedSource} {i : Input} → Standing n.spelling n.source i → Short n
+short-of s = record { few-letters = s.few-letters; few-tokens = s.few-tokens }
 
 -- ---- refusals 1 to 7
 module _ {A : Type 0} (f : Input → Answer A) where

@@ -1,5 +1,4 @@
-// The clocks and the listings of a sheet's nodes, over the working tables: `spelling` has the letters of the sheet's names, `source` its
-// tokens.
+// The clocks and the listings of a sheet's nodes, over the working tables: `named` has the sheet's tokens, with the letters of its names.
 #![tactic(auto)]
 
 ghost use Rattle.std.specs.Prelude.{◌≡◌, List, ℕ, ◌≤◌, ◌<◌, ◌*◌, length};
@@ -12,6 +11,7 @@ ghost use Rattle.definitions.specs.Grammar.{node};
 ghost use Rattle.definitions.specs.Output.{ClockedNode};
 ghost use Rattle.definitions.specs.Answer.{Input, node_clocks, node_listing};
 ghost use Rattle.spelling.specs.Places.{letters_in};
+ghost use Rattle.spelling.specs.Named.{Short};
 ghost use Rattle.lines.specs.Lending.{lent_text, Gives};
 ghost use Rattle.workspace.specs.Room.{SameRoom, Ample, RoomToList};
 ghost use Rattle.query.specs.Standing.{Standing, NodeWithClocks};
@@ -20,21 +20,19 @@ ghost use Rattle.listings.specs.Lending.{KeepsRoom, Puts, lent_answer};
 ghost use Rattle.listings.specs.Answers.{clocks_of, listing_of, nodes_listed, listings_of, ClocksGiven, ListingGiven};
 
 use definitions::{FaultRecord, Refusal};
-use grammar::Source;
 use layout::Span;
 use lines::{ListedNode, ToldNode};
 use query::NodeCounts;
-use spelling::Spelling;
+use spelling::NamedSource;
 use workspace::Working;
 
 // Enough bytes for the listings of usual sheets.
 const ASIDE: usize = 65536;
 
 // The clocks and faults of a node that was clocked in these tables, over three lent lists.
-// Stays (proof): here and below, tried with `node` made in `clocks_in`: a field's length is untold once it was lent into a struct.
+// Stays (proof): here and below, of a `&mut Working` (tried) the length of `table`, lent in `node`, is untold (`same_room`).
 fn write_clocked(
-    spelling: Spelling<'_>,
-    source: &Source<'_>,
+    named: NamedSource<'_>,
     told: ToldNode,
     table: &mut [u32],
     rows: &mut [u32],
@@ -44,11 +42,10 @@ fn write_clocked(
     chains: &mut [u32],
     faults: &mut [FaultRecord],
 ) -> NodeCounts
-    ensures { (n : ClockedNode) → NodeWithClocks source.now.tags.now source.now.values.now table.old sites.old told n → Ample table.old rows.old chain.old → told.number < 16 → Written told.number (node_clocks (letters_in spelling.entry) n) equations.old chains.old faults.old equations.new chains.new faults.new result }
+    ensures { (n : ClockedNode) → NodeWithClocks named.entry.source.tags.now named.entry.source.values.now table.old sites.old told n → Ample table.old rows.old chain.old → told.number < 16 → Written told.number (node_clocks (letters_in named.entry.spelling) n) equations.old chains.old faults.old equations.new chains.new faults.new result }
 {
     let node = ListedNode {
-        spelling,
-        source: *source,
+        named,
         told,
         table,
         sites,
@@ -59,19 +56,17 @@ fn write_clocked(
 // The listing of a node that was clocked in these tables, over the front of the lent bytes.
 fn put_clocked(
     out: &mut [u8],
-    spelling: Spelling<'_>,
-    source: &Source<'_>,
+    named: NamedSource<'_>,
     told: ToldNode,
     table: &mut [u32],
     rows: &mut [u32],
     chain: &mut [u32],
     sites: &mut [u32],
 ) -> Result<usize, Refusal>
-    ensures { (n : ClockedNode) → NodeWithClocks source.now.tags.now source.now.values.now table.old sites.old told n → 17 * told.clocked.findings ≤ length rows.old → told.clocked.findings ≤ length chain.old → length spelling.entry.letters.now ≤ 16384 → length source.now.tags.now ≤ 4096 → told.clocked.findings ≤ 4096 → Gives (node_listing (letters_in spelling.entry) told.number n) out.old result out.new }
+    ensures { (n : ClockedNode) → NodeWithClocks named.entry.source.tags.now named.entry.source.values.now table.old sites.old told n → Ample table.old rows.old chain.old → Short named.entry → Gives (node_listing (letters_in named.entry.spelling) told.number n) out.old result out.new }
 {
     let node = ListedNode {
-        spelling,
-        source: *source,
+        named,
         told,
         table,
         sites,
@@ -81,8 +76,7 @@ fn put_clocked(
 
 // The clocks of node k: its name, passes and counts.
 pub fn clocks_in(
-    spelling: Spelling<'_>,
-    source: &Source<'_>,
+    named: NamedSource<'_>,
     k: usize,
     working: &mut Working<'_>,
     equations: &mut [u32],
@@ -90,12 +84,11 @@ pub fn clocks_in(
     faults: &mut [FaultRecord],
 ) -> Result<NodeCounts, Refusal>
     ensures same_room { SameRoom working.old working.new }
-    ensures given { (i : Input) → Standing spelling.entry source.now i → RoomToList source.now.names (length source.now.tags.now) working.old → ClocksGiven k (clocks_of i k) equations.old chains.old faults.old equations.new chains.new faults.new result }
+    ensures given { (i : Input) → Standing named.entry.spelling named.entry.source i → RoomToList named.entry.source.names (length named.entry.source.tags.now) working.old → ClocksGiven k (clocks_of i k) equations.old chains.old faults.old equations.new chains.new faults.new result }
 {
-    let told = query::clock_at(source, k, working)?;
+    let told = query::clock_at(&named.source, k, working)?;
     Ok(write_clocked(
-        spelling,
-        source,
+        named,
         told,
         working.table,
         working.rows,
@@ -110,19 +103,17 @@ pub fn clocks_in(
 // The listing of node k, over the front of the lent bytes.
 pub fn listing_in(
     out: &mut [u8],
-    spelling: Spelling<'_>,
-    source: &Source<'_>,
+    named: NamedSource<'_>,
     k: usize,
     working: &mut Working<'_>,
 ) -> Result<usize, Refusal>
     ensures same_room { SameRoom working.old working.new }
-    ensures given { (i : Input) → Standing spelling.entry source.now i → RoomToList source.now.names (length source.now.tags.now) working.old → ListingGiven (listing_of i k (length out.old)) out.old out.new result }
+    ensures given { (i : Input) → Standing named.entry.spelling named.entry.source i → RoomToList named.entry.source.names (length named.entry.source.tags.now) working.old → ListingGiven (listing_of i k (length out.old)) out.old out.new result }
 {
-    let told = query::clock_at(source, k, working)?;
+    let told = query::clock_at(&named.source, k, working)?;
     put_clocked(
         out,
-        spelling,
-        source,
+        named,
         told,
         working.table,
         working.rows,
@@ -164,16 +155,15 @@ pub fn lend_put<F: Fn(&mut [u8], &mut Working<'_>) -> Result<usize, Refusal>>(
 // The listings of these nodes, over the front of the lent bytes, if these are enough.
 fn listings_lent(
     out: &mut [u8],
-    spelling: Spelling<'_>,
-    source: &Source<'_>,
+    named: NamedSource<'_>,
     nodes: Span,
     working: &mut Working<'_>,
 ) -> Result<usize, Refusal>
     ensures same_room { SameRoom working.old working.new }
-    ensures given { (ns : List Node) (q : ℕ) → times nodes.count (node source.now.names) (tokens_of source.now) nodes.at ≡ got ns q → RoomToList source.now.names (length source.now.tags.now) working.old → length spelling.entry.letters.now ≤ 16384 → length source.now.tags.now ≤ 4096 → ListingGiven (nodes_listed (letters_in spelling.entry) ns (length out.old)) out.old out.new result }
+    ensures given { (ns : List Node) (q : ℕ) → times nodes.count (node named.entry.source.names) (tokens_of named.entry.source) nodes.at ≡ got ns q → RoomToList named.entry.source.names (length named.entry.source.tags.now) working.old → Short named.entry → ListingGiven (nodes_listed (letters_in named.entry.spelling) ns (length out.old)) out.old out.new result }
 {
     let put = |bytes: &mut [u8], tables: &mut Working<'_>| query::put_listings(
-        bytes, spelling, source, nodes, tables,
+        bytes, named, nodes, tables,
     );
     lend_put(out, &mut [0u8; ASIDE], working, put)
 }
@@ -181,20 +171,19 @@ fn listings_lent(
 // The listings of all nodes, in order, over the front of the lent bytes.
 pub fn listings_in(
     out: &mut [u8],
-    spelling: Spelling<'_>,
-    source: &Source<'_>,
+    named: NamedSource<'_>,
     working: &mut Working<'_>,
 ) -> Result<usize, Refusal>
     ensures same_room { SameRoom working.old working.new }
-    ensures given { (i : Input) → Standing spelling.entry source.now i → RoomToList source.now.names (length source.now.tags.now) working.old → ListingGiven (listings_of i (length out.old)) out.old out.new result }
+    ensures given { (i : Input) → Standing named.entry.spelling named.entry.source i → RoomToList named.entry.source.names (length named.entry.source.tags.now) working.old → ListingGiven (listings_of i (length out.old)) out.old out.new result }
 {
-    let whole = layout::sheet_at(source);
+    let whole = layout::sheet_at(&named.source);
     let nodes = whole.nodes;
     if nodes.count == 0 {
         return Ok(0);
     }
     if nodes.count == 1 {
-        return listing_in(out, spelling, source, 0, working);
+        return listing_in(out, named, 0, working);
     }
-    listings_lent(out, spelling, source, nodes, working)
+    listings_lent(out, named, nodes, working)
 }

@@ -8,7 +8,7 @@ use native.Mathlib.Nat.{zero-add}
 use native.Mathlib.Numerals.{add-one}
 use native.Mathlib.Omega.{arith}
 use lib.ListN.{length, get_or, take, set, length-map, get_or-append}
-use lib.Seq.{get_or-take, length-take-le}
+use lib.Seq.{get_or-take, length-take-le, take_all}
 use borrow.Author.Tests.{leb-true, leb-false}
 use Rattle.definitions.specs.Lists.{choose, any, place_by, up_from, Letters, decimal, bytes}
 use Rattle.definitions.specs.Tree.{Declared, Node}
@@ -105,6 +105,18 @@ module _ (f : ℕ → ℕ) (out₀ : List ℕ) where
       let t : take n out ≡ map f (up_from 0 n) =
       ap (λ (l : List ℕ). take n l) h ∙ (ap (λ (i : ℕ). take i (over_at 0 (map f (up_from 0 n)) out₀)) (sym (filled-length n)) ∙ over-take 0 (map f (up_from 0 n)) out₀ (omega (arith, filled-length n))) in
       sym (get_or-take n out j 0 u) ∙ (ap (λ (l : List ℕ). get_or l j 0) t ∙ (up_at f 0 0 n j u ∙ ap f z))
+
+-- the front of a table, as far as the table reaches
+module _ (l : List ℕ) (n m : ℕ) (long : length l ≡ 1024) (least : m ≡ min n 1024) where
+  pub take-least : take m l ≡ take n l
+  take-least = go (leb n 1024) refl
+    where
+      go : (t : Bool) → leb n 1024 ≡ t → take m l ≡ take n l
+      go true t = ap (λ (k : ℕ). take k l) (omega (arith, least, leb-true n 1024 t))
+      go false t = take_all m l (omega (arith, long, least, leb-false n 1024 t)) ∙ sym (take_all n l (omega (arith, long, leb-false n 1024 t)))
+
+  pub least-length : length (take m l) ≡ min n 1024
+  least-length = length-take-le m l (omega (arith, long, least)) ∙ least
 
 -- the ids of so many names of a stem, by the numbers that a table has for them
 pub ids-cut : (all : List Letters) (stem : Stem) (numbers cut out₀ : List ℕ) (n : ℕ) → length out₀ ≡ 1024 → cut ≡ take n numbers → length cut ≡ min n 1024
@@ -239,7 +251,7 @@ pub id-fits : {many long : ℕ} (t : NameTable many long) → many < 4294967296 
 id-fits t few name e = omega (arith, id-most (names_of t) name, names-count t, t.few, few, e)
 
 -- a clock among others has a place there
-place-there : (c : Clock) (cs : List Clock) → any (same_clock c) cs ≡ true → clock_place c cs < length cs
+pub place-there : (c : Clock) (cs : List Clock) → any (same_clock c) cs ≡ true → clock_place c cs < length cs
 place-there c [] h = absurd (let z : ◌≡◌ {A = ℕ} 0 1 = cc in omega arith)
 place-there c (d ∷ cs) h = go (same_clock c d) h (place-there c cs)
   where

@@ -1,7 +1,7 @@
 -- The ids that a node declares, put one by one.
 use Prim.Native.Nat.{ℕ, ◌+◌, ◌-◌, ◌≤◌, ◌<◌}
 use mathlib.Core.Path.{◌≡◌, refl, sym, ap, ◌∙◌}
-use mathlib.Core.List.{List, [], ◌∷◌, ◌++◌, map, map-append, append_assoc, append-nil}
+use mathlib.Core.List.{List, [], ◌∷◌, ◌++◌, map, map-append, append_assoc}
 use native.Mathlib.Omega.{arith}
 use lib.ListN.{length, take, set, length-append, length-map}
 use Rattle.definitions.specs.Tokens.{TagValue}
@@ -14,7 +14,7 @@ use Rattle.grammar.proofs.Parts.{counted-within}
 use Rattle.grammar.proofs.Got.{declarations-got, node-got}
 use Rattle.layout.specs.declared.DeclarationLayout.{DeclarationLayout}
 use Rattle.layout.specs.Walk.{LaidAll}
-use Rattle.layout.proofs.Walks.{first-laid, none-laid}
+use Rattle.layout.proofs.Walks.{first-laid}
 use Rattle.spelling.specs.Writing.{over_at}
 use Rattle.spelling.proofs.Writing.{over_nothing, over-set, over-then, over-take}
 use Rattle.new_names.specs.Names.{name_of}
@@ -33,12 +33,6 @@ module _ (M : ℕ) (ts : List TagValue) where
   putting-start out k l ls h = record { so_far = []; rest = l; laid = h; whole = refl; reached = omega arith; put = sym (over_nothing k out) }
 
   module _ (out₀ out : List ℕ) (k i : ℕ) (l : List Declared) where
-    pub putting-end : (ls : List DeclarationLayout) → Putting M ts out₀ out k i l ls → ls ≡ [] → (i ≡ k + length l) × (out ≡ over_at k (map name_of l) out₀)
-    putting-end ls h z =
-        let n = none-laid (rw z at h.laid) in
-        let e : h.so_far ≡ l = sym (append-nil h.so_far) ∙ (ap (λ (x : List Declared). h.so_far ++ x) (sym n) ∙ h.whole) in
-        (h.reached ∙ ap (λ (x : List Declared). k + length x) e, h.put ∙ ap (λ (x : List Declared). over_at k (map name_of x) out₀) e)
-
     -- there is a place for the next
     pub putting-room : (x : DeclarationLayout) (ls : List DeclarationLayout) → Putting M ts out₀ out k i l (x ∷ ls) → k + length l ≤ 128 → i < 128
     putting-room x ls h u =

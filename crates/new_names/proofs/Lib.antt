@@ -9,4 +9,3 @@ pub mod Standing
 pub mod Written
 pub mod Large
 pub mod NodeTablesLaws
-pub mod OutputNamesLaws

@@ -1,20 +1,18 @@
 -- What a node's working tables say.
 -- Assumes nothing.
 use Prim.Native.Nat.{ℕ, ◌*◌, ◌≤◌}
-use mathlib.Core.Path.{◌≡◌, sym, ap, ◌∙◌, subst}
+use mathlib.Core.Path.{◌≡◌, sym, ◌∙◌, subst}
 use mathlib.Core.Logic.{inl, inr}
 use mathlib.Core.List.{List}
-use native.Mathlib.Omega.{arith}
 use lib.ListN.{length}
 use Rattle.definitions.specs.Lists.{Letters}
 use Rattle.definitions.specs.Tree.{Node}
-use Rattle.definitions.specs.Clock.{Clock, in_chain_order}
+use Rattle.definitions.specs.Clock.{Clock}
 use Rattle.definitions.specs.Declock.{Stem, ck, first, hold}
 use Rattle.definitions.specs.Output.{letters_of}
-use Rattle.clock_tables.specs.Rows.{clocks_in, RowsHold}
+use Rattle.clock_tables.specs.Rows.{RowsHold}
 use Rattle.clock_tables.proofs.RowsLaws.{has-count}
 use Rattle.clock_tables.proofs.Distinct.{Distinct}
-use Rattle.chain_order.specs.Order.{row_of, picked, FirstBelow}
 use Rattle.stateless.specs.Need.{Needs}
 use Rattle.new_names.specs.Many.{TooMany}
 use Rattle.new_names.proofs.Large.{rows_fit, rows-past, holds-past, holds-fit}
@@ -26,10 +24,6 @@ use Rattle.new_names.specs.declared.node_names.NodeNames.{NodeNames}
 use Rattle.new_names.specs.Filled.{Many, Few, HasRows, Sorted, Filled, counted_in}
 
 -- ---- rows in chain order
-pub sorted-rows : (letters : ℕ → Letters) (rows order : List ℕ) (n k : ℕ) {x : ℕ} → x ≡ n → k ≤ x → picked (row_of rows) order 0 k ≡ in_chain_order letters (clocks_in rows x) → FirstBelow order k x → Sorted letters rows order n k
-sorted-rows letters rows order n k e a b d =
-    record { few = omega arith; sorted = b ∙ ap (λ (i : ℕ). in_chain_order letters (clocks_in rows i)) e; below = λ i u. omega (arith, d i u) }
-
 sorted-ordered : (letters : ℕ → Letters) (names : List Letters) (rows order : List ℕ) (n k : ℕ) (clocks : List Clock) → letters ≡ letters_of names → 17 * n ≤ length rows → RowsHold rows n clocks → Distinct clocks
     → Sorted letters rows order n k → ChainOrdered (letters_of names) rows order k clocks
 sorted-ordered letters names rows order n k clocks e room h d s =

@@ -8,7 +8,7 @@ use native.Mathlib.Omega.{arith}
 use lib.ListN.{length}
 use Rattle.definitions.specs.Lists.{choose, any, place_by, Letters, same_letters, bytes}
 use Rattle.definitions.specs.Tree.{Node}
-use Rattle.definitions.specs.Clock.{Clock, in_chain_order, same_clock}
+use Rattle.definitions.specs.Clock.{Clock, in_chain_order}
 use Rattle.definitions.specs.Declock.{Stem, ck, first, hold, clock_place}
 use Rattle.definitions.specs.Output.{id_of, condact_id, letters_of, new_letters, new_id, add_names}
 use Rattle.shapes.proofs.Facts.{Goes}
@@ -18,6 +18,7 @@ use Rattle.stateless.specs.Need.{Needs}
 use Rattle.stateless.specs.Yield.{Ids}
 use Rattle.stateless.specs.Locals.{Agree}
 use Rattle.stateless.specs.Rewritten.{new_names, names_by}
+use Rattle.new_names.proofs.Added.{place-there}
 use Rattle.new_names.proofs.Named.{NamedNeeds}
 use Rattle.new_names.proofs.Many.{any-front, any-back, any-up, comes, placed, by-needs}
 
@@ -64,20 +65,12 @@ module _ (names : List Letters) (node : Node) (w : Needs) (apart : Apart [] name
     pub condact-stays : w.condact ≡ true → condact_id all ≡ condact_id (names_by names before node w)
     condact-stays e = id-stays (names_by names before node w) all (bytes "condact") goes (condact-there e)
 
-    clock-within : (c : Clock) (cs : List Clock) → any (same_clock c) cs ≡ true → clock_place c cs < length cs
-    clock-within c [] h = absurd (false≢true h)
-    clock-within c (d ∷ cs) h = go (same_clock c d) h (clock-within c cs)
-      where
-        go : (t : Bool) → (t || any (same_clock c) cs) ≡ true → (any (same_clock c) cs ≡ true → clock_place c cs < length cs) → choose t 0 (suc (clock_place c cs)) < suc (length cs)
-        go true h f = omega arith
-        go false h f = let x = f h in omega arith
-
     -- THE LAW: ids by the names so far are ids by all names
     pub agree-stays : (ids : Ids) (k : ℕ) → ids.condact ≡ k → Agree w.flags w.firsts w.holds (new_id names (names_by names before node w) node) ids.condact ids → Agree w.flags w.firsts w.holds (new_id names all node) k ids
     agree-stays ids k e a =
         record {
-          flags-agree = λ c h. a.flags-agree c h ∙ sym (new-stays ck (clock_place c w.flags) (flag-new (clock_place c w.flags) (clock-within c w.flags h)));
-          firsts-agree = λ c h. a.firsts-agree c h ∙ sym (new-stays first (clock_place c w.firsts) (first-new (clock_place c w.firsts) (clock-within c w.firsts h)));
+          flags-agree = λ c h. a.flags-agree c h ∙ sym (new-stays ck (clock_place c w.flags) (flag-new (clock_place c w.flags) (place-there c w.flags h)));
+          firsts-agree = λ c h. a.firsts-agree c h ∙ sym (new-stays first (clock_place c w.firsts) (first-new (clock_place c w.firsts) (place-there c w.firsts h)));
           holds_agree = λ j h. a.holds_agree j h ∙ sym (new-stays hold j (hold-new j h));
           condact-agrees = e;
         }

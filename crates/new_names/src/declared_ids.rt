@@ -14,6 +14,7 @@ use layout::{NodeLayout, Span};
 
 // The ids of the names that a node declares, in order: so many.
 // Stays (fixed memory): nothing is allocated, so the array has a place for each of the most that a node declares.
+// Stays (no plainer): no struct for it, `FlagNames` and `NodeNames`, which take any count: its bound asks more of who makes those.
 #[derive(Drop)]
 pub struct DeclaredIds {
     pub ids: [u32; MOST_DECLARED],

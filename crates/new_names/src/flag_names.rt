@@ -1,5 +1,5 @@
 // The new names of a stem that clocks have.
-ghost use Rattle.std.specs.Prelude.{◌≡◌, List, map, ◌≤◌, length, take, replicate};
+ghost use Rattle.std.specs.Prelude.{◌≡◌, List, map, ◌≤◌, length, take, min, replicate};
 ghost use Rattle.definitions.specs.Lists.{Letters};
 ghost use Rattle.definitions.specs.Tree.{Node};
 ghost use Rattle.definitions.specs.Declock.{declared};
@@ -20,7 +20,6 @@ pub struct FlagNames {
     pub order: [u32; MOST_NAMES],
     pub ordered: usize,
     pub numbers: [u32; MOST_NAMES],
-    pub ghost few: { ordered ≤ 1024 },
 }
 
 impl FlagNames {
@@ -50,24 +49,25 @@ impl FlagNames {
         ensures sorted { Sorted (letters_in spelling.entry) clocks.entry.words.now self.new.order clocks.entry.count self.new.ordered }
         ensures numbered { (all : List Letters) (node : Node) → letters_in spelling.entry ≡ letters_of all → take own.now.count own.now.ids ≡ map name_of (declared node) → Numbered all node (stem_of stem) self.new.numbers clocks.entry.count }
     {
-        let n = clocks.count as u32;
-        self.ordered = chain_order::sort_rows(spelling, clocks.words, &mut self.order, n);
+        self.ordered = chain_order::sort_rows(spelling, clocks, &mut self.order);
         crate::number_stem(spelling, own, stem, &mut self.numbers[0..clocks.count]);
     }
 
     // The rows in chain order.
     pub fn order(&self) -> &[u32]
         ensures value { result.now ≡ take self.now.ordered self.now.order }
-        ensures counted { length result.now ≡ self.now.ordered }
+        ensures counted { length result.now ≡ min self.now.ordered 1024 }
     {
-        &self.order[0..self.ordered]
+        &self.order[..self.ordered.min(MOST_NAMES)]
     }
 
     // Those names added, in chain order.
     pub(crate) fn add_to(&self, stem: StemName, table: &mut OutputNames)
         ensures { (all : List Letters) → NamesHeld table.old all → NamesHeld table.new (add_names all (ordered_names (stem_of stem) self.now.numbers self.now.order self.now.ordered)) }
     {
-        for &row in self.order() {
+        // Stays (no plainer): by number: `ordered_names` takes row 0 past the array; over `order()` the clause asks for a count within it.
+        for i in 0..self.ordered {
+            let row = clock_tables::word_at(&self.order, i);
             let number = clock_tables::word_at(&self.numbers, row as usize);
             table.add_new(NewName::Numbered(stem, number));
         }

@@ -1,7 +1,7 @@
 // A node's new names: their numbers, in tables, and their ids among the output's names, which have them behind those before.
 #![tactic(auto)]
 
-ghost use Rattle.std.specs.Prelude.{◌≡◌, List, map, ◌≤◌, ◌<◌, length, take, min, true, false};
+ghost use Rattle.std.specs.Prelude.{◌≡◌, List, map, ◌≤◌, ◌<◌, length, take, true, false};
 ghost use Rattle.definitions.specs.Lists.{Letters};
 ghost use Rattle.definitions.specs.Tree.{Node};
 ghost use Rattle.definitions.specs.Declock.{first, declared};
@@ -22,10 +22,8 @@ use clock_tables::ClockList;
 use declared_ids::DeclaredIds;
 use definitions::MOST_NAMES;
 pub use flag_names::FlagNames;
-use grammar::Source;
-use layout::NodeLayout;
 pub use node_names::NodeNames;
-use spelling::{NewName, OutputNames, Spelling, StemName};
+use spelling::{NewName, OutputNames, Spelling, StemName, TakenNames};
 
 // ---- What a node needs, and the tables of its new names.
 
@@ -66,15 +64,11 @@ fn number_stem(spelling: Spelling<'_>, own: &DeclaredIds, stem: StemName, out: &
     requires { length out.old ≤ 1024 }
     ensures { (all : List Letters) (node : Node) → letters_in spelling.entry ≡ letters_of all → take own.now.count own.now.ids ≡ map name_of (declared node) → out.new ≡ new_numbers (taken_of all node) (stem_of stem) (length out.old) }
 {
-    spelling::fill_numbers(spelling, &own.ids[..own.count], stem, out);
-}
-
-// So many of a table's numbers.
-fn first_of(numbers: &[u32; MOST_NAMES], n: usize) -> &[u32]
-    ensures value { result.now ≡ take n numbers.now }
-    ensures counted { length result.now ≡ min n 1024 }
-{
-    &numbers[..n.min(MOST_NAMES)]
+    let taken = TakenNames {
+        spelling,
+        ids: &own.ids[..own.count],
+    };
+    taken.fill_numbers(stem, out);
 }
 
 // The names of a stem with these numbers added.
@@ -109,6 +103,7 @@ fn put_stem_ids(table: &OutputNames, stem: StemName, numbers: &[u32], ids: &mut 
     requires { length numbers.now ≤ 1024 }
     ensures { ids.new ≡ over_at 0 (ids_of (names_of table.now) (stem_of stem) numbers.now (length numbers.now)) ids.old }
 {
+    // Stays (proof): a place in both: behind a loop over `ids.iter_mut().zip(numbers)` nothing was known of `ids` (goal `returns`).
     for (j, &number) in numbers.iter().enumerate() {
         ids[j] = id_of(table, NewName::Numbered(stem, number));
     }

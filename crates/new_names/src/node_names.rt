@@ -1,5 +1,5 @@
 // The new names of a node.
-ghost use Rattle.std.specs.Prelude.{◌≡◌, List, ◌≤◌, false, replicate};
+ghost use Rattle.std.specs.Prelude.{◌≡◌, List, length, take, min, false, replicate};
 ghost use Rattle.definitions.specs.Lists.{Letters};
 ghost use Rattle.definitions.specs.Tree.{Node};
 ghost use Rattle.definitions.specs.Declock.{ck, first, hold};
@@ -12,9 +12,8 @@ ghost use Rattle.stateless.specs.Rewritten.{names_by};
 use crate::declared_ids::DeclaredIds;
 use crate::{FlagNames, NewIds, NodeNeeds, TooMany};
 use definitions::MOST_NAMES;
-use grammar::Source;
 use layout::NodeLayout;
-use spelling::{NewName, OutputNames, Spelling, StemName};
+use spelling::{NamedSource, NewName, OutputNames, StemName};
 
 // A node's new names: those of its flags and first-tick flags; its holds' numbers, and how many; and whether `condact` is one.
 // Stays (fixed memory): nothing is allocated, so the array of numbers has a place for each of the most names of an output.
@@ -25,7 +24,6 @@ pub struct NodeNames {
     pub hold_numbers: [u32; MOST_NAMES],
     pub holds: usize,
     pub condact: bool,
-    pub ghost few: { holds ≤ 1024 },
 }
 
 impl NodeNames {
@@ -51,17 +49,17 @@ impl NodeNames {
     // The new names of a node with this layout that needs this.
     pub fn fill(
         &mut self,
-        spelling: Spelling<'_>,
-        source: &Source<'_>,
+        named: NamedSource<'_>,
         l: NodeLayout,
         needs: &NodeNeeds<'_>,
     ) -> Result<(), TooMany>
-        ensures { FilledAt spelling.entry source.now l needs.now self.new result }
+        ensures { FilledAt named.entry.spelling named.entry.source l needs.now self.new result }
     {
         if crate::is_crowded(needs) {
             return Err(TooMany);
         }
-        let own = DeclaredIds::of(source, l);
+        let spelling = named.spelling;
+        let own = DeclaredIds::of(&named.source, l);
         self.flags.fill(spelling, &own, StemName::Ck, needs.flags);
         self.firsts
             .fill(spelling, &own, StemName::First, needs.firsts);
@@ -76,14 +74,21 @@ impl NodeNames {
         Ok(())
     }
 
+    // The numbers of its holds.
+    pub fn held(&self) -> &[u32]
+        ensures value { result.now ≡ take self.now.holds self.now.hold_numbers }
+        ensures counted { length result.now ≡ min self.now.holds 1024 }
+    {
+        &self.hold_numbers[..self.holds.min(MOST_NAMES)]
+    }
+
     // The names of the node's new locals added: of the flags and the first-tick flags in chain order, of the holds; then `condact`.
     pub fn add_to(&self, table: &mut OutputNames)
         ensures { (names : List Letters) (node : Node) (w : Needs) (needs : NodeNeeds) (all : List Letters) → Filled names node w needs self.now → NamesHeld table.old all → NamesHeld table.new (names_by names all node w) }
     {
         self.flags.add_to(StemName::Ck, table);
         self.firsts.add_to(StemName::First, table);
-        let holds = crate::first_of(&self.hold_numbers, self.holds);
-        crate::add_counted(table, StemName::Hold, holds);
+        crate::add_counted(table, StemName::Hold, self.held());
         if self.condact {
             table.add_new(NewName::Condact);
         }
@@ -96,9 +101,9 @@ impl NodeNames {
         ensures holds { ids.new.holds ≡ over_at 0 (ids_of (names_of table.now) hold self.now.hold_numbers self.now.holds) ids.old.holds }
         ensures condact { ids.new.condact ≡ condact_id (names_of table.now) }
     {
-        let flags = crate::first_of(&self.flags.numbers, needs.flags.count);
-        let firsts = crate::first_of(&self.firsts.numbers, needs.firsts.count);
-        let holds = crate::first_of(&self.hold_numbers, self.holds);
+        let flags = &self.flags.numbers[..needs.flags.count.min(MOST_NAMES)];
+        let firsts = &self.firsts.numbers[..needs.firsts.count.min(MOST_NAMES)];
+        let holds = self.held();
         crate::put_stem_ids(table, StemName::Ck, flags, &mut ids.flags);
         crate::put_stem_ids(table, StemName::First, firsts, &mut ids.firsts);
         crate::put_stem_ids(table, StemName::Hold, holds, &mut ids.holds);

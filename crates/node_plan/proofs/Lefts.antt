@@ -33,15 +33,12 @@ use Rattle.std.specs.declared.option.Option as code
 use Rattle.std.specs.declared.option.Option.TheVariants.{None, Some}
 use Rattle.node_plan.specs.Noted.{told_of, Typed}
 use Rattle.plan.specs.Tables.{Arrays}
+use Rattle.plan.proofs.Sites.{unless-there}
 use Rattle.stateless.specs.Faults.{unless, left_type_fault, left_fault, lefts_fault, several_fault, flagged_fault}
 
 unless-none : {A : Type 0} (o : Option A) (f : Fault) (b : Bool) → b ≡ is_some o → b ≡ false → some f ≡ unless o f
 unless-none none f b i j = refl
 unless-none (some a) f b i j = let z : ◌≡◌ {A = Bool} true false = sym i ∙ j in absurd (true≢false z)
-
-unless-there : {A : Type 0} (o : Option A) (f : Fault) (b : Bool) → b ≡ is_some o → b ≡ true → none ≡ unless o f
-unless-there none f b i j = let z : ◌≡◌ {A = Bool} true false = sym j ∙ i in absurd (true≢false z)
-unless-there (some a) f b i j = refl
 
 none-called : {f : ℕ} → ◌≡◌ {A = code.Option ℕ} (Some f) None → ⊥
 none-called e = cc

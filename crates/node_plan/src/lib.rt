@@ -33,7 +33,7 @@ fn left_fault(planning: &Planning<'_>, x: u32) -> Result<(), Fault>
 {
     let index = planning.index;
     let at = typing::last_type(planning.types, x).ok_or(Fault::Undeclared(x))?;
-    if !defaults::type_has_default(&index.type_table(), &index.has, at) {
+    if !index.has_default(at) {
         return Err(Fault::NoDefault(x));
     }
     Ok(())
@@ -126,7 +126,7 @@ fn equations(planning: &Planning<'_>, notes: &mut Notes<'_, '_>, span: Span) -> 
 
 // A node with this layout whose sites have their clocks: the types of its names, and the plan of its equations; how much is needed, or the
 // first fault that is met.
-// Stays (proof): tried in one struct: behind a `&mut` the borrow check does not cover `words: &mut *tables.flags`, nor by value `plan_of`.
+// Stays (proof): tried as one struct: lent, `ClockTable`s of its parts are not covered; by value, no clause could name their new words.
 pub fn plan_laid<'a>(
     index: &Index<'_>,
     parts: &PartsTable,

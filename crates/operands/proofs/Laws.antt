@@ -141,7 +141,7 @@ spread-grows M d ts g (suc k) p es q h =
 module _ (M : ℕ) (ts : List TagValue) where
   -- the operands es, to q, stand from p on as o says
   abbrev pub Lie : Exprs → ℕ → ℕ → Operands → Type 0
-  Lie es q p o = (spread M o.gap o.count (tree M) ts o.first ≡ got es q) × (p ≤ o.first)
+  Lie es q p o = (spread M o.rest.gap o.count (tree M) ts o.rest.next ≡ got es q) × (p ≤ o.rest.next)
 
   counted-lie : (p n s : ℕ) (es : Exprs) (q : ℕ) → count most_counted ts p ≡ got n s → exprs n (tree M) ts s ≡ got es q → Lie es q p (behind_count Gap.Nothing p (counted 3 0 most_counted ts p))
   unfolding count
@@ -266,7 +266,7 @@ token-there f gs vs same p a q g =
 pub viewed : (M : ℕ) (ts : List TagValue) (p : ℕ) (t : ExprToken) (s : ℕ) (v : View) (o : Operands) → token (expr_token_of M) ts p ≡ got t s → v.role ≡ role_of t → OperandsLaid M ts t s o → v.operands ≡ o → Viewed M ts p v
 viewed M ts p t s v o g i l j = record { role = λ e q h. (go e q h).0; operands = λ e q h. (go e q h).1; past = λ e q h. (go e q h).2; within = within; inside = λ h. (token-got (expr_token_of M) ts p t s g).1 }
   where
-    go : (e : Expr) (q : ℕ) → tree M ts p ≡ got e q → (v.role ≡ role_of_expr e) × (spread M v.operands.gap v.operands.count (tree M) ts v.operands.first ≡ got (operands_of e) q) × (p < v.operands.first)
+    go : (e : Expr) (q : ℕ) → tree M ts p ≡ got e q → (v.role ≡ role_of_expr e) × (spread M v.operands.rest.gap v.operands.count (tree M) ts v.operands.rest.next ≡ got (operands_of e) q) × (p < v.operands.rest.next)
     go e q h =
         let a = tree-head M ts p e q h in
         let b : t ≡ a.0 = cc a.1 in
@@ -274,17 +274,17 @@ viewed M ts p t s v o g i l j = record { role = λ e q h. (go e q h).0; operands
         let d : form M t (tree M) ts s ≡ got e q = rw (b, c) a.2 in
         (i ∙ (formed M (tree M) ts s e q t d).0, rw j (l.operands e q d), rw j (omega (arith, l.past e q d)))
 
-    within : (e : Expr) (q : ℕ) → tree M ts p ≡ got e q → (v.operands.first ≤ q) × (q ≤ length ts)
-    within e q h = (spread-grows M 32 ts v.operands.gap v.operands.count v.operands.first (operands_of e) q (go e q h).1, (places M ts p e q h).1)
+    within : (e : Expr) (q : ℕ) → tree M ts p ≡ got e q → (v.operands.rest.next ≤ q) × (q ≤ length ts)
+    within e q h = (spread-grows M 32 ts v.operands.rest.gap v.operands.count v.operands.rest.next (operands_of e) q (go e q h).1, (places M ts p e q h).1)
 
-pub unviewed : (M : ℕ) (ts : List TagValue) (p : ℕ) (t : Refusal) (v : View) → token (expr_token_of M) ts p ≡ rejected t → v.operands.first ≡ p → Viewed M ts p v
+pub unviewed : (M : ℕ) (ts : List TagValue) (p : ℕ) (t : Refusal) (v : View) → token (expr_token_of M) ts p ≡ rejected t → v.operands.rest.next ≡ p → Viewed M ts p v
 unviewed M ts p t v g i = record { role = λ e q h. absurd (no e q h); operands = λ e q h. absurd (no e q h); past = λ e q h. absurd (no e q h); within = λ e q h. absurd (no e q h); inside = λ h. absurd (omega (arith, h, i)) }
   where
     no : (e : Expr) (q : ℕ) → tree M ts p ≡ got e q → ⊥
     no e q h = let a = tree-head M ts p e q h in let z : ◌≡◌ {A = ℕ} 0 1 = cc a.1 in omega arith
 
 -- where something is viewed, there are tokens left
-pub left_there : (M : ℕ) (gs vs : List ℕ) → length vs ≡ length gs → (p : ℕ) (v : View) → Viewed M (tokens gs vs) p v → p < v.operands.first → p < length gs
+pub left_there : (M : ℕ) (gs vs : List ℕ) → length vs ≡ length gs → (p : ℕ) (v : View) → Viewed M (tokens gs vs) p v → p < v.operands.rest.next → p < length gs
 left_there M gs vs same p v seen h = omega (arith, seen.inside h, tokens-length gs vs same)
 
 -- what the code finds of the first operand

@@ -21,7 +21,7 @@ use Rattle.definitions.specs.Reading.{got}
 use Rattle.definitions.specs.Grammar.{high, constant, form}
 use Rattle.grammar.proofs.Laws.{tokens-length, wrap-got}
 use Rattle.operands.specs.declared.Leaf.{Leaf}
-use Rattle.operands.specs.Leaf.{leaf_at}
+use Rattle.operands.specs.Leaf.{leaf_at, name_leaf, constant_leaf}
 use Rattle.layout.specs.Spans.{past_in}
 use Rattle.operands.specs.Spread.{tree}
 use Rattle.operands.proofs.Deeper.{tree-head}
@@ -91,31 +91,35 @@ module _ (M : ℕ) (gs vs : List ℕ) (same : length vs ≡ length gs) (p : ℕ)
       let a = wrap-got (high (tokens gs vs) (p + 1)) (λ w. Expr.const (Literal.Float (get_or vs p 0)) w) e q (rw (sym t) at r.2) in
       wide-tree (Literal.Float (get_or vs p 0)) a.0 a.1 a.2
 
+  -- what its name and its end say
+  abbrev pub SaysOf : rust.Option ℕ → ℕ → Type 0
+  SaysOf (Some x) s = (e ≡ Expr.var x) × (q ≡ s)
+  SaysOf None s = IsConstant s
+
   -- THE LAW: what a leaf says of the tree that was read there
   abbrev pub Says : rust.Option Leaf → Type 0
-  Says (Some (Leaf.Name x s)) = (e ≡ Expr.var x) × (q ≡ s)
-  Says (Some (Leaf.Constant s)) = IsConstant s
+  Says (Some l) = SaysOf l.name l.end
   Says None = Unit
 
   pub leaf-says : (k : rust.Option Leaf) → k ≡ leaf_at (length gs) (get_or gs p 0) (get_or vs p 0) p → Says k
   leaf-says k i = rw i (at54 (eqb (get_or gs p 0) 54) refl)
     where
-      at53 : (b : Bool) → eqb (get_or gs p 0) 53 ≡ b → Says (choose b (Some (Leaf.Constant (p + 1))) None)
+      at53 : (b : Bool) → eqb (get_or gs p 0) 53 ≡ b → Says (choose b (Some (constant_leaf (p + 1))) None)
       at53 true h = char-tree (eqb-true _ 53 h)
       at53 false h = tt
 
-      at52 : (b : Bool) → eqb (get_or gs p 0) 52 ≡ b → Says (choose b (Some (Leaf.Constant (past_in (length gs) (p + 1)))) (choose (eqb (get_or gs p 0) 53) (Some (Leaf.Constant (p + 1))) None))
+      at52 : (b : Bool) → eqb (get_or gs p 0) 52 ≡ b → Says (choose b (Some (constant_leaf (past_in (length gs) (p + 1)))) (choose (eqb (get_or gs p 0) 53) (Some (constant_leaf (p + 1))) None))
       at52 true h = float-tree (eqb-true _ 52 h)
       at52 false h = at53 (eqb (get_or gs p 0) 53) refl
 
-      at51 : (b : Bool) → eqb (get_or gs p 0) 51 ≡ b → Says (choose b (Some (Leaf.Constant (past_in (length gs) (p + 1)))) (choose (eqb (get_or gs p 0) 52) (Some (Leaf.Constant (past_in (length gs) (p + 1)))) (choose (eqb (get_or gs p 0) 53) (Some (Leaf.Constant (p + 1))) None)))
+      at51 : (b : Bool) → eqb (get_or gs p 0) 51 ≡ b → Says (choose b (Some (constant_leaf (past_in (length gs) (p + 1)))) (choose (eqb (get_or gs p 0) 52) (Some (constant_leaf (past_in (length gs) (p + 1)))) (choose (eqb (get_or gs p 0) 53) (Some (constant_leaf (p + 1))) None)))
       at51 true h = int-tree (eqb-true _ 51 h)
       at51 false h = at52 (eqb (get_or gs p 0) 52) refl
 
-      at50 : (b : Bool) → eqb (get_or gs p 0) 50 ≡ b → Says (choose b (Some (Leaf.Constant (p + 1))) (choose (eqb (get_or gs p 0) 51) (Some (Leaf.Constant (past_in (length gs) (p + 1)))) (choose (eqb (get_or gs p 0) 52) (Some (Leaf.Constant (past_in (length gs) (p + 1)))) (choose (eqb (get_or gs p 0) 53) (Some (Leaf.Constant (p + 1))) None))))
+      at50 : (b : Bool) → eqb (get_or gs p 0) 50 ≡ b → Says (choose b (Some (constant_leaf (p + 1))) (choose (eqb (get_or gs p 0) 51) (Some (constant_leaf (past_in (length gs) (p + 1)))) (choose (eqb (get_or gs p 0) 52) (Some (constant_leaf (past_in (length gs) (p + 1)))) (choose (eqb (get_or gs p 0) 53) (Some (constant_leaf (p + 1))) None))))
       at50 true h = bool-tree (eqb-true _ 50 h)
       at50 false h = at51 (eqb (get_or gs p 0) 51) refl
 
-      at54 : (b : Bool) → eqb (get_or gs p 0) 54 ≡ b → Says (choose b (Some (Leaf.Name (get_or vs p 0) (p + 1))) (choose (eqb (get_or gs p 0) 50) (Some (Leaf.Constant (p + 1))) (choose (eqb (get_or gs p 0) 51) (Some (Leaf.Constant (past_in (length gs) (p + 1)))) (choose (eqb (get_or gs p 0) 52) (Some (Leaf.Constant (past_in (length gs) (p + 1)))) (choose (eqb (get_or gs p 0) 53) (Some (Leaf.Constant (p + 1))) None)))))
+      at54 : (b : Bool) → eqb (get_or gs p 0) 54 ≡ b → Says (choose b (Some (name_leaf (get_or vs p 0) (p + 1))) (choose (eqb (get_or gs p 0) 50) (Some (constant_leaf (p + 1))) (choose (eqb (get_or gs p 0) 51) (Some (constant_leaf (past_in (length gs) (p + 1)))) (choose (eqb (get_or gs p 0) 52) (Some (constant_leaf (past_in (length gs) (p + 1)))) (choose (eqb (get_or gs p 0) 53) (Some (constant_leaf (p + 1))) None)))))
       at54 true h = name-tree (eqb-true _ 54 h)
       at54 false h = at50 (eqb (get_or gs p 0) 50) refl

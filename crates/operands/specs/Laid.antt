@@ -18,15 +18,15 @@ skipped p (rejected r) = p
 
 -- operands with nothing between them
 abbrev pub plain_at : ℕ → ℕ → Operands
-plain_at p n = record { first = p; count = n; gap = Gap.Nothing }
+plain_at p n = record { rest = record { next = p; gap = Gap.Nothing }; count = n }
 
 -- operands behind their count, a start value and its operands, an operand behind a type
 abbrev pub behind_count : Gap → ℕ → Got ℕ → Operands
-behind_count g p (got n q) = record { first = q; count = n; gap = g }
+behind_count g p (got n q) = record { rest = record { next = q; gap = g }; count = n }
 behind_count g p (rejected r) = plain_at p 0
 
 abbrev pub behind_start : ℕ → Got ℕ → Operands
-behind_start p (got n q) = record { first = p; count = n + 1; gap = Gap.Between }
+behind_start p (got n q) = record { rest = record { next = p; gap = Gap.Between }; count = n + 1 }
 behind_start p (rejected r) = plain_at p 0
 
 abbrev pub behind_type : ℕ → Got Ty → Operands

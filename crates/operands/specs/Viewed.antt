@@ -17,18 +17,18 @@ module _ (M : ℕ) (ts : List TagValue) where
   -- the operands that follow the first token t, from p on
   pub record OperandsLaid (t : ExprToken) (p : ℕ) (o : Operands) : Type 0 where
     pub operands : (e : Expr) (q : ℕ) → form M t (tree M) ts p ≡ got e q →
-        spread M o.gap o.count (tree M) ts o.first ≡ got (operands_of e) q
-    pub past : (e : Expr) (q : ℕ) → form M t (tree M) ts p ≡ got e q → p ≤ o.first
+        spread M o.rest.gap o.count (tree M) ts o.rest.next ≡ got (operands_of e) q
+    pub past : (e : Expr) (q : ℕ) → form M t (tree M) ts p ≡ got e q → p ≤ o.rest.next
 
   -- the expression at p: what it does, and its operands
   pub record Viewed (p : ℕ) (v : View) : Type 0 where
     pub role : (e : Expr) (q : ℕ) → tree M ts p ≡ got e q → v.role ≡ role_of_expr e
     pub operands : (e : Expr) (q : ℕ) → tree M ts p ≡ got e q →
-        spread M v.operands.gap v.operands.count (tree M) ts v.operands.first ≡ got (operands_of e) q
-    pub past : (e : Expr) (q : ℕ) → tree M ts p ≡ got e q → p < v.operands.first
-    pub within : (e : Expr) (q : ℕ) → tree M ts p ≡ got e q → (v.operands.first ≤ q) × (q ≤ length ts)
+        spread M v.operands.rest.gap v.operands.count (tree M) ts v.operands.rest.next ≡ got (operands_of e) q
+    pub past : (e : Expr) (q : ℕ) → tree M ts p ≡ got e q → p < v.operands.rest.next
+    pub within : (e : Expr) (q : ℕ) → tree M ts p ≡ got e q → (v.operands.rest.next ≤ q) × (q ≤ length ts)
     -- past the end nothing is viewed
-    pub inside : p < v.operands.first → p < length ts
+    pub inside : p < v.operands.rest.next → p < length ts
 
   -- n operands es with the gap g from p to q, the first of them as o says
   pub record Split (g : Gap) (n p : ℕ) (es : Exprs) (q : ℕ) (o : Operand) : Type 0 where

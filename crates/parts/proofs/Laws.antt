@@ -14,7 +14,7 @@ use Rattle.definitions.specs.Lists.{sum, over}
 use Rattle.definitions.specs.Refusals.{Answer, accepted, refused, faulty, told, must, ◌>>=◌}
 use Rattle.definitions.specs.Bytes.{Parts, size, M, L, T, lengths, letters, tags, values, four_byte_words, cut, bad_name, parts}
 use Rattle.parts.specs.declared.Sizes.{Sizes}
-use Rattle.std.specs.Prelude.{Ok, Err, Some, None}
+use Rattle.std.specs.Prelude.{Result, IfOk, Ok, Err, Some, None}
 use Rattle.parts.specs.Answers.{word_at, sizes_of, parts_of, answered, told_of, parts_answer, tags_after, values_after, SizedParts, FirstBad, Accepted}
 use Rattle.parts.proofs.Words.{word_of, word-take, words-length}
 
@@ -145,37 +145,34 @@ module _ (b : List ℕ) where
     unfolding values
     values-long = words-length (T b) (drop (12 + M b + L b + T b) b) (omega (arith, length-drop (12 + M b + L b + T b) b, z.whole))
 
-    pub few-lengths : length (take (12 + s.names - 12) (drop 12 b)) ≤ 1024
-    few-lengths = rw lengths-part (omega (arith, lengths-long, z.names))
-
     other-sum : (sum (lengths b) ≡ L b → ⊥) → parts b ≡ refused (Refusal.Name (M b))
     unfolding names_checked
     other-sum h = names-left ∙ rw (ne_eqb (sum (lengths b)) (L b) h)
 
-    -- the code's sum is another
-    pub sum-answer : (n : ℕ) → n ≡ sum (take (12 + s.names - 12) (drop 12 b)) → (n ≡ s.letters → ⊥) → Err (Refusal.Name s.names) ≡ parts_answer b
-    sum-answer n e h =
-        let f : n ≡ sum (lengths b) = e ∙ ap sum lengths-part in
-        rw names-told (refused-answer (Refusal.Name (M b)) (other-sum (λ q. h (f ∙ (q ∙ sym letters-told)))))
+    -- the lengths and the letters that the code takes from the sheet
+    module _ (lens text : List ℕ) (el : lens ≡ lengths b) (et : text ≡ letters b) (n : ℕ) (e : n ≡ sum lens) where
+      -- their sum is another
+      pub sum-answer : (n ≡ s.letters → ⊥) → Err (Refusal.Name s.names) ≡ parts_answer b
+      sum-answer h = rw names-told (refused-answer (Refusal.Name (M b)) (other-sum (λ q. h (e ∙ (ap sum el ∙ (q ∙ sym letters-told))))))
 
-    module _ (n : ℕ) (e : n ≡ sum (take (12 + s.names - 12) (drop 12 b))) (u : n ≡ s.letters) where
-      right-sum : sum (lengths b) ≡ L b
-      right-sum = sym (ap sum lengths-part) ∙ (sym e ∙ (u ∙ letters-told))
+      module _ (u : n ≡ s.letters) where
+        right-sum : sum (lengths b) ≡ L b
+        right-sum = sym (ap sum el) ∙ (sym e ∙ (u ∙ letters-told))
 
-      -- the code's first bad name is one of the names
-      pub bad-answer : (bad : ℕ) → FirstBad (take (12 + s.names - 12) (drop 12 b)) (take (12 + s.names + s.letters - (12 + s.names)) (drop (12 + s.names) b)) (Some bad) → Err (Refusal.Name bad) ≡ parts_answer b
-      unfolding names_checked
-      bad-answer bad f =
-          let i : bad ≡ bad_name [] (cut (lengths b) (letters b)) = rw (lengths-part, letters-part) at f.0 in
-          let l : bad < M b = rw (lengths-part, lengths-long) at f.1 in
-          let g : bad_name [] (cut (lengths b) (letters b)) ≡ M b → ⊥ = λ q. omega (arith, i, l, q) in
-          rw i (refused-answer (Refusal.Name (bad_name [] (cut (lengths b) (letters b)))) (names-left ∙ rw (eq-eqb (sum (lengths b)) (L b) right-sum, ne_eqb (bad_name [] (cut (lengths b) (letters b))) (M b) g)))
+        -- the code's first bad name is one of the names
+        pub bad-answer : (bad : ℕ) → FirstBad lens text (Some bad) → Err (Refusal.Name bad) ≡ parts_answer b
+        unfolding names_checked
+        bad-answer bad f =
+            let i : bad ≡ bad_name [] (cut (lengths b) (letters b)) = rw (el, et) at f.0 in
+            let l : bad < M b = rw (el, lengths-long) at f.1 in
+            let g : bad_name [] (cut (lengths b) (letters b)) ≡ M b → ⊥ = λ q. omega (arith, i, l, q) in
+            rw i (refused-answer (Refusal.Name (bad_name [] (cut (lengths b) (letters b)))) (names-left ∙ rw (eq-eqb (sum (lengths b)) (L b) right-sum, ne_eqb (bad_name [] (cut (lengths b) (letters b))) (M b) g)))
 
-      pub good-answer : FirstBad (take (12 + s.names - 12) (drop 12 b)) (take (12 + s.names + s.letters - (12 + s.names)) (drop (12 + s.names) b)) None → Ok s ≡ parts_answer b
-      unfolding names_checked
-      good-answer f =
-          let g : bad_name [] (cut (lengths b) (letters b)) ≡ M b = rw (lengths-part, letters-part, lengths-long) at f in
-          rw z.told (accepted-answer (parts_of b) (names-left ∙ rw (eq-eqb (sum (lengths b)) (L b) right-sum, eq-eqb (bad_name [] (cut (lengths b) (letters b))) (M b) g)))
+        pub good-answer : FirstBad lens text None → Ok s ≡ parts_answer b
+        unfolding names_checked
+        good-answer f =
+            let g : bad_name [] (cut (lengths b) (letters b)) ≡ M b = rw (el, et, lengths-long) at f in
+            rw z.told (accepted-answer (parts_of b) (names-left ∙ rw (eq-eqb (sum (lengths b)) (L b) right-sum, eq-eqb (bad_name [] (cut (lengths b) (letters b))) (M b) g)))
 
 -- ---- acceptance
 -- both tests of a number's value
@@ -284,6 +281,10 @@ module _ (b : List ℕ) where
 
     pub values-over : (lent : List ℕ) → over (four_byte_words (drop (12 + s.names + s.letters + s.tokens) b)) lent ≡ values_after (parts b) b lent
     values-over lent = rw (answer-parts, values-part b s answer-sized)
+
+  pub sized-answer : (r : Result Sizes Refusal) → r ≡ parts_answer b → IfOk r (SizedParts b)
+  sized-answer (Ok s) e = answer-sized s e
+  sized-answer (Err r) e = tt
 
   module _ (r : Refusal) (e : Err r ≡ parts_answer b) where
     pub tags-kept : (lent : List ℕ) → lent ≡ tags_after (parts b) b lent

@@ -6,12 +6,12 @@ use mathlib.Core.List.{List, [], ◌∷◌}
 use native.Mathlib.Nat.{zero-add}
 use native.Mathlib.Numerals.{add-one}
 use native.Mathlib.Omega.{arith}
-use lib.ListN.{length, get_or, take, drop, drop_of_length-le}
-use lib.Seq.{drop-cons, drop-drop}
+use lib.ListN.{length, get_or, take, drop, drop_of_length-le, length-drop}
+use lib.Seq.{drop-cons, drop-drop, length-take-le}
 use lib.Dec.{eqb, ltb}
 use borrow.Author.Tests.{le-ltb, lt-ltb, ltb-true, ltb-false}
 use Rattle.std.proofs.Math.Bool.{and-false, and-true}
-use Rattle.std.specs.List.{list_all}
+use Rattle.std.specs.List.{list_all, list_any}
 use Rattle.std.specs.Str.{bytes_eq}
 use Rattle.definitions.specs.Lists.{all, any, sum, same_letters}
 use Rattle.definitions.specs.Bytes.{is_letter, is_digit, well_formed, bad_name, cut}
@@ -84,17 +84,10 @@ module _ (p : List ℕ → Bool) where
   any-take zero (x ∷ l) h = refl
   any-take (suc k) (x ∷ l) h = ap (λ r. p x || r) (any-take k l (omega arith)) ∙ or-swap (p x) (p (get_or l k [])) (any p (take k l))
 
-  -- of so many that are left, where the first is taken
-  module _ (n m : ℕ) (l r : List (List ℕ)) (x : List ℕ) (e : m + 1 ≡ n) (f : l ≡ x ∷ r) where
-    pub any-here : p x ≡ true → any p (take n l) ≡ true
-    any-here h = rw (← e, f, add-one m, h) refl
-
-    pub any-on : p x ≡ false → any p (take n l) ≡ any p (take m r)
-    any-on h = rw (← e, f, add-one m, h) refl
-
-  pub any-none : (n : ℕ) (l : List (List ℕ)) → (0 < n → l ≡ []) → any p (take n l) ≡ false
-  any-none zero l f = refl
-  any-none (suc n) l f = rw (f (omega arith)) refl
+-- as `any` of the code tests
+pub any-listed : (x : List ℕ) (l : List (List ℕ)) → list_any (bytes_eq x) l ≡ any (same_letters x) l
+any-listed x [] = refl
+any-listed x (y ∷ l) = rw (same_bytes x y, any-listed x l) refl
 
 start-cons : (n : ℕ) (ns : List ℕ) (i : ℕ) → start (n ∷ ns) (suc i) ≡ n + start ns i
 unfolding start
@@ -124,6 +117,15 @@ module _ (lens letters : List ℕ) where
   part-name i at end p q =
       let e : end - at ≡ get_or lens i 0 = omega arith in
       rw (e, p)
+
+  -- a name is as long as its length says
+  name-length : (i : ℕ) → sum lens ≤ length letters → length (name_at lens letters i) ≡ get_or lens i 0
+  unfolding name_at
+  name-length i h = length-take-le (get_or lens i 0) (drop (start lens i) letters) (omega (arith, end-within i h, length-drop (start lens i) letters))
+
+  -- the next name starts behind it
+  pub name-next : (i at : ℕ) (name : List ℕ) → sum lens ≤ length letters → name ≡ name_at lens letters i → at ≡ start lens i → at + length name ≡ start lens (i + 1)
+  name-next i at name h e f = omega (arith, start-next i, name-length i h, ap length e, f)
 
   pub any-before : (p : List ℕ → Bool) (k : ℕ) → k ≤ length lens → any p (before lens letters k) ≡ any p (take k (cut lens letters))
   unfolding before

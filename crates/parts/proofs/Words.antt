@@ -5,7 +5,7 @@ use mathlib.Core.List.{List, [], ◌∷◌, ◌++◌}
 use native.Mathlib.Numerals.{add-one}
 use native.Mathlib.Omega.{arith}
 use lib.ListN.{length, get_or, take, drop, set, length-drop}
-use lib.Seq.{get_or-take, get_or-drop, length-take-le, take_all}
+use lib.Seq.{get_or-take, length-take-le, take_all}
 use Rattle.std.specs.List.{sum_by}
 use Rattle.std.proofs.lemmas.List.Sums.{sum_by-cons}
 use Rattle.definitions.specs.Lists.{sum, over}
@@ -30,14 +30,6 @@ word-take n at l h =
     let c : suc (suc at) < n = omega arith in
     let d : suc (suc (suc at)) < n = omega arith in
     rw (get_or-take n l at 0 a, get_or-take n l (suc at) 0 b, get_or-take n l (suc (suc at)) 0 c, get_or-take n l (suc (suc (suc at))) 0 d)
-
-pub word-drop : (n at : ℕ) (l : List ℕ) → word_at (drop n l) at ≡ word_at l (n + at)
-unfolding word_at
-word-drop n at l =
-    let a : n + suc at ≡ suc (n + at) = omega arith in
-    let b : n + suc (suc at) ≡ suc (suc (n + at)) = omega arith in
-    let c : n + suc (suc (suc at)) ≡ suc (suc (suc (n + at))) = omega arith in
-    rw (get_or-drop n l at 0, get_or-drop n l (suc at) 0, get_or-drop n l (suc (suc at)) 0, get_or-drop n l (suc (suc (suc at))) 0, a, b, c)
 
 -- word k stands at 4 * k
 pub word_of : (l : List ℕ) (k : ℕ) → 4 * k + 4 ≤ length l → get_or (four_byte_words l) k 0 ≡ word_at l (4 * k)

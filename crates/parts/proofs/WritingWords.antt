@@ -3,16 +3,11 @@ use Prim.Native.Nat.{ℕ, zero, suc, ◌+◌, ◌*◌, ◌/◌, ◌%◌, ◌^◌
 use mathlib.Core.Path.{◌≡◌, refl}
 use mathlib.Core.List.{List, [], ◌∷◌, map}
 use native.Mathlib.Omega.{arith}
-use lib.ListN.{length, get_or, take, drop}
+use lib.ListN.{length, take, drop}
 use Rattle.definitions.specs.Lists.{join}
 use Rattle.definitions.specs.Bytes.{four_byte_words}
 use Rattle.definitions.specs.Output.{word_bytes}
 use Rattle.parts.specs.Bytes.{AllBelow}
-
--- what the code knows of each element of a slice
-pub below_each : (n : ℕ) (l : List ℕ) → ((i : ℕ) → get_or l i 0 < n) → AllBelow n l
-below_each n [] h = tt
-below_each n (x ∷ l) h = (h 0, below_each n l (λ i. h (suc i)))
 
 pub below-take : (n k : ℕ) (l : List ℕ) → AllBelow n l → AllBelow n (take k l)
 below-take n zero l h = tt

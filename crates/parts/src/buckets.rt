@@ -12,6 +12,7 @@ use definitions::MOST_NAMES;
 const BUCKETS: usize = 1024;
 
 // A hash with one more letter in it.
+#[tactic(auto, unfolding(crate::specs::Buckets::mixed))]
 fn mix(hash: usize, b: u8) -> usize
     requires { hash < 65536 }
     ensures value { result ≡ mixed hash b }
@@ -98,9 +99,7 @@ pub(crate) fn first_bad_by_buckets(names: Names<'_>) -> Option<usize>
         lasts: [None; BUCKETS],
     };
     let mut at = 0;
-    for (i, n) in names.lengths.iter().enumerate() {
-        let end = at + usize::from(*n);
-        let name = &names.letters[at..end];
+    for (i, name) in names.each().enumerate() {
         if !well_formed(name) {
             return Some(i);
         }
@@ -109,7 +108,7 @@ pub(crate) fn first_bad_by_buckets(names: Names<'_>) -> Option<usize>
             return Some(i);
         }
         buckets.add(i, at, bucket);
-        at = end;
+        at += name.len();
     }
     None
 }

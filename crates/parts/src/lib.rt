@@ -1,18 +1,20 @@
 // A sheet's bytes: its names checked, its parts read into working arrays, and names and tokens back to bytes.
 #![tactic(auto)]
 
+mod accepted;
 mod buckets;
 mod naming;
 
-ghost use Rattle.std.specs.Prelude.{◌≡◌, map, ◌+◌, ◌*◌, ◌≤◌, ◌<◌, ◌^◌, length};
+ghost use Rattle.std.specs.Prelude.{◌≡◌, IfOk, map, ◌+◌, ◌*◌, ◌≤◌, ◌<◌, ◌^◌, length};
 ghost use Rattle.definitions.specs.Lists.{sum, join};
-ghost use Rattle.definitions.specs.Bytes.{cut, four_byte_words, parts, tokens};
+ghost use Rattle.definitions.specs.Bytes.{cut, four_byte_words, lengths, letters, parts, tokens};
 ghost use Rattle.parts.specs.Answers.{word_at, SizedParts, SizesTold, parts_answer, tags_after, values_after};
 ghost use Rattle.definitions.specs.Output.{word_bytes, sheet_bytes};
 ghost use Rattle.parts.specs.Bytes.{written_answer, written_bytes};
 
+pub use accepted::AcceptedSheet;
 use definitions::{MOST_LETTERS, MOST_NAMES, MOST_TOKENS, Refusal};
-pub use naming::Names;
+pub use naming::{EachName, Names};
 
 // ---- A sheet's sizes, length and names are checked, and its tokens go into working arrays.
 
@@ -69,19 +71,37 @@ fn read_sizes(sheet: &[u8]) -> Result<Sizes, Refusal>
     })
 }
 
+// "Then M name lengths (a byte each)", of a sheet of these sizes.
+// Stays (no plainer): sheet and sizes, here and below: of a struct with `sized`, `AcceptedSheet` would make one at each call.
+pub(crate) fn lengths_of(sheet: &[u8], sizes: Sizes) -> &[u8]
+    requires { SizedParts sheet.now sizes }
+    ensures value { result.now ≡ lengths sheet.now }
+    ensures count { length result.now ≡ sizes.names }
+{
+    let to = 12 + sizes.names;
+    &sheet[12..to]
+}
+
+// "And the L letters", of a sheet of these sizes.
+pub(crate) fn letters_of(sheet: &[u8], sizes: Sizes) -> &[u8]
+    requires { SizedParts sheet.now sizes }
+    ensures value { result.now ≡ letters sheet.now }
+    ensures count { length result.now ≡ sizes.letters }
+{
+    let from = 12 + sizes.names;
+    let to = from + sizes.letters;
+    &sheet[from..to]
+}
+
 // The names of a sheet whose sizes are right.
 fn check_names(sheet: &[u8], sizes: Sizes) -> Result<Sizes, Refusal>
     requires { SizedParts sheet.now sizes }
     ensures { result ≡ parts_answer sheet.now }
 {
-    let count = sizes.names;
-    let many = sizes.letters;
-    let from = 12 + count;
-    let to = from + many;
-    let lengths = &sheet[12..from];
-    let letters = &sheet[from..to];
-    if total(lengths) != many {
-        return Err(Refusal::Name(count));
+    let lengths = lengths_of(sheet, sizes);
+    let letters = letters_of(sheet, sizes);
+    if total(lengths) != sizes.letters {
+        return Err(Refusal::Name(sizes.names));
     }
     let names = Names { lengths, letters };
     match names.first_bad() {
@@ -91,8 +111,10 @@ fn check_names(sheet: &[u8], sizes: Sizes) -> Result<Sizes, Refusal>
 }
 
 // Sizes, length and names: refusals 1 to 4.
+#[tactic(auto, unfolding(crate::specs::Answers::SizesTold))]
 fn check_parts(sheet: &[u8]) -> Result<Sizes, Refusal>
-    ensures { result ≡ parts_answer sheet.now }
+    ensures answer { result ≡ parts_answer sheet.now }
+    ensures sized { IfOk result (λ s. SizedParts sheet.now s) }
 {
     let sizes = read_sizes(sheet)?;
     check_names(sheet, sizes)
@@ -103,26 +125,32 @@ fn read_words(bytes: &[u8], words: &mut [u32])
     requires { length bytes.now ≡ 4 * length words.old }
     ensures { words.new ≡ four_byte_words bytes.now }
 {
+    // Stays (proof): by places: behind a loop over `words.iter_mut().zip(fours)` nothing was known of `words` (goal `returns`).
     for (k, word) in words.iter_mut().enumerate() {
         *word = read_word(bytes, 4 * k);
     }
 }
 
+// The working arrays: as many tags and values as a sheet can have, of which its own are the first.
+// Stays (fixed memory): two arrays, as a sheet's bytes have tags apart from values, and as document 01's reader borrows them.
+#[derive(Drop)]
+pub struct TokenArrays {
+    pub tags: [u8; MOST_TOKENS],
+    pub values: [u32; MOST_TOKENS],
+}
+
 // A sheet's parts: turned down by 1 to 4, or its tokens stand in the working arrays.
-pub fn read_parts(
-    sheet: &[u8],
-    tags: &mut [u8; MOST_TOKENS],
-    values: &mut [u32; MOST_TOKENS],
-) -> Result<Sizes, Refusal>
+pub fn read_parts(sheet: &[u8], into: &mut TokenArrays) -> Result<Sizes, Refusal>
     ensures answer { result ≡ parts_answer sheet.now }
-    ensures tags { tags.new ≡ tags_after (parts sheet.now) sheet.now tags.old }
-    ensures values { values.new ≡ values_after (parts sheet.now) sheet.now values.old }
+    ensures tags { into.new.tags ≡ tags_after (parts sheet.now) sheet.now into.old.tags }
+    ensures values { into.new.values ≡ values_after (parts sheet.now) sheet.now into.old.values }
+    ensures sized { (length into.new.tags ≡ 4096) × (length into.new.values ≡ 4096) }
 {
     let sizes = check_parts(sheet)?;
     let n = sizes.tokens;
     let at = 12 + sizes.names + sizes.letters;
-    copy_items(&mut tags[..n], &sheet[at..at + n]);
-    read_words(&sheet[at + n..], &mut values[..n]);
+    copy_items(&mut into.tags[..n], &sheet[at..at + n]);
+    read_words(&sheet[at + n..], &mut into.values[..n]);
     Ok(sizes)
 }
 
@@ -133,13 +161,14 @@ fn put_words(bytes: &mut [u8], words: &[u32])
     requires { length bytes.old ≡ 4 * length words.now }
     ensures { bytes.new ≡ join (map word_bytes words.now) }
 {
+    // Stays (proof): by places: behind a loop over `bytes.chunks_exact_mut(4).zip(words)` nothing was known of `bytes` (goal `returns`).
     for (k, word) in words.iter().enumerate() {
         bytes[4 * k..4 * k + 4].copy_from_slice(&word.to_le_bytes());
     }
 }
 
 // A sheet of these names, and of the tokens that the tags and values are: how many bytes are written, or how many are needed.
-// Stays (no plainer): tags beside values are a struct in `grammar`, which does not stand below; one of its own had one use.
+// Stays (no plainer): tags beside values of any count are `grammar` `Source`, which stands above; a struct here had this use alone.
 pub fn write(
     names: Names<'_>,
     tags: &[u8],

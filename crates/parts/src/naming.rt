@@ -46,9 +46,9 @@ pub(crate) fn well_formed(name: &[u8]) -> bool
 
 // The names that are left, of which the first one's letters come first.
 #[derive(Clone, Copy)]
-pub(crate) struct EachName<'a> {
-    lengths: &'a [u8],
-    letters: &'a [u8],
+pub struct EachName<'a> {
+    pub lengths: &'a [u8],
+    pub letters: &'a [u8],
     pub ghost within: { sum lengths.now ≤ length letters.now },
 }
 
@@ -86,12 +86,7 @@ impl<'a> Names<'a> {
         requires { count ≤ length self.lengths.now }
         ensures { result ≡ any (same_letters name.now) (before self.entry.lengths.now self.entry.letters.now count) }
     {
-        for earlier in self.each().take(count) {
-            if name == earlier {
-                return true;
-            }
-        }
-        false
+        self.each().take(count).any(|earlier| name == earlier)
     }
 
     // The first bad name, each compared with every earlier one.

@@ -25,14 +25,10 @@ use Rattle.index.specs.Callees.{is_there}
 use Rattle.typing.specs.declared.TypeFound.{TypeFound}
 use Rattle.typing.specs.Found.{IsFound}
 use Rattle.stateless.specs.Faults.{unless, outputs_fault}
-use Rattle.grammar.specs.Read.{tokens_of}
 use Rattle.layout.specs.declared.DeclarationLayout.{DeclarationLayout}
 use Rattle.layout.specs.Walk.{LaidAll}
-use Rattle.layout.specs.Table.{Table}
 use Rattle.layout.proofs.Walks.{first-laid, none-laid}
-use Rattle.cycles.specs.declared.TypeTable.{TypeTable}
-use Rattle.defaults.specs.Has.{is_some, DefaultsKnown}
-use Rattle.index.specs.declared.Index.{Index}
+use Rattle.defaults.specs.Has.{is_some}
 use Rattle.plan.specs.Closed.{lack_fault}
 
 -- the clock of a row is base where it has no conditions
@@ -59,7 +55,7 @@ unless-none : {A : Type 0} (o : Option A) (f : Fault) (b : Bool) → b ≡ is_so
 unless-none none f b i j = refl
 unless-none (some a) f b i j = let z : ◌≡◌ {A = Bool} true false = sym i ∙ j in absurd (true≢false z)
 
-unless-there : {A : Type 0} (o : Option A) (f : Fault) (b : Bool) → b ≡ is_some o → b ≡ true → none ≡ unless o f
+pub unless-there : {A : Type 0} (o : Option A) (f : Fault) (b : Bool) → b ≡ is_some o → b ≡ true → none ≡ unless o f
 unless-there none f b i j = let z : ◌≡◌ {A = Bool} true false = sym j ∙ i in absurd (true≢false z)
 unless-there (some a) f b i j = refl
 
@@ -94,9 +90,3 @@ module _ (types : List TypeDef) (l : List Node) (node : Node) (f M : ℕ) (ts : 
 
   pub lack-none : (ls : List DeclarationLayout) (all : Option Fault) → ls ≡ [] → LackLeft ls all → lack_fault f None ≡ all
   lack-none ls all e k = outputs-none types l node f k.rest (none-laid (rw e at k.laid)) ∙ sym k.same
-
--- whether a type has a default, by the table that the index lends
-pub lent-has : (t : TypeTable) (d : Index) → (t.source ≡ d.source) × (t.places.now ≡ d.types) → (at : ℕ) (has : List Bool) (b : Bool) →
-    ((types : List TypeDef) (a : Ty) (q : ℕ) → Table t.source.names (tokens_of t.source) t.places.now.at t.places.now.count types → DefaultsKnown types t.places.now.count t.places.now.count has → ty t.source.names 8 (tokens_of t.source) at ≡ got a q → b ≡ is_some (default types a)) →
-    (types : List TypeDef) (a : Ty) (q : ℕ) → Table d.source.names (tokens_of d.source) d.types.at d.types.count types → DefaultsKnown types d.types.count d.types.count has → ty d.source.names 8 (tokens_of d.source) at ≡ got a q → b ≡ is_some (default types a)
-lent-has t d e at has b f = rw (e.0, e.1) at f

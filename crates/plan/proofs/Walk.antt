@@ -50,6 +50,11 @@ use Rattle.plan.specs.Walks.{Setting, ground_of, Known, Roomy, Site, Leaves, Wal
 use Rattle.plan.proofs.Growth.{ahead-needed, ahead-all, ahead-settled, arrow-holds, call-holds, yield-holds, yield-count}
 use Rattle.plan.proofs.Laws.{stays-but, says_none, says-as, says_then, says-stay, says-drop, says-join, says-follow, says-call, says-previous, arrow_codes, pre_codes, call_codes, defaults_in, pre_holds}
 
+-- an end of a walk that met no fault, or met one, tells which
+with_none : (o : Option Fault) → {q : ℕ} {r : Result ℕ value.Fault} {P : Type 0} → Ended q r P o → Ended q r ((o ≡ none) × P) o
+with_none o (Ended.goes a b) = Ended.goes (refl, a) b
+with_none o (Ended.stops g a b) = Ended.stops g a b
+
 -- ---- tokens and holds of rewritten expressions
 module _ (G : Ground) where
   yields-many : (ids : Ids) (es : Exprs) (c d : Clock) (n : ℕ) → length (operand_tokens (yields G.types G.nodes G.node ids c d n es).value) ≡ many es
@@ -429,10 +434,6 @@ module _ (A : Arrays) where
             (subst (λ (l : List HeldOperand). Says G s''.plan l w p 1 q (λ ids. call_codes (defaults_in G) (gate_of T.types T.nodes T.node c f) c f ids (frame_codes G c y.holds us ds ids)) y.holds (frame_holds G c y.holds us)) (sym D.held)
             (says-call G s'.plan s''.plan z c p q (frame_codes G c y.holds us ds) y.holds (frame_holds G c y.holds us) there u D.beside s'.holds f o.4 Q.0 (λ a b. D.word (omega arith) (omega (arith, room.flags)) b) P.says)))));
       }
-        where
-          with_none : (o : Option Fault) → {q : ℕ} {r : Result ℕ value.Fault} {P : Type 0} → Ended q r P o → Ended q r ((o ≡ none) × P) o
-          with_none o (Ended.goes a b) = Ended.goes (refl, a) b
-          with_none o (Ended.stops g a b) = Ended.stops g a b
 
       -- a `pre`
       pub walks-previous : (r : Result ℕ value.Fault) → get_or A.tags p 0 ≡ 58 → Walks A s s' (p + 1) r₀ →
@@ -477,10 +478,6 @@ module _ (A : Arrays) where
             K.few (λ b f g h l m n. D.row b f g h (omega (arith, near.holds)) (omega (arith, room.flags)) n) o.2 (lies-owed o.3) (λ h. D.word (omega arith) h)))));
       }
         where
-          with_none : (o : Option Fault) → {q : ℕ} {r : Result ℕ value.Fault} {P : Type 0} → Ended q r P o → Ended q r ((o ≡ none) × P) o
-          with_none o (Ended.goes a b) = Ended.goes (refl, a) b
-          with_none o (Ended.stops g a b) = Ended.stops g a b
-
           typed-when : (c : Clock) (bare : Bool) (o : Option Ty) → pre_fault (pre_turn c bare) o ≡ none → is_base c ≡ false → bare ≡ false → o ≡ some (type_or o)
           typed-when c bare o z b f = go o (rw (b, f) at z)
             where

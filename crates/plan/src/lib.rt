@@ -9,7 +9,7 @@ ghost use Rattle.definitions.specs.Reading.{got};
 ghost use Rattle.definitions.specs.Grammar.{declaration};
 ghost use Rattle.definitions.specs.Clock as clocks;
 ghost use Rattle.definitions.specs.Clock.{is_base};
-ghost use Rattle.definitions.specs.Declock.{add, add_with_parents, operand_type};
+ghost use Rattle.definitions.specs.Declock.{operand_type};
 ghost use Rattle.clock_tables.specs.Flat.{clock_in};
 ghost use Rattle.layout.specs.Spans.{Spans};
 ghost use Rattle.layout.specs.Table.{Table};
@@ -42,6 +42,7 @@ pub struct Planning<'a> {
 
 // Holds by number.
 // Stays (fixed memory): how many there are shows as a node is planned, and the slice is as long as there can be.
+// Stays (no plainer): beside `query` `FaultList`: it counts in u32, by which `hold` and `Counts` have their bound.
 #[derive(Drop)]
 pub struct HoldTable<'a> {
     pub holds: &'a mut [HeldOperand],
@@ -64,6 +65,7 @@ impl HoldTable<'_> {
 
 // What it notes: a word a token; the clocks with an activation flag and those with a first-tick flag; the holds; whether `condact` is
 // needed.
+// Stays (no plainer): notes beside planning, here and below: in one struct each function would promise besides that its references stay.
 #[derive(Drop)]
 pub struct Notes<'a, 'b> {
     pub plan: &'a mut [u32],
@@ -81,7 +83,7 @@ pub fn on_base(sites: &[u32], at: usize) -> bool
 }
 
 // Is the token there a name?
-// Stays (speed): tags, here and below: `rewrite` of 32 counters takes 3.56 million instructions, 3.77 by whole tokens, and the bar is 3.65.
+// Stays (speed): tags, here and below: `rewrite` of names used as clocks takes 5.02 million instructions, 5.2 by tokens; the bar is 5.12.
 fn is_name(source: &Source<'_>, at: usize) -> bool
     ensures { at < length source.now.tags.now → result ≡ eqb (get_or source.now.tags.now at 0) 54 }
 {
@@ -99,9 +101,8 @@ fn is_typed(source: &Source<'_>, types: &[u32], at: usize) -> bool
 fn output_lack(index: &Index<'_>, outputs: Span) -> Option<u32>
     ensures { (ds : List Declared) (f : ℕ) (types : List TypeDef) (l : List Node) (node : Node) → Spans (declaration index.now.source.names) (tokens_of index.now.source) ds outputs → Table index.now.source.names (tokens_of index.now.source) index.now.types.at index.now.types.count types → DefaultsKnown types index.now.types.count index.now.types.count index.now.has → lack_fault f result ≡ outputs_fault types l node f ds }
 {
-    let table = index.type_table();
     for declared in layout::declarations(&index.source, outputs) {
-        if !defaults::type_has_default(&table, &index.has, declared.type_at) {
+        if !index.has_default(declared.type_at) {
             return Some(declared.name);
         }
     }
@@ -163,13 +164,6 @@ fn close_call(
     }
 }
 
-// A place or a row as a hold has it; 0 for what no sheet has.
-fn narrow(i: usize) -> u32
-    ensures { i < 4294967296 → result ≡ i }
-{
-    u32::try_from(i).unwrap_or(0)
-}
-
 // A `pre` on a clock that is held.
 fn hold(sites: &[u32], notes: &mut Notes<'_, '_>, at: usize)
     requires { at + 1 < 2 ^ 64 }
@@ -183,8 +177,8 @@ fn hold(sites: &[u32], notes: &mut Notes<'_, '_>, at: usize)
         return;
     }
     notes.holds.push(HeldOperand {
-        at: narrow(at + 1),
-        row: narrow(row),
+        at: u32::try_from(at + 1).unwrap_or(0),
+        row: u32::try_from(row).unwrap_or(0),
     });
     put_at(notes.plan, at, j + 1);
 }

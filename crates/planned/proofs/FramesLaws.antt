@@ -1,6 +1,6 @@
 -- What stands around a right side, by what the code knows.
 -- Assumes nothing.
-use Prim.Native.Nat.{ℕ, ◌≤◌, ◌<◌}
+use Prim.Native.Nat.{ℕ, ◌<◌}
 use mathlib.Core.Path.{◌≡◌, sym, ◌∙◌, ap, subst}
 use mathlib.Core.List.{List, [], ◌∷◌, ◌++◌}
 use mathlib.Core.Option.{none}
@@ -23,15 +23,12 @@ use Rattle.stateless.specs.Yield.{left_tree, left_trees}
 use Rattle.stateless.specs.Faults.{left_fault, lefts_fault}
 use Rattle.planned.proofs.LeftDefaultsLaws.{names-below}
 use Rattle.planned.specs.declared.Frame.{Frame}
-use Rattle.planned.specs.Framed.{gate_tokens, lead_in, DefaultThenHeld, Defaulted, LeadOut}
+use Rattle.planned.specs.Framed.{lead_in, DefaultThenHeld, Defaulted, LeadOut}
 
 -- ---- what is written before
 module _ (condact n : ℕ) (f : Frame) (o : Output) where
   pub before-plain : f ≡ Frame.Plain → o ≡ emits o (lead_in condact n f)
   before-plain i = sym (emits_none o) ∙ ap (λ (x : Frame). emits o (lead_in condact n x)) (sym i)
-
-  pub before-gate : (o₁ : Output) (a : ℕ) → f ≡ Frame.Gate a → o₁ ≡ emits o (gate_tokens condact n a) → o₁ ≡ emits o (lead_in condact n f)
-  before-gate o₁ a i h = h ∙ ap (λ (x : Frame). emits o (lead_in condact n x)) (sym i)
 
 -- ---- what is written behind
 module _ (types : List TypeDef) (nodes : List Node) (node : Node) (xs : List ℕ) (l : List Token) where
@@ -44,10 +41,6 @@ module _ (types : List TypeDef) (nodes : List Node) (node : Node) (xs : List ℕ
       let free : left_fault types nodes node x ≡ none = rw j k.faultless in
       after o o₁ o₃ (e ExprToken.Arrow ∷ []) (expr_tokens (left_tree types nodes node x) ++ (e ExprToken.Pre ∷ e (ExprToken.Var x) ∷ [])) f (after o₁ o₂ o₃ (expr_tokens (left_tree types nodes node x)) (e ExprToken.Pre ∷ e (ExprToken.Var x) ∷ []) (g low free) h)
       ∙ ap (emits o) (ap (λ (y : ℕ). e ExprToken.Arrow ∷ (expr_tokens (left_tree types nodes node y) ++ (e ExprToken.Pre ∷ e (ExprToken.Var y) ∷ []))) j ∙ sym k.same)
-
-  -- there is one
-  pub kept-there : (xs' : List ℕ) → xs' ≡ xs → DefaultThenHeld types nodes node xs l → length xs' ≤ 0 → ⊥
-  kept-there xs' e k h = omega (arith, ap length (e ∙ k.alone))
 
   module _ (f : Frame) (out : LeadOut types nodes node f xs l) where
     pub behind-plain : (o : Output) → f ≡ Frame.Plain → o ≡ emits o l

@@ -8,7 +8,8 @@ use mathlib.Core.Option.{Option, some}
 use Prim.Native.Nat.{ℕ, suc, ◌+◌, ◌≤◌, ◌<◌}
 use native.Mathlib.Omega.{arith}
 use native.Mathlib.Numerals.{add-one}
-use lib.ListN.{length, get_or}
+use lib.ListN.{length, take, get_or}
+use lib.Seq.{get_or-take}
 use Rattle.definitions.specs.declared.Primitive.{Primitive}
 use Rattle.definitions.specs.declared.TypeToken.{TypeToken}
 use Rattle.definitions.specs.declared.ExprToken.{ExprToken}
@@ -35,7 +36,7 @@ use Rattle.emit.proofs.Laws.{emits-append, emits_none, emits-codes}
 use Rattle.emit.proofs.NodePartsLaws.{after}
 use Rattle.planned.specs.declared.HeldOperand.{HeldOperand}
 use Rattle.planned.specs.declared.WriteInput.{WriteInput}
-use Rattle.planned.specs.Writes.{Writer}
+use Rattle.planned.specs.Writes.{Writer, Writes}
 use Rattle.planned.specs.Opening.{WritesIn, WriterStands, WrittenAs}
 use Rattle.planned.specs.Held.{hold_at, HeldAt, HeldFrom}
 use Rattle.stateless.specs.Yield.{Ids}
@@ -178,3 +179,23 @@ module _ (M : ℕ) (gs vs : List ℕ) (W : Writer) (plan : List ℕ) (holds : Li
   equations-more hold_ids i whole o o₁ count j l d f =
       left-more M gs vs W plan holds (hold_equations ids) (λ j h. equation_tokens (record { left = ids.hold j ∷ []; right = h.right })) (λ j h hs. refl) whole o o₁ count j l d
       (λ h s. f h s ∙ ap (λ (x : ℕ). emits o (equation_tokens (record { left = x ∷ []; right = h.right }))) (sym (i j)))
+
+-- ---- a table that is cut behind the holds of a plan has them
+module _ (M : ℕ) (gs vs : List ℕ) (W : Writer) (plan : List ℕ) (holds : List HeldOperand) (n : ℕ) where
+  hold-cut : (j : ℕ) (h : Hold) → j < n → HeldAt M gs vs W plan holds j h → HeldAt M gs vs W plan (take n holds) j h
+  hold-cut j h f s =
+      let e : hold_at (take n holds) j ≡ hold_at holds j = get_or-take n holds j _ f in
+      record {
+        operand = s.operand;
+        rewritten = s.rewritten;
+        end = s.end;
+        stands = ap (λ (x : HeldOperand). tree M (tokens gs vs) x.at) e ∙ s.stands;
+        typed = s.typed;
+        right = s.right ∙ ap (λ (x : HeldOperand). if_of (Expr.var (get_or W.flag_ids x.row 0)) s.rewritten (Expr.pre (Expr.var (get_or W.hold_ids j 0)))) (sym e);
+        written = subst (λ (x : HeldOperand). Writes gs vs W plan x.at 1 s.end (map code_of (expr_tokens s.rewritten))) (sym e) s.written;
+      }
+
+  pub holds-cut : (j : ℕ) (hs : List Hold) → j + length hs ≤ n → HeldFrom M gs vs W plan holds j hs → HeldFrom M gs vs W plan (take n holds) j hs
+  unfolding HeldFrom
+  holds-cut j [] f s = tt
+  holds-cut j (h ∷ hs) f s = (hold-cut j h (omega arith) s.0, holds-cut (suc j) hs (omega arith) s.1)

@@ -3,7 +3,7 @@
 use mathlib.Core.Path.{◌≡◌, refl, sym, ◌∙◌, ap, subst}
 use mathlib.Core.List.{List, [], ◌∷◌, ◌++◌, append_assoc, append-nil}
 use mathlib.Core.Option.{none, some}
-use Prim.Native.Nat.{ℕ, zero, suc, ◌+◌, ◌≤◌, ◌<◌}
+use Prim.Native.Nat.{ℕ, zero, suc, ◌+◌, ◌≤◌}
 use native.Mathlib.Omega.{arith}
 use lib.ListN.{length, get_or}
 use Rattle.definitions.specs.Tokens.{TagValue}
@@ -98,14 +98,6 @@ module _ (gs vs : List ℕ) (W : Writer) (plan : List ℕ) where
   writes-on (Writes.choice i j w) = let h = writes-on w in omega arith
   writes-on (Writes.hold i j o w) = let h = writes-on w in let f = owed-on o in omega arith
   writes-on (Writes.gate i j f d v w) = let h = writes-on v in let g = writes-on w in omega arith
-
-  pub writes-there : {p n q : ℕ} {l : List TagValue} → Writes gs vs W plan p n q l → 0 < n → p < length gs
-  writes-there Writes.done e = absurd (omega arith)
-  writes-there (Writes.stay i j w) e = i
-  writes-there (Writes.drop i j w) e = i
-  writes-there (Writes.choice i j w) e = i
-  writes-there (Writes.hold i j o w) e = i
-  writes-there (Writes.gate i j f d v w) e = i
 
   -- one part, by what becomes of its token
   pub stay-in : {p n q : ℕ} {l : List TagValue} → Writes gs vs W plan p n q l → n ≡ 1 → plan_at gs vs W plan p ≡ Plan.Stay →

@@ -43,7 +43,7 @@ use typing::TypeFound;
 // flag and one more; of a when and a merge, and of all else, the tag says what becomes of it. `output` is what is written so far.
 
 // A hold: where its operand stands, and the row of its flag.
-#[derive(Clone, Copy)]
+#[derive(Clone, Copy, Default)]
 pub struct HeldOperand {
     pub at: u32,
     pub row: u32,
@@ -52,6 +52,7 @@ pub struct HeldOperand {
 // What writing a node's equations reads: the sheet's index, the plan, the table of parts, the ids of new names by row and by number, the
 // holds, and the declared types of the node's names.
 // Stays (fixed memory): `plan` and `types` are words and no options, since they are working tables of words, for other questions too.
+// Stays (no plainer): `output` beside `written`, here and in `declock`: in one struct each would promise besides that what it reads stays.
 #[derive(Clone, Copy)]
 pub struct WriteInput<'a> {
     pub index: &'a Index<'a>,
@@ -102,7 +103,7 @@ fn id_of(ids: &[u32], word: u32) -> u32
 }
 
 // What becomes of a token with this tag, value and word. The two `when` are apart, since of `a | b` over numbers the goals are by bounds.
-// Stays (speed): the tag alone: `rewrite` of 32 counters takes 3.56 million instructions, 3.74 by whole tokens, and the bar is 3.65.
+// Stays (speed): the tag: `rewrite` of names used as clocks takes 5.02 million instructions, 5.2 by whole tokens; the bar is 5.12.
 fn plan_of(written: &WriteInput<'_>, tag: u8, value: u32, word: u32) -> Plan
     ensures { result ≡ plan_of written.now.flag_ids.now written.now.first_ids.now written.now.hold_ids.now tag value word }
 {
@@ -119,7 +120,7 @@ fn plan_of(written: &WriteInput<'_>, tag: u8, value: u32, word: u32) -> Plan
 }
 
 // A token, and a name behind it.
-fn put_named(output: &mut Output, first: ExprToken, x: u32)
+pub fn put_named(output: &mut Output, first: ExprToken, x: u32)
     ensures { output.new ≡ emits output.old (named_tokens first x) }
 {
     output.emit_all(&[
@@ -296,24 +297,12 @@ fn put_declaration(source: &Source<'_>, types: &[u32], at: usize, x: u32, output
     put_type(source, found, output);
 }
 
-// Hold j.
-fn hold_at(holds: &[HeldOperand], j: usize) -> HeldOperand
-    ensures { result ≡ hold_at holds.now j }
+// The declarations of the holds.
+pub fn put_hold_declarations(written: &WriteInput<'_>, output: &mut Output)
+    ensures { let s = written.now.index.now.source in (W : Writer) (plan : List ℕ) (hs : List Hold) (ids : Ids) → length hs ≡ length written.now.holds.now → HeldFrom s.names s.tags.now s.values.now W plan written.now.holds.now 0 hs → Declares s.names (tokens_of s) written.now.types.now (declared W.node) → ((j : ℕ) → ids.hold j ≡ get_or written.now.hold_ids.now j 0) → output.new ≡ emits output.old (hold_declarations ids 0 hs) }
 {
-    holds
-        .get(j)
-        .copied()
-        .unwrap_or(HeldOperand { at: 0, row: 0 })
-}
-
-// The declarations of so many holds.
-// Stays (no plainer): a count beside `written.holds`, here and below: `write_planned` is lent a table of any length, of which a plan counts.
-pub fn put_hold_declarations(written: &WriteInput<'_>, count: usize, output: &mut Output)
-    ensures { let s = written.now.index.now.source in (W : Writer) (plan : List ℕ) (hs : List Hold) (ids : Ids) → length hs ≡ count → HeldFrom s.names s.tags.now s.values.now W plan written.now.holds.now 0 hs → Declares s.names (tokens_of s) written.now.types.now (declared W.node) → ((j : ℕ) → ids.hold j ≡ get_or written.now.hold_ids.now j 0) → output.new ≡ emits output.old (hold_declarations ids 0 hs) }
-{
-    for j in 0..count {
+    for (j, held) in written.holds.iter().enumerate() {
         let x = clock_tables::word_at(written.hold_ids, j);
-        let held = hold_at(written.holds, j);
         put_declaration(
             &written.index.source,
             written.types,
@@ -337,23 +326,22 @@ fn put_hold(output: &mut Output, x: u32, flag: u32)
 }
 
 // The equation of hold j: its operand where its flag is true, else the value before.
-fn put_equation(written: &WriteInput<'_>, j: usize, output: &mut Output)
-    ensures { let s = written.now.index.now.source in (W : Writer) (h : Hold) → WriterStands written.now W → HeldAt s.names s.tags.now s.values.now W written.now.plan.now written.now.holds.now j h → output.new ≡ emits output.old (equation_tokens (record { left = get_or written.now.hold_ids.now j 0 ∷ []; right = h.right })) }
+fn put_equation(written: &WriteInput<'_>, j: usize, held: HeldOperand, output: &mut Output)
+    ensures { let s = written.now.index.now.source in (W : Writer) (h : Hold) → held ≡ hold_at written.now.holds.now j → WriterStands written.now W → HeldAt s.names s.tags.now s.values.now W written.now.plan.now written.now.holds.now j h → output.new ≡ emits output.old (equation_tokens (record { left = get_or written.now.hold_ids.now j 0 ∷ []; right = h.right })) }
 {
     let x = clock_tables::word_at(written.hold_ids, j);
-    let held = hold_at(written.holds, j);
     let flag = clock_tables::word_at(written.flag_ids, held.row as usize);
     put_hold(output, x, flag);
     expr(written, held.at as usize, output);
     put_named(output, ExprToken::Pre, x);
 }
 
-// The equations of so many holds.
-pub fn put_hold_equations(written: &WriteInput<'_>, count: usize, output: &mut Output)
-    ensures { let s = written.now.index.now.source in (W : Writer) (hs : List Hold) (ids : Ids) → length hs ≡ count → WriterStands written.now W → HeldFrom s.names s.tags.now s.values.now W written.now.plan.now written.now.holds.now 0 hs → ((j : ℕ) → ids.hold j ≡ get_or written.now.hold_ids.now j 0) → output.new ≡ emits output.old (hold_equations ids 0 hs) }
+// The equations of the holds.
+pub fn put_hold_equations(written: &WriteInput<'_>, output: &mut Output)
+    ensures { let s = written.now.index.now.source in (W : Writer) (hs : List Hold) (ids : Ids) → length hs ≡ length written.now.holds.now → WriterStands written.now W → HeldFrom s.names s.tags.now s.values.now W written.now.plan.now written.now.holds.now 0 hs → ((j : ℕ) → ids.hold j ≡ get_or written.now.hold_ids.now j 0) → output.new ≡ emits output.old (hold_equations ids 0 hs) }
 {
-    for j in 0..count {
-        put_equation(written, j, output);
+    for (j, &held) in written.holds.iter().enumerate() {
+        put_equation(written, j, held, output);
     }
 }
 

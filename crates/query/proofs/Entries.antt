@@ -1,31 +1,36 @@
 -- Entries written over the front of a lent list, one after another. Assumes nothing.
-use mathlib.Core.Path.{◌≡◌, refl, sym, subst, ◌∙◌, ap}
-use mathlib.Core.List.{List, [], ◌∷◌, ◌++◌, map}
+use mathlib.Core.Path.{◌≡◌, refl, sym, ◌∙◌, ap}
+use mathlib.Core.List.{List, [], ◌∷◌, ◌++◌, map, append_assoc, append-nil}
 use mathlib.Core.Bool.{Bool, true, false}
 use Prim.Native.Nat.{ℕ, zero, suc, ◌+◌, ◌*◌, ◌/◌, ◌≤◌, ◌<◌}
 use native.Mathlib.Omega.{arith}
 use native.Mathlib.Numerals.{add-one}
 use lib.Dec.{leb}
 use borrow.Author.Tests.{leb-true, leb-false}
-use lib.ListN.{length, get_or, set, take, drop, length-append, length-map}
+use lib.ListN.{length, get_or, set, take, length-append, length-map}
 use lib.Seq.{take-suc, take_all, take-append-le, length-take-le}
 use Rattle.definitions.specs.Lists.{join, over, Letters}
-use Rattle.definitions.specs.Bytes.{tokens}
-use Rattle.definitions.specs.Tree.{Equation}
-use Rattle.definitions.specs.Reading.{got}
-use Rattle.definitions.specs.Grammar.{equation}
 use Rattle.definitions.specs.Clock.{Clock, base}
 use Rattle.definitions.specs.InferClocks.{Clocked, Finding, found, NodeFault, chains, clock_faults}
 use Rattle.definitions.specs.Output.{ClockedNode}
 use Rattle.definitions.specs.declared.FaultRecord.{FaultRecord}
 use Rattle.definitions.specs.Answer.{fault_record, node_clocks}
+use Rattle.std.specs.Prelude.{Some, None}
+use Rattle.clock_tables.specs.declared.clock.Clock as value
+use Rattle.clock_tables.specs.Value.{value_of}
 use Rattle.lines.specs.declared.ToldNode.{ToldNode}
+use Rattle.lines.specs.declared.equation_clocks.EquationClocks.{EquationClocks}
+use Rattle.lines.specs.Walk.{GivesClock, ClocksLeft}
+use Rattle.lines.proofs.Walks.{clocks-next, clocks-end}
 use Rattle.lines.proofs.Laws.{node-many}
 use Rattle.query.specs.declared.NodeCounts.{NodeCounts}
 use Rattle.query.specs.Standing.{NodeWithClocks}
-use Rattle.clock_tables.specs.Flat.{clock_in, clock_words, with_clock}
+use Rattle.clock_tables.specs.Flat.{clock_words, with_clock}
 use Rattle.clock_tables.proofs.FlatLaws.{over-long, words_long}
 use Rattle.skeleton.specs.Sites.{EquationsOn}
+use Rattle.infer_clocks.specs.Clocked.{ChainRoom}
+use Rattle.workspace.specs.Room.{Ample}
+use Rattle.workspace.proofs.Kept.{ample-room}
 use Rattle.findings.specs.Findings.{finding_in, findings_in}
 use Rattle.findings.proofs.Laws.{none_yet, count-more, faults-one, faults-no}
 use Rattle.spelling.specs.Writing.{over_at, last_place}
@@ -67,6 +72,26 @@ module _ (cs : List Clock) (v : Clock) (lent : List ℕ) where
   unfolding clocks_over
   clock-out h = let a : length lent / 17 ≤ length cs = omega arith in ap (λ (l : List Clock). over (join (map clock_words l)) lent) (sym (take-append-le (length lent / 17) cs (v ∷ []) a))
 
+  -- a clock is put in the row behind the others, if there is one
+  clock-behind : (i : ℕ) (now after : List ℕ) → i ≡ length cs → (17 * i + 17 ≤ length now → after ≡ with_clock (17 * i) v now) → (length now < 17 * i + 17 → after ≡ now)
+      → now ≡ clocks_over cs lent → after ≡ clocks_over (cs ++ (v ∷ [])) lent
+  unfolding clocks_over
+  clock-behind i now after e put kept g = go (leb (17 * i + 17) (length now)) refl
+    where
+      same : length now ≡ length lent
+      same = ap length g ∙ over-long (join (map clock_words (take (length lent / 17) cs))) lent
+
+      go : (t : Bool) → leb (17 * i + 17) (length now) ≡ t → after ≡ clocks_over (cs ++ (v ∷ [])) lent
+      go true q =
+          let w : 17 * i + 17 ≤ length now = leb-true (17 * i + 17) (length now) q in
+          put w
+          ∙ (sym (over-parts (17 * i) (clock_words v) now)
+          ∙ (ap (λ (x : List ℕ). over_at (17 * i) (clock_words v) x) g
+          ∙ (ap (λ (n : ℕ). over_at (17 * n) (clock_words v) (clocks_over cs lent)) e ∙ clock-in (omega (arith, w, same, e)))))
+      go false q =
+          let w : length now < 17 * i + 17 = leb-false (17 * i + 17) (length now) q in
+          kept w ∙ (g ∙ clock-out (omega (arith, w, same, e)))
+
 module _ (l : List Clock) (lent : List ℕ) where
   pub clocks-none : lent ≡ clocks_over (take 0 l) lent
   unfolding clocks_over
@@ -80,28 +105,10 @@ module _ (l : List Clock) (lent : List ℕ) where
   pub clock-entered : (v : Clock) (i : ℕ) (now after : List ℕ) → i < length l → v ≡ get_or l i base
       → (17 * i + 17 ≤ length now → after ≡ with_clock (17 * i) v now) → (length now < 17 * i + 17 → after ≡ now)
       → now ≡ clocks_over (take i l) lent → after ≡ clocks_over (take (i + 1) l) lent
-  unfolding clocks_over
-  clock-entered v i now after h e put kept g = go (leb (17 * i + 17) (length now)) refl ∙ ap (λ (k : List Clock). clocks_over k lent) more
+  clock-entered v i now after h e put kept g = clock-behind (take i l) v lent i now after (sym (length-take-le i l (omega arith))) put kept g ∙ ap (λ (k : List Clock). clocks_over k lent) more
     where
-      many : length (take i l) ≡ i
-      many = length-take-le i l (omega arith)
-
       more : take i l ++ (v ∷ []) ≡ take (i + 1) l
       more = ap (λ (y : Clock). take i l ++ (y ∷ [])) e ∙ (sym (take-suc l i base h) ∙ ap (λ (n : ℕ). take n l) (sym (add-one i)))
-
-      same : length now ≡ length lent
-      same = ap length g ∙ over-long (join (map clock_words (take (length lent / 17) (take i l)))) lent
-
-      go : (t : Bool) → leb (17 * i + 17) (length now) ≡ t → after ≡ clocks_over (take i l ++ (v ∷ [])) lent
-      go true q =
-          let w : 17 * i + 17 ≤ length now = leb-true (17 * i + 17) (length now) q in
-          put w
-          ∙ (sym (over-parts (17 * i) (clock_words v) now)
-          ∙ (ap (λ (x : List ℕ). over_at (17 * i) (clock_words v) x) g
-          ∙ (ap (λ (n : ℕ). over_at (17 * n) (clock_words v) (clocks_over (take i l) lent)) (sym many) ∙ clock-in (take i l) v lent (omega (arith, w, same, many)))))
-      go false q =
-          let w : length now < 17 * i + 17 = leb-false (17 * i + 17) (length now) q in
-          kept w ∙ (g ∙ clock-out (take i l) v lent (omega (arith, w, same, many)))
 
   -- all of them
   pub clocks-entered : (i : ℕ) (now : List ℕ) → length l ≤ i → now ≡ clocks_over (take i l) lent → now ≡ clocks_over l lent
@@ -131,44 +138,38 @@ module _ (f : ℕ → Clock) (chain : List ℕ) (cs : List Clock) (h : map f cha
   chains-written lent now e = e ∙ ap (λ (l : List Clock). clocks_over l lent) h
 
 -- ---- the clocks of equations
--- equation i with its clock, and those behind it
-clocked-item : (cs : List Clocked) (i : ℕ) → i < length cs → (x : Clocked) × (rest : List Clocked) × (drop i cs ≡ x ∷ rest) × (get_or (map (λ (c : Clocked). c.clock) cs) i base ≡ x.clock)
-clocked-item [] i h = absurd (omega arith)
-clocked-item (c ∷ cs) zero h = (c, cs, refl, refl)
-clocked-item (c ∷ cs) (suc i) h = clocked-item cs i (omega arith)
+-- those left, and those written
+pub record Entered (all : List Clock) (lent : List ℕ) (i : ℕ) (s : EquationClocks) (now : List ℕ) : Type 0 where
+  pub rest : List Clock
+  pub so_far : List Clock
+  pub left : ClocksLeft rest s
+  pub many : i ≡ length so_far
+  pub whole : so_far ++ rest ≡ all
+  pub entered : now ≡ clocks_over so_far lent
 
-drop-next : {A : Type 0} (l : List A) (i : ℕ) (a : A) (rest : List A) → drop i l ≡ a ∷ rest → drop (i + 1) l ≡ rest
-drop-next [] zero a rest h = let z : ◌≡◌ {A = ℕ} 0 1 = cc in absurd (omega arith)
-drop-next [] (suc i) a rest h = let z : ◌≡◌ {A = ℕ} 0 1 = cc in absurd (omega arith)
-drop-next (b ∷ l) zero a rest h = cc
-drop-next (b ∷ l) (suc i) a rest h = let e : suc i + 1 ≡ suc (i + 1) = omega arith in rw e (drop-next l i a rest h)
+module _ (all : List Clock) (lent : List ℕ) where
+  pub entered-none : (i : ℕ) (s : EquationClocks) → i ≡ 0 → ClocksLeft all s → Entered all lent i s lent
+  entered-none i s z h = record { rest = all; so_far = []; left = h; many = z; whole = refl; entered = clocks-none [] lent }
 
--- the equations left, and the clocks written
-pub record Equations (M : ℕ) (gs vs sites : List ℕ) (cs : List Clocked) (q place : ℕ) (lent : List ℕ) (i : ℕ) (now : List ℕ) : Type 0 where
-  pub on : EquationsOn M gs vs sites (drop i cs) place q
-  pub entered : now ≡ clocks_over (take i (map (λ (c : Clocked). c.clock) cs)) lent
+  module _ {i : ℕ} {s : EquationClocks} {now : List ℕ} (h : Entered all lent i s now) (t : EquationClocks) where
+    pub entered-more : (n j : ℕ) (c : value.Clock) (after : List ℕ) → GivesClock s (Some c) t → j ≡ i → n ≡ i + 1
+        → (17 * j + 17 ≤ length now → after ≡ with_clock (17 * j) (value_of c) now) → (length now < 17 * j + 17 → after ≡ now) → Entered all lent n t after
+    entered-more n j c after g e k put kept =
+        let v = value_of c in
+        let r = clocks-next h.left t c g in
+        record {
+          rest = r.0;
+          so_far = h.so_far ++ (v ∷ []);
+          left = r.2;
+          many = simp length-append (omega (arith, h.many, k));
+          whole = append_assoc h.so_far (v ∷ []) r.0 ∙ (ap (λ (x : List Clock). h.so_far ++ x) (sym r.1) ∙ h.whole);
+          entered = clock-behind h.so_far v lent j now after (e ∙ h.many) put kept h.entered;
+        }
 
-module _ (M : ℕ) (gs vs sites : List ℕ) (cs : List Clocked) (q : ℕ) (lent : List ℕ) where
-  pub equations-none : (at : ℕ) → EquationsOn M gs vs sites cs at q → Equations M gs vs sites cs q at lent 0 lent
-  equations-none at g = record { on = g; entered = clocks-none (map (λ (c : Clocked). c.clock) cs) lent }
-
-  pub equation-entered : (i place end : ℕ) (v : Clock) (now after : List ℕ) → i < length cs → v ≡ clock_in sites (17 * place)
-      → ((M : ℕ) (e : Equation) (q : ℕ) → equation M (tokens gs vs) place ≡ got e q → end ≡ q)
-      → (17 * i + 17 ≤ length now → after ≡ with_clock (17 * i) v now) → (length now < 17 * i + 17 → after ≡ now)
-      → Equations M gs vs sites cs q place lent i now → Equations M gs vs sites cs q end lent (i + 1) after
-  unfolding EquationsOn
-  equation-entered i place end v now after h e E put kept u =
-      let b = clocked-item cs i h in
-      let o : EquationsOn M gs vs sites (b.0 ∷ b.1) place q = subst (λ (l : List Clocked). EquationsOn M gs vs sites l place q) b.2 u.on in
-      let r : EquationsOn M gs vs sites b.1 end q = subst (λ (p : ℕ). EquationsOn M gs vs sites b.1 p q) (sym (E M b.0.equation o.0 o.1)) o.3 in
-      let w : i < length (map (λ (c : Clocked). c.clock) cs) = omega (arith, h, length-map cs (λ (c : Clocked). c.clock)) in
-      record {
-        on = subst (λ (l : List Clocked). EquationsOn M gs vs sites l end q) (sym (drop-next cs i b.0 b.1 b.2)) r;
-        entered = clock-entered (map (λ (c : Clocked). c.clock) cs) lent v i now after w (e ∙ (o.2 ∙ sym b.3)) put kept u.entered;
-      }
-
-  pub equations-entered : (i place : ℕ) (now : List ℕ) → length cs ≤ i → Equations M gs vs sites cs q place lent i now → now ≡ clocks_over (map (λ (c : Clocked). c.clock) cs) lent
-  equations-entered i place now h u = clocks-entered (map (λ (c : Clocked). c.clock) cs) lent i now (omega (arith, h, length-map cs (λ (c : Clocked). c.clock))) u.entered
+    pub entered-all : GivesClock s None t → now ≡ clocks_over all lent
+    entered-all g =
+        let z : h.so_far ≡ all = sym (append-nil h.so_far) ∙ (ap (λ (x : List Clock). h.so_far ++ x) (sym (clocks-end h.left t g)) ∙ h.whole) in
+        h.entered ∙ ap (λ (l : List Clock). clocks_over l lent) z
 
 -- ---- faults
 -- one record more behind others that stand over the front of a list, if there is a place for it
@@ -206,6 +207,10 @@ module _ (node : ℕ) (t : List ℕ) (lent : List FaultRecord) where
     fault-passed h = let s = faults-no t i f e h in record { few = omega (arith, z.few); count = rw s z.count; written = rw s z.written }
 
 -- ---- a node
+-- tables that have room for chains have it for as many as were found
+pub chain-room : {table rows chain : List ℕ} → Ample table rows chain → (m : ℕ) → 38 * m ≤ length table → ChainRoom m rows chain × (m ≤ 4096)
+chain-room a m h = let w = ample-room _ _ _ a m _ refl h in (record { rowed = w.0; placed = w.1 }, w.2)
+
 counts_same : (a a' b b' c c' d d' e e' : ℕ) → a ≡ a' → b ≡ b' → c ≡ c' → d ≡ d' → e ≡ e'
     → ◌≡◌ {A = NodeCounts} (record { name = a; passes = b; equations = c; chains = d; faults = e }) (record { name = a'; passes = b'; equations = c'; chains = d'; faults = e' })
 counts_same a a' b b' c c' d d' e e' p q r s t = rw (p, q, r, s, t)

@@ -5,7 +5,7 @@ use Prim.Native.Nat.{ℕ, suc, ◌+◌, ◌*◌, ◌≤◌, ◌<◌}
 use native.Mathlib.Omega.{arith}
 use lib.ListN.{length, length-append}
 use Rattle.std.specs.Prelude.{None, Some}
-use Rattle.std.proofs.Common.{Result, Ok, Err}
+use Rattle.std.proofs.Common.{Ok, Err}
 use Rattle.definitions.specs.Lists.{join, numbered, Letters}
 use Rattle.definitions.specs.Tree.{Node}
 use Rattle.definitions.specs.Refusals.{Answer, accepted, refused, faulty, ◌>>=◌}
@@ -36,7 +36,7 @@ use Rattle.query.proofs.Nodes.{all_left, node-formed, node-deep}
 
 -- ---- a node clocked
 -- it is the node that is listed
-pub lists : (l : ListedNode) (n : ClockedNode) → NodeWithClocks l.source.tags.now l.source.values.now l.table.now l.sites.now l.told n → Lists l n
+pub lists : (l : ListedNode) (n : ClockedNode) → NodeWithClocks l.named.source.tags.now l.named.source.values.now l.table.now l.sites.now l.told n → Lists l n
 lists l n z = record { end = z.end; laid = z.laid; formed = z.formed; tells = z.tells }
 
 -- what was written of it is no longer than a node's listing may be
@@ -121,7 +121,3 @@ module _ (source : Source) (letters : ℕ → Letters) (n q : ℕ) (from : TextW
 pub stands-deep : (letters : ℕ → Letters) (ns : List Node) (lent now : List ℕ) (r : Refusal) → clockings 0 ns ≡ refused r → TextStands (listings_text letters ns) lent now (Err r)
 unfolding TextStands
 stands-deep letters ns lent now r h = rw h refl
-
--- the bytes by another name, as those behind a reference when what held it ends
-pub stands-held : (v : Answer Letters) (lent now held : List ℕ) (a : Result ℕ Refusal) → held ≡ now → TextStands v lent now a → TextStands v lent held a
-stands-held v lent now held a e h = rw e h

@@ -2,11 +2,12 @@
 use mathlib.Core.Path.{◌≡◌, refl, sym, ◌∙◌, ap}
 use mathlib.Core.Bool.{Bool, true, false, true≢false}
 use mathlib.Core.List.{List, [], ◌∷◌, ◌++◌}
+use mathlib.Core.Logic.{inl, inr}
 use Prim.Native.Nat.{ℕ, zero, suc, ◌+◌, ◌-◌, ◌≤◌, ◌<◌, min}
 use native.Mathlib.Omega.{arith}
 use native.Mathlib.Numerals.{add-one}
 use lib.ListN.{length, take}
-use lib.Seq.{length-take-le}
+use lib.Seq.{length-take-le, take-append_seam}
 use Rattle.std.proofs.Common.{Result, Ok, Err}
 use Rattle.std.specs.Prelude.{is_ok}
 use Rattle.std.specs.Result.{MatchResult}
@@ -175,12 +176,13 @@ module _ (M : ℕ) (ts : List TagValue) (r : Input) (k count before at q : ℕ) 
 
   module _ (d : Result ℕ Refusal) (D : (ns : List Node) (p : ℕ) → times before (node M) ts at ≡ got ns p → Deeply p d (clockings 0 ns)) where
     -- 9 before it
-    pub asked-deep : (y : Refusal) → d ≡ Err y → node_at r k ≡ refused y
-    unfolding Deeply
-    asked-deep y f =
+    pub asked-deep : (source : Source) (y : Refusal) → d ≡ Err y → NodeFound source r k (Err y)
+    unfolding NodeFound Deeply
+    asked-deep source y f =
         let s = among in
         let x : Deeply s.place (Err y) (clockings 0 s.front) = rw f at (D s.front s.place s.before) in
-        node-after-deep r k s.front s.item s.rest s.whole (s.many ∙ e) y x
+        let front : take k r.sheet.nodes ≡ s.front = ap (λ (n : ℕ). take n r.sheet.nodes) (sym (s.many ∙ e)) ∙ (ap (take (length s.front)) s.whole ∙ take-append_seam s.front (s.item ∷ s.rest)) in
+        (node-after-deep r k s.front s.item s.rest s.whole (s.many ∙ e) y x, inr (ap (clockings 0) front ∙ x))
 
     -- it stands there, and the nodes behind it after it
     pub asked-there : (p : ℕ) → d ≡ Ok p → (n : Node) × (m : ℕ) × (ns : List Node) × (node M ts p ≡ got n m) × (times (count - before - 1) (node M) ts m ≡ got ns q) × (node_at r k ≡ first_from k (n ∷ ns))
@@ -192,13 +194,13 @@ module _ (M : ℕ) (ts : List TagValue) (r : Input) (k count before at q : ℕ) 
 
 -- what was found of node k
 module _ (source : Source) (r : Input) (k : ℕ) where
-  pub found-none : (x : Refusal) → node_at r k ≡ refused x → NodeFound source r k (Err x)
+  pub found-none : length r.sheet.nodes ≤ k → NodeFound source r k (Err Refusal.Missing)
   unfolding NodeFound
-  found-none x e = e
+  found-none h = (node-missing r k h, inl (h, refl))
 
   pub found-turned : (x : Refusal) → NodeFound source r k (Err x) → node_at r k ≡ refused x
   unfolding NodeFound
-  found-turned x h = h
+  found-turned x h = h.0
 
   pub found-there : (f : FoundNode) → FoundAt source r k f → NodeFound source r k (Ok f)
   unfolding NodeFound

@@ -1,5 +1,5 @@
 -- A sheet in the working tables, and what is told of its nodes.
-use Rattle.std.specs.Prelude.{ℕ, ◌+◌, ◌≤◌, ◌<◌, ◌≡◌, List, ◌∷◌, length, Result, Ok, Err}
+use Rattle.std.specs.Prelude.{ℕ, ◌+◌, ◌≤◌, ◌<◌, ◌≡◌, ◌⊎◌, List, ◌∷◌, length, take, Result, Ok, Err}
 use Rattle.definitions.specs.declared.Refusal.{Refusal}
 use Rattle.definitions.specs.Tree.{Node}
 use Rattle.definitions.specs.Bytes.{tokens}
@@ -42,9 +42,9 @@ pub record FoundAt (source : Source) (r : Input) (k : ℕ) (f : FoundNode) : Typ
   pub asked : node_at r k ≡ first_from k (node ∷ rest)
   pub behind : Deeply last f.behind (clockings (k + 1) rest)
 
--- the same, or 8, or 9 at a node before it
+-- the same; or 8, as there is no node k; or 9 at a node before it: 9 at one behind it stands in `behind`
 unfoldable pub NodeFound : Source → Input → ℕ → Result FoundNode Refusal → Type 0
-NodeFound source r k (Err e) = node_at r k ≡ refused e
+NodeFound source r k (Err e) = (node_at r k ≡ refused e) × (((length r.sheet.nodes ≤ k) × (e ≡ Refusal.Missing)) ⊎ (clockings 0 (take k r.sheet.nodes) ≡ refused e))
 NodeFound source r k (Ok f) = FoundAt source r k f
 
 -- a node laid out, with its clocks in the working tables

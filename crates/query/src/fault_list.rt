@@ -6,6 +6,7 @@ use definitions::FaultRecord;
 use findings::Found;
 
 // Fault records in a lent list, and how many there are: also those that the list does not reach.
+// Stays (C interface): its count goes past the records: C lends the list, and is told of all faults, also of those past its end.
 #[derive(Drop)]
 pub struct FaultList<'a> {
     pub records: &'a mut [FaultRecord],

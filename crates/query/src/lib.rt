@@ -15,13 +15,14 @@ ghost use Rattle.definitions.specs.Output.{ClockedNode};
 ghost use Rattle.definitions.specs.Answer.{Input, clockings, fault_record, node_at, node_clocks, node_listing};
 ghost use Rattle.findings.specs.Findings.{findings_in};
 ghost use Rattle.spelling.specs.Places.{letters_in};
+ghost use Rattle.spelling.specs.Named.{Short};
 ghost use Rattle.chain_order.specs.Order.{ordered_clocks};
 ghost use Rattle.spelling.specs.Writing.{farthest};
 ghost use Rattle.spelling.specs.Written.{Wrote};
 ghost use Rattle.layout.specs.Laid.{LaidNode};
 ghost use Rattle.layout.specs.Spans.{Spans};
 ghost use Rattle.skeleton.specs.Sites.{EquationsOn};
-ghost use Rattle.infer_clocks.specs.Clocked.{Deeply, SitesTold};
+ghost use Rattle.infer_clocks.specs.Clocked.{Deeply, SitesTold, ChainRoom};
 ghost use Rattle.workspace.specs.Room.{SameRoom, Roomy, Ample, RoomToList};
 ghost use Rattle.query.specs.Standing.{NodeWithClocks, ClockedAs, NodeFound, NodeTold};
 ghost use Rattle.query.specs.Listed.{TextStands, listings_text};
@@ -33,7 +34,7 @@ use findings::{Fault, Finding, FindingList, Found};
 use grammar::Source;
 use layout::{NodeLayout, Span};
 use lines::{ListedNode, ToldNode};
-use spelling::{Spelling, TextWriter};
+use spelling::{NamedSource, Spelling, TextWriter};
 use workspace::Working;
 
 pub mod fault_list;
@@ -157,15 +158,12 @@ pub fn clock_at(
     Ok(told)
 }
 
-// The clocks of the equations that stand there.
-// Stays (no plainer): of each equation only where it stands is read, which an iterator over equations would give among its parts.
-fn write_equations(source: &Source<'_>, sites: &[u32], s: Span, list: &mut [u32])
-    ensures { (M : ℕ) (cs : List Clocked) (q : ℕ) → EquationsOn M source.now.tags.now source.now.values.now sites.now cs s.at q → length cs ≡ s.count → list.new ≡ clocks_over (map (λ c. c.clock) cs) list.old }
+// The clocks of a node's equations.
+fn write_equations(node: &ListedNode<'_>, list: &mut [u32])
+    ensures { (M : ℕ) (cs : List Clocked) (q : ℕ) → EquationsOn M node.now.named.source.tags.now node.now.named.source.values.now node.now.sites.now cs node.now.told.layout.equations.at q → length cs ≡ node.now.told.layout.equations.count → list.new ≡ clocks_over (map (λ c. c.clock) cs) list.old }
 {
-    let mut place = s.at;
-    for i in 0..s.count as usize {
-        clock_tables::put_row(list, i, clock_tables::get(sites, place));
-        place = layout::equation_end(source, place);
+    for (i, clock) in node.equation_clocks().enumerate() {
+        clock_tables::put_row(list, i, clock);
     }
 }
 
@@ -187,8 +185,8 @@ fn write_chains(
     chain: &mut [u32],
     list: &mut [u32],
 ) -> usize
-    ensures value { 17 * findings.entry.count ≤ length rows.old → findings.entry.count ≤ length chain.old → findings.entry.count < 4294967296 → result ≡ length (chains (letters_in spelling.entry) (findings_in findings.entry.words.now findings.entry.count)) }
-    ensures list_after { 17 * findings.entry.count ≤ length rows.old → findings.entry.count ≤ length chain.old → findings.entry.count < 4294967296 → list.new ≡ clocks_over (chains (letters_in spelling.entry) (findings_in findings.entry.words.now findings.entry.count)) list.old }
+    ensures value { ChainRoom findings.entry.count rows.old chain.old → findings.entry.count < 4294967296 → result ≡ length (chains (letters_in spelling.entry) (findings_in findings.entry.words.now findings.entry.count)) }
+    ensures list_after { ChainRoom findings.entry.count rows.old chain.old → findings.entry.count < 4294967296 → list.new ≡ clocks_over (chains (letters_in spelling.entry) (findings_in findings.entry.words.now findings.entry.count)) list.old }
 {
     let ordered = infer_clocks::chain_rows(spelling, findings, rows, chain);
     write_rows(&ordered, list);
@@ -218,24 +216,25 @@ fn write_found(
     chains: &mut [u32],
     faults: &mut [FaultRecord],
 ) -> NodeCounts
-    ensures counted { 17 * node.now.told.clocked.findings ≤ length rows.old → node.now.told.clocked.findings ≤ length chain.old → node.now.told.clocked.findings < 4294967296 → result ≡ found_counts (letters_in node.now.spelling) node.now.table.now node.now.told }
-    ensures chains_after { 17 * node.now.told.clocked.findings ≤ length rows.old → node.now.told.clocked.findings ≤ length chain.old → node.now.told.clocked.findings < 4294967296 → chains.new ≡ clocks_over (clocks.chains (letters_in node.now.spelling) (findings_in node.now.table.now node.now.told.clocked.findings)) chains.old }
+    ensures counted { ChainRoom node.now.told.clocked.findings rows.old chain.old → node.now.told.clocked.findings < 4294967296 → result ≡ found_counts (letters_in node.now.named.spelling) node.now.table.now node.now.told }
+    ensures chains_after { ChainRoom node.now.told.clocked.findings rows.old chain.old → node.now.told.clocked.findings < 4294967296 → chains.new ≡ clocks_over (clocks.chains (letters_in node.now.named.spelling) (findings_in node.now.table.now node.now.told.clocked.findings)) chains.old }
     ensures faults_after { node.now.told.number < 4294967296 → faults.new ≡ over (map (fault_record node.now.told.number) (clock_faults (findings_in node.now.table.now node.now.told.clocked.findings))) faults.old }
 {
     let told = node.told;
     let findings = node.findings();
+    // Stays (proof): `as u32` leaves `overflow_cast-number` open: that it fits is a premise of clauses; a `requires` asks more of callers.
     let number = u32::try_from(told.number).unwrap_or(0);
     NodeCounts {
         name: told.layout.name,
         passes: told.clocked.passes,
         equations: told.layout.equations.count as usize,
-        chains: write_chains(node.spelling, findings, rows, chain, chains),
+        chains: write_chains(node.named.spelling, findings, rows, chain, chains),
         faults: write_faults(findings, number, faults),
     }
 }
 
 // The clocks and faults of a clocked node, over three lent lists.
-// Stays (C interface): `equations`, `chains` and `faults`, here and in what calls this, are the three lists that C lends, each singly.
+// Stays (no plainer): a struct of the three `&mut` lists would promise at each of five functions that its references stay.
 pub fn write_clocks(
     node: &ListedNode<'_>,
     rows: &mut [u32],
@@ -244,19 +243,17 @@ pub fn write_clocks(
     chains: &mut [u32],
     faults: &mut [FaultRecord],
 ) -> NodeCounts
-    ensures { (n : ClockedNode) → NodeWithClocks node.now.source.tags.now node.now.source.values.now node.now.table.now node.now.sites.now node.now.told n → Ample node.now.table.now rows.old chain.old → node.now.told.number < 16 → Written node.now.told.number (node_clocks (letters_in node.now.spelling) n) equations.old chains.old faults.old equations.new chains.new faults.new result }
+    ensures { (n : ClockedNode) → NodeWithClocks node.now.named.source.tags.now node.now.named.source.values.now node.now.table.now node.now.sites.now node.now.told n → Ample node.now.table.now rows.old chain.old → node.now.told.number < 16 → Written node.now.told.number (node_clocks (letters_in node.now.named.spelling) n) equations.old chains.old faults.old equations.new chains.new faults.new result }
 {
-    let equations_at = node.told.layout.equations;
-    write_equations(&node.source, node.sites, equations_at, equations);
+    write_equations(node, equations);
     write_found(node, rows, chain, chains, faults)
 }
 
 // The listing of a node that was clocked in these tables.
-// Stays (proof): tried with `node` made from a `&mut Working`: a field's length is untold once it was lent into a struct (`same_room`).
+// Stays (proof): of a `&mut Working` (tried) it is not covered: `chain_rows` keeps the loan of a slice in a field while others are lent.
 fn write_listing(
     text: &mut TextWriter<'_>,
-    spelling: Spelling<'_>,
-    source: &Source<'_>,
+    named: NamedSource<'_>,
     told: ToldNode,
     table: &mut [u32],
     rows: &mut [u32],
@@ -264,17 +261,16 @@ fn write_listing(
     sites: &mut [u32],
 )
     ensures same_reference { text.new.out.ghost_name ≡ text.old.out.ghost_name }
-    ensures wrote { (n : ClockedNode) → NodeWithClocks source.now.tags.now source.now.values.now table.old sites.old told n → Ample table.old rows.old chain.old → Wrote (node_listing (letters_in spelling.entry) told.number n) text.old text.new }
-    ensures fits { (n : ClockedNode) → NodeWithClocks source.now.tags.now source.now.values.now table.old sites.old told n → Ample table.old rows.old chain.old → length spelling.entry.letters.now ≤ 16384 → length source.now.tags.now ≤ 4096 → length (node_listing (letters_in spelling.entry) told.number n) ≤ farthest }
+    ensures wrote { (n : ClockedNode) → NodeWithClocks named.entry.source.tags.now named.entry.source.values.now table.old sites.old told n → Ample table.old rows.old chain.old → Wrote (node_listing (letters_in named.entry.spelling) told.number n) text.old text.new }
+    ensures fits { (n : ClockedNode) → NodeWithClocks named.entry.source.tags.now named.entry.source.values.now table.old sites.old told n → Ample table.old rows.old chain.old → Short named.entry → length (node_listing (letters_in named.entry.spelling) told.number n) ≤ farthest }
 {
     let node = ListedNode {
-        spelling,
-        source: *source,
+        named,
         told,
         table,
         sites,
     };
-    let ordered = infer_clocks::chain_rows(spelling, node.findings(), rows, chain);
+    let ordered = infer_clocks::chain_rows(named.spelling, node.findings(), rows, chain);
     node.write(text, &ordered);
 }
 
@@ -282,22 +278,20 @@ fn write_listing(
 // clock is formed.
 fn write_listings(
     text: &mut TextWriter<'_>,
-    spelling: Spelling<'_>,
-    source: &Source<'_>,
+    named: NamedSource<'_>,
     nodes: Span,
     working: &mut Working<'_>,
 ) -> Result<usize, Refusal>
     requires { text.old.at ≡ 0 }
     ensures same_reference { text.new.out.ghost_name ≡ text.old.out.ghost_name }
     ensures same_room { SameRoom working.old working.new }
-    ensures listings_stand { (ns : List Node) (q : ℕ) → times nodes.count (node source.now.names) (tokens_of source.now) nodes.at ≡ got ns q → RoomToList source.now.names (length source.now.tags.now) working.old → length spelling.entry.letters.now ≤ 16384 → length source.now.tags.now ≤ 4096 → TextStands (listings_text (letters_in spelling.entry) ns) text.old.out.now text.new.out.now result }
+    ensures listings_stand { (ns : List Node) (q : ℕ) → times nodes.count (node named.entry.source.names) (tokens_of named.entry.source) nodes.at ≡ got ns q → RoomToList named.entry.source.names (length named.entry.source.tags.now) working.old → Short named.entry → TextStands (listings_text (letters_in named.entry.spelling) ns) text.old.out.now text.new.out.now result }
 {
-    for (i, layout) in layout::nodes(source, nodes).enumerate() {
-        let told = clock_laid(source, layout, i, working)?;
+    for (i, layout) in layout::nodes(&named.source, nodes).enumerate() {
+        let told = clock_laid(&named.source, layout, i, working)?;
         write_listing(
             text,
-            spelling,
-            source,
+            named,
             told,
             working.table,
             working.rows,
@@ -311,14 +305,13 @@ fn write_listings(
 // The same over the front of the lent bytes, as far as they reach, and how long they are.
 pub fn put_listings(
     out: &mut [u8],
-    spelling: Spelling<'_>,
-    source: &Source<'_>,
+    named: NamedSource<'_>,
     nodes: Span,
     working: &mut Working<'_>,
 ) -> Result<usize, Refusal>
     ensures same_room { SameRoom working.old working.new }
-    ensures listings_stand { (ns : List Node) (q : ℕ) → times nodes.count (node source.now.names) (tokens_of source.now) nodes.at ≡ got ns q → RoomToList source.now.names (length source.now.tags.now) working.old → length spelling.entry.letters.now ≤ 16384 → length source.now.tags.now ≤ 4096 → TextStands (listings_text (letters_in spelling.entry) ns) out.old out.new result }
+    ensures listings_stand { (ns : List Node) (q : ℕ) → times nodes.count (node named.entry.source.names) (tokens_of named.entry.source) nodes.at ≡ got ns q → RoomToList named.entry.source.names (length named.entry.source.tags.now) working.old → Short named.entry → TextStands (listings_text (letters_in named.entry.spelling) ns) out.old out.new result }
 {
     let mut text = TextWriter { out, at: 0 };
-    write_listings(&mut text, spelling, source, nodes, working)
+    write_listings(&mut text, named, nodes, working)
 }

@@ -2,15 +2,14 @@
 use mathlib.Core.Path.{◌≡◌, refl, sym, ◌∙◌, ap, subst⁻¹, fun_ext}
 use mathlib.Core.List.{List}
 use mathlib.Core.Bool.{Bool, true, false}
-use Prim.Native.Nat.{ℕ, zero, suc, ◌+◌, ◌-◌, ◌≤◌, ◌<◌}
+use Prim.Native.Nat.{ℕ, zero, suc, ◌+◌, ◌≤◌, ◌<◌}
 use native.Mathlib.Omega.{arith}
 use lib.Dec.{ltb}
 use borrow.Author.Tests.{ltb-true, ltb-false}
-use lib.ListN.{length, get_or, take, drop, replicate, get_or-eq_default}
+use lib.ListN.{length, get_or, take, replicate, get_or-eq_default}
 use Rattle.std.proofs.lemmas.List.{length-replicate}
 use Rattle.definitions.specs.Lists.{sum, over}
-use Rattle.definitions.specs.Bytes.{T, lengths, letters, cut, tokens}
-use Rattle.definitions.specs.Grammar.{sheet}
+use Rattle.definitions.specs.Bytes.{T, lengths, letters, cut}
 use Rattle.definitions.specs.Output.{letters_of}
 use Rattle.definitions.specs.Refusals.{accepted}
 use Rattle.definitions.specs.Answer.{Input, input}
@@ -23,8 +22,9 @@ use Rattle.spelling.proofs.Places.{starts-length}
 use Rattle.chain_order.proofs.Laws.{letters-of}
 use Rattle.parts.specs.declared.Sizes.{Sizes}
 use Rattle.parts.specs.Answers.{sizes_of, SizedParts, Accepted}
-use Rattle.parts.proofs.Laws.{lengths-part, letters-part, few-lengths, lengths-long, letters-long, names-told, tokens-told}
+use Rattle.parts.proofs.Laws.{lengths-long, letters-long, names-told, tokens-told}
 use Rattle.grammar.specs.declared.source.Source.{Source}
+use Rattle.shapes.specs.Shape.{Bytes}
 use Rattle.sheet.specs.Answers.{Stands}
 use Rattle.questions.specs.Asked.{TokensRead}
 use Rattle.query.specs.Standing.{Standing}
@@ -62,36 +62,41 @@ module _ (b : List ℕ) (s : Sizes) (a : Accepted b × (s ≡ sizes_of b)) where
   pub few-parts : (s.tokens ≤ 4096) × (s.names ≤ 1024)
   few-parts = (omega (arith, tokens-told b s sized, sized.many), omega (arith, names-told b s sized, sized.names))
 
-  pub few : length (take (12 + s.names - 12) (drop 12 b)) ≤ 1024
-  few = few-lengths b s sized
+  few : length (lengths b) ≤ 1024
+  few = omega (arith, lengths-long b s sized, sized.names)
 
-  pub summed : sum (take (12 + s.names - 12) (drop 12 b)) ≤ 16384
-  summed = omega (arith, ap sum (lengths-part b s sized), a.0.summed, sized.letters)
+  -- the letters are as many as the lengths say
+  all-letters : sum (lengths b) ≡ length (letters b)
+  all-letters = omega (arith, a.0.summed, letters-long b s sized)
+
+  few-letters : length (letters b) ≤ 16384
+  few-letters = omega (arith, letters-long b s sized, sized.letters)
+
+  -- the lengths and letters that are lent
+  pub names-fit : (ls ts : List ℕ) → ls ≡ lengths b → ts ≡ letters b → (sum ls ≡ length ts) × (length ls ≤ 1024) × (length ts ≤ 16384)
+  names-fit ls ts e f = rw (e, f) (all-letters, few, few-letters)
+
+  pub lengths-fit : (ls : List ℕ) → ls ≡ lengths b → (length ls ≤ 1024) × (sum ls ≤ 16384)
+  lengths-fit ls e = rw e (few, omega (arith, all-letters, few-letters))
 
   -- the starts of the names
-  pub starts-stand : (starts : List ℕ) → starts ≡ over_at 0 (starts_from 0 (take (12 + s.names - 12) (drop 12 b))) (replicate 1025 0) → letters_at starts (letters b) ≡ letters_of (cut (lengths b) (letters b))
-  starts-stand starts e =
-      let f : starts ≡ over_at 0 (starts_from 0 (lengths b)) (replicate 1025 0) = e ∙ ap (λ (l : List ℕ). over_at 0 (starts_from 0 l) (replicate 1025 0)) (lengths-part b s sized) in
+  pub starts-stand : (ls starts : List ℕ) → ls ≡ lengths b → starts ≡ over_at 0 (starts_from 0 ls) (replicate 1025 0) → letters_at starts (letters b) ≡ letters_of (cut (lengths b) (letters b))
+  starts-stand ls starts h e =
+      let f : starts ≡ over_at 0 (starts_from 0 (lengths b)) (replicate 1025 0) = e ∙ ap (λ (l : List ℕ). over_at 0 (starts_from 0 l) (replicate 1025 0)) h in
       let m : length (starts_from 0 (lengths b)) ≤ 1025 = omega (arith, starts-length 0 (lengths b), lengths-long b s sized, sized.names) in
       same-letters (letters b) (starts_from 0 (lengths b)) starts 1025 m f ∙ letters-of (lengths b) (letters b) (omega (arith, a.0.summed, letters-long b s sized))
 
-  -- the letters are as many as the lengths say
-  pub all-letters : sum (take (12 + s.names - 12) (drop 12 b)) ≡ length (take (12 + s.names + s.letters - (12 + s.names)) (drop (12 + s.names) b))
-  all-letters = ap sum (lengths-part b s sized) ∙ (a.0.summed ∙ (sym (letters-long b s sized) ∙ sym (ap length (letters-part b s sized))))
-
-  pub few-letters : length (take (12 + s.names + s.letters - (12 + s.names)) (drop (12 + s.names) b)) ≤ 16384
-  few-letters = omega (arith, ap length (letters-part b s sized), letters-long b s sized, sized.letters)
-
   -- the tokens at the front of the working arrays are the sheet's
   pub tokens-read : (ts vs : List ℕ) (source : Source) → source.tags.now ≡ take s.tokens ts → source.values.now ≡ take s.tokens vs → source.names ≡ s.names →
-      (i : Input) → input b ≡ accepted i → Stands b ts vs i → TokensRead b source i
-  tokens-read ts vs source et ev en i h z =
+      Bytes b → (i : Input) → input b ≡ accepted i → Stands b ts vs i → TokensRead b source i
+  tokens-read ts vs source et ev en below i h z =
       let t = tokens-told b s sized in
       let n = en ∙ names-told b s sized in
       let f = et ∙ ap (λ (k : ℕ). take k ts) t in
       let g = ev ∙ ap (λ (k : ℕ). take k vs) t in
       let m : length source.tags.now ≡ T b = ap length f ∙ z.tags-count in
       record {
+        are-bytes = below;
         reading = h;
         names = z.names;
         count = n;
@@ -101,17 +106,15 @@ module _ (b : List ℕ) (s : Sizes) (a : Accepted b × (s ≡ sizes_of b)) where
 
   -- the sheet stands in the tables
   module _ (source : Source) (i : Input) (z : TokensRead b source i) where
-    -- the lengths cut the letters into the names
-    pub cut-names : i.names ≡ cut (take (12 + s.names - 12) (drop 12 b)) (take (12 + s.names + s.letters - (12 + s.names)) (drop (12 + s.names) b))
-    cut-names = z.names ∙ rw (lengths-part b s sized, letters-part b s sized)
+    -- the lengths that are lent cut the letters that are lent into the names
+    pub cut-names : (ls ts : List ℕ) → ls ≡ lengths b → ts ≡ letters b → i.names ≡ cut ls ts
+    cut-names ls ts e f = rw (e, f) z.names
 
-    pub standing : (names : Spelling) → letters_at names.starts.now (letters b) ≡ letters_of (cut (lengths b) (letters b))
-        → names.letters.now ≡ take (12 + s.names + s.letters - (12 + s.names)) (drop (12 + s.names) b) → Standing names source i
+    pub standing : (names : Spelling) → letters_at names.starts.now (letters b) ≡ letters_of (cut (lengths b) (letters b)) → names.letters.now ≡ letters b → Standing names source i
     standing names e f =
-        let p = f ∙ letters-part b s sized in
         record {
-          named = ap (letters_at names.starts.now) p ∙ (e ∙ ap letters_of (sym z.names));
-          few-letters = omega (arith, ap length p, letters-long b s sized, sized.letters);
+          named = ap (letters_at names.starts.now) f ∙ (e ∙ ap letters_of (sym z.names));
+          few-letters = omega (arith, ap length f, letters-long b s sized, sized.letters);
           few-names = omega (arith, z.count, sized.names);
           few-tokens = z.few;
           tree = z.tree;

@@ -6,6 +6,7 @@ use Rattle.definitions.specs.Bytes.{M, lengths, letters, cut}
 use Rattle.definitions.specs.Reading.{got}
 use Rattle.definitions.specs.Grammar.{sheet}
 use Rattle.definitions.specs.Refusals.{accepted, down, told}
+use Rattle.shapes.specs.Shape.{Bytes}
 use Rattle.grammar.specs.Read.{tokens_of}
 use Rattle.definitions.specs.Answer.{Input, input}
 use Rattle.grammar.specs.declared.source.Source.{Source}
@@ -51,6 +52,7 @@ pub record Enough (M many clocks findings chains tokens : ℕ) : Type 0 where
 
 -- these are the tokens of the sheet i, which these bytes say
 pub record TokensRead (bytes : List ℕ) (source : Source) (i : Input) : Type 0 where
+  pub are-bytes : Bytes bytes
   pub reading : input bytes ≡ accepted i
   pub names : i.names ≡ cut (lengths bytes) (letters bytes)
   pub count : source.names ≡ M bytes

@@ -3,16 +3,16 @@
 // copied. Each question has an entry point. What is answered and written is said for all inputs.
 #![tactic(auto)]
 
-ghost use Rattle.std.specs.Prelude.{◌≡◌, ◌⊎◌, List, false, ℕ, ◌≤◌, ◌<◌, length, take, Ok};
+ghost use Rattle.std.specs.Prelude.{◌≡◌, ◌⊎◌, List, false, ℕ, ◌≤◌, ◌<◌, length, take, Ok, IfOk, IfErr};
 ghost use Rattle.definitions.specs.declared.FaultRecord.{FaultRecord};
 ghost use Rattle.definitions.specs.Lists.{any};
 ghost use Rattle.definitions.specs.Bytes.{lengths, letters, cut};
 ghost use Rattle.definitions.specs.InferClocks.{uses_clocks};
 ghost use Rattle.definitions.specs.Output.{letters_of};
-ghost use Rattle.definitions.specs.Refusals.{accepted};
+ghost use Rattle.definitions.specs.Refusals.{accepted, told, down};
 ghost use Rattle.definitions.specs.Answer.{Input, input, rewrite_answer, clocks_answer, listing_answer, listings_answer, text_answer, fault_lines_answer};
 ghost use Rattle.spelling.specs.Places.{letters_at};
-ghost use Rattle.parts.specs.Answers.{Accepted, sizes_of};
+ghost use Rattle.shapes.specs.Shape.{Bytes};
 ghost use Rattle.runs.specs.Demand.{DemandThreeAt};
 ghost use Rattle.listings.specs.Answers.{clocks_of, ClocksGiven, ListingGiven};
 ghost use Rattle.query.specs.Standing.{Standing};
@@ -25,15 +25,16 @@ use definitions::{
     SMALL_CLOCK_TABLE, SMALL_FINDING_TABLE, SMALL_TOKENS,
 };
 use grammar::Source;
-use parts::Sizes;
+use parts::{AcceptedSheet, TokenArrays};
 use query::NodeCounts;
-use spelling::{SheetNames, Spelling};
+use spelling::{NamedSource, SheetNames, Spelling};
 use workspace::Working;
 
 // A small sheet has at most so many names.
 const SMALL_NAMES: u32 = SMALL_TOKENS as u32;
 
 // A question's answer, with working tables of so many words: those of names' clocks, findings, equations' clocks and tokens' order.
+// Stays (no plainer): names beside source, here and below: a struct of both is taken apart at once, to an `Index` or a `NamedSource`.
 fn answer_with<
     const CLOCKS: usize,
     const FINDINGS: usize,
@@ -83,42 +84,53 @@ fn answer_standing<
 }
 
 // Where the letters of an accepted sheet's names start.
-fn starts_of(sheet: &[u8], sizes: Sizes) -> [u32; MOST_NAMES + 1]
-    requires { Accepted sheet.now × (sizes ≡ sizes_of sheet.now) }
-    ensures { letters_at result (letters sheet.now) ≡ letters_of (cut (lengths sheet.now) (letters sheet.now)) }
+fn starts_of(sheet: AcceptedSheet<'_>) -> [u32; MOST_NAMES + 1]
+    ensures { letters_at result (letters sheet.entry.bytes.now) ≡ letters_of (cut (lengths sheet.entry.bytes.now) (letters sheet.entry.bytes.now)) }
 {
-    let from = 12 + sizes.names;
     let mut starts = [0u32; MOST_NAMES + 1];
-    spelling::fill_starts(&sheet[12..from], &mut starts);
+    spelling::fill_starts(sheet.lengths(), &mut starts);
     starts
 }
 
-// A question's answer, of an accepted sheet whose tokens stand at the front of the working arrays.
+// A sheet that is read, and its tokens.
+#[derive(Clone, Copy)]
+struct ReadSheet<'a> {
+    sheet: AcceptedSheet<'a>,
+    source: Source<'a>,
+}
+
+// Reads a sheet's bytes: its tokens stand at the front of the working arrays; or refusals 1 to 7.
+fn read_sheet<'a>(bytes: &'a [u8], tokens: &'a mut TokenArrays) -> Result<ReadSheet<'a>, Refusal>
+    ensures refused { IfErr result (λ r. told (input bytes.now) ≡ down r) }
+    ensures read { IfOk result (λ read. (read.sheet.bytes.now ≡ bytes.now) × (i : Input) × TokensRead bytes.now read.source i) }
+{
+    let sizes = sheet::read(bytes, tokens)?;
+    let source = sheet::source_of(tokens, sizes);
+    let sheet = AcceptedSheet { bytes, sizes };
+    Ok(ReadSheet { sheet, source })
+}
+
+// A question's answer, of a sheet that is read.
 fn answer_read<T, F: FnMut(SheetNames<'_>, &Source<'_>, &mut Working<'_>) -> Result<T, Refusal>>(
-    sheet: &[u8],
-    sizes: Sizes,
-    source: &Source<'_>,
+    read: ReadSheet<'_>,
     answer: &mut F,
 ) -> Result<T, Refusal>
-    requires callable { (n : _) (s : _) (w : _) → F.pre answer.old n s w }
-    requires accepted { Accepted sheet.now × (sizes ≡ sizes_of sheet.now) }
-    ensures { (i : Input) → TokensRead sheet.now source.now i → CalledOn (λ f n s w r v g. F.step f n s w r v g) answer.old answer.new sheet.now i result }
+    requires { (n : _) (s : _) (w : _) → F.pre answer.old n s w }
+    ensures { (i : Input) → TokensRead read.entry.sheet.bytes.now read.entry.source i → CalledOn (λ f n s w r v g. F.step f n s w r v g) answer.old answer.new read.entry.sheet.bytes.now i result }
 {
-    let from = 12 + sizes.names;
-    let to = from + sizes.letters;
-    let starts = starts_of(sheet, sizes);
+    let ReadSheet { sheet, source } = read;
+    let starts = starts_of(sheet);
     let names = SheetNames {
-        lengths: &sheet[12..from],
+        lengths: sheet.lengths(),
         spelling: Spelling {
             starts: &starts,
-            letters: &sheet[from..to],
+            letters: sheet.letters(),
         },
     };
-    answer_standing(names, source, answer)
+    answer_standing(names, &source, answer)
 }
 
 // Asks a question of a sheet: what answers it is called with the sheet's names and tokens, and with working tables.
-// Stays (no plainer): one reading for `rewrite` too would take a closure of sizes and tokens, for four lines that stand twice.
 fn ask<T, F: FnMut(SheetNames<'_>, &Source<'_>, &mut Working<'_>) -> Result<T, Refusal>>(
     sheet: &[u8],
     answer: &mut F,
@@ -126,16 +138,27 @@ fn ask<T, F: FnMut(SheetNames<'_>, &Source<'_>, &mut Working<'_>) -> Result<T, R
     requires { (n : _) (s : _) (w : _) → F.pre answer.old n s w }
     ensures { NotCalled answer.old answer.new sheet.now result ⊎ Called (λ f n s w r v g. F.step f n s w r v g) answer.old answer.new sheet.now result }
 {
-    let mut tags = [0u8; MOST_TOKENS];
-    let mut values = [0u32; MOST_TOKENS];
-    let sizes = sheet::read(sheet, &mut tags, &mut values)?;
-    let source = sheet::source_of(&tags, &values, sizes);
-    answer_read(sheet, sizes, &source, answer)
+    let mut tokens = TokenArrays {
+        tags: [0; MOST_TOKENS],
+        values: [0; MOST_TOKENS],
+    };
+    let read = read_sheet(sheet, &mut tokens)?;
+    answer_read(read, answer)
+}
+
+// A sheet's tokens with the letters of its names.
+fn named<'a>(names: SheetNames<'a>, source: &Source<'a>) -> NamedSource<'a>
+    ensures { (result.spelling ≡ names.entry.spelling) × (result.source ≡ source.now) }
+{
+    NamedSource {
+        spelling: names.spelling,
+        source: *source,
+    }
 }
 
 // The sheet on one base tick, of a sheet none of whose nodes uses clocks: itself.
 fn as_it_came(sheet: &[u8], out: &mut [u8]) -> Result<usize, Refusal>
-    ensures { (i : Input) (faults : List FaultRecord) → input sheet.now ≡ accepted i → any uses_clocks i.sheet.nodes ≡ false → RewriteGiven (rewrite_answer sheet.now (length out.old)) out.old faults out.new faults result }
+    ensures { (i : Input) (faults : List FaultRecord) → Bytes sheet.now → input sheet.now ≡ accepted i → any uses_clocks i.sheet.nodes ≡ false → RewriteGiven (rewrite_answer sheet.now (length out.old)) out.old faults out.new faults result }
 {
     parts::write_bytes(sheet, out)
 }
@@ -147,17 +170,16 @@ pub fn rewrite(sheet: &[u8], out: &mut [u8], faults: &mut [FaultRecord]) -> Resu
     ensures rewrite_given { RewriteGiven (rewrite_answer sheet.now (length out.old)) out.old faults.old out.new faults.new result }
     ensures demand_three { (n : ℕ) → result ≡ Ok n → DemandThreeAt sheet.now (take n out.new) }
 {
-    let mut tags = [0u8; MOST_TOKENS];
-    let mut values = [0u32; MOST_TOKENS];
-    let sizes = sheet::read(sheet, &mut tags, &mut values)?;
-    let source = sheet::source_of(&tags, &values, sizes);
-    if !sheet::uses_clocks(&source) {
+    let mut tokens = TokenArrays {
+        tags: [0; MOST_TOKENS],
+        values: [0; MOST_TOKENS],
+    };
+    let read = read_sheet(sheet, &mut tokens)?;
+    if !sheet::uses_clocks(&read.source) {
         return as_it_came(sheet, out);
     }
     answer_read(
-        sheet,
-        sizes,
-        &source,
+        read,
         &mut |names: SheetNames<'_>, source: &Source<'_>, working: &mut Working<'_>|
             ensures { (bytes : List ℕ) (i : Input) → Read names.entry.lengths.now names.entry.spelling source.now bytes i → RoomToPlan source.now.names (length source.now.tags.now) working.old → RewriteGiven (rewrite_answer bytes (length out.entry.now)) out.entry.now faults.entry.now out.exit.now faults.exit.now result }
         { declock_project::rewrite_in(names, source, working, out, faults) },
@@ -181,8 +203,7 @@ pub fn clocks(
             ensures { (i : Input) → Standing names.entry.spelling source.now i → RoomToList source.now.names (length source.now.tags.now) working.old → ClocksGiven node (clocks_of i node) equations.entry.now chains.entry.now faults.entry.now equations.exit.now chains.exit.now faults.exit.now result }
         {
             listings::clocks_in(
-                names.spelling,
-                source,
+                named(names, source),
                 node,
                 working,
                 equations,
@@ -200,7 +221,7 @@ pub fn listing(sheet: &[u8], node: usize, out: &mut [u8]) -> Result<usize, Refus
     ask(
         sheet,
         &mut |names, source, working| {
-            listings::listing_in(out, names.spelling, source, node, working)
+            listings::listing_in(out, named(names, source), node, working)
         },
     )
 }
@@ -211,9 +232,7 @@ pub fn listings(sheet: &[u8], out: &mut [u8]) -> Result<usize, Refusal>
 {
     ask(
         sheet,
-        &mut |names, source, working| {
-            listings::listings_in(out, names.spelling, source, working)
-        },
+        &mut |names, source, working| { listings::listings_in(out, named(names, source), working) },
     )
 }
 

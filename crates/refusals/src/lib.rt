@@ -11,6 +11,7 @@ use definitions::Refusal;
 use spelling::TextWriter;
 
 // A refusal's number.
+// Stays (no plainer): `number`, `place` and `faulty_nodes` are three numbers of one refusal, which no `From` tells apart.
 pub fn number(r: Refusal) -> u32
     ensures { result ≡ number r }
 {

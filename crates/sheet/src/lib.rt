@@ -13,9 +13,9 @@ ghost use Rattle.definitions.specs.InferClocks.{uses_clocks};
 ghost use Rattle.sheet.specs.Answers.{tokens_answer, checked_told, SheetRead};
 
 use cycles::TypeTable;
-use definitions::{MOST_TOKENS, Refusal};
+use definitions::Refusal;
 use grammar::Source;
-use parts::Sizes;
+use parts::{Sizes, TokenArrays};
 
 // Refusal 7, of a sheet that 5 and 6 do not refuse.
 fn check_types(source: &Source<'_>) -> Result<(), Refusal>
@@ -41,33 +41,25 @@ fn check_tokens(source: &Source<'_>) -> Result<(), Refusal>
 }
 
 // The tokens of a sheet of these sizes, which stand at the front of the working arrays.
-pub fn source_of<'a>(
-    tags: &'a [u8; MOST_TOKENS],
-    values: &'a [u32; MOST_TOKENS],
-    sizes: Sizes,
-) -> Source<'a>
+pub fn source_of(tokens: &TokenArrays, sizes: Sizes) -> Source<'_>
     requires { (sizes.tokens ≤ 4096) × (sizes.names ≤ 1024) }
-    ensures tags { result.tags.now ≡ take sizes.tokens tags.now }
-    ensures values { result.values.now ≡ take sizes.tokens values.now }
+    ensures tags { result.tags.now ≡ take sizes.tokens tokens.now.tags }
+    ensures values { result.values.now ≡ take sizes.tokens tokens.now.values }
     ensures names { result.names ≡ sizes.names }
 {
     Source {
-        tags: &tags[..sizes.tokens],
-        values: &values[..sizes.tokens],
+        tags: &tokens.tags[..sizes.tokens],
+        values: &tokens.values[..sizes.tokens],
         names: sizes.names as u32,
     }
 }
 
 // A sheet is read: what it is refused for, or its sizes, and its tokens stand at the front of the working arrays.
-pub fn read(
-    sheet: &[u8],
-    tags: &mut [u8; MOST_TOKENS],
-    values: &mut [u32; MOST_TOKENS],
-) -> Result<Sizes, Refusal>
-    ensures { SheetRead sheet.now tags.old values.old tags.new values.new result }
+pub fn read(sheet: &[u8], into: &mut TokenArrays) -> Result<Sizes, Refusal>
+    ensures { SheetRead sheet.now into.old.tags into.old.values into.new.tags into.new.values result }
 {
-    let sizes = parts::read_parts(sheet, tags, values)?;
-    check_tokens(&source_of(tags, values, sizes))?;
+    let sizes = parts::read_parts(sheet, into)?;
+    check_tokens(&source_of(into, sizes))?;
     Ok(sizes)
 }
 
@@ -75,10 +67,5 @@ pub fn read(
 pub fn uses_clocks(source: &Source<'_>) -> bool
     ensures { (s : Sheet) (q : ℕ) → sheet source.now.names (tokens_of source.now) 0 ≡ got s q → result ≡ any uses_clocks s.nodes }
 {
-    for node in layout::nodes(source, layout::sheet_at(source).nodes) {
-        if node.uses_clocks(source) {
-            return true;
-        }
-    }
-    false
+    layout::nodes(source, layout::sheet_at(source).nodes).any(|node| node.uses_clocks(source))
 }

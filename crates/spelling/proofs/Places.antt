@@ -4,12 +4,11 @@ use mathlib.Core.Path.{◌≡◌, refl, sym, ap, ◌∙◌}
 use mathlib.Core.Bool.{Bool, true, false, ◌&&◌}
 use mathlib.Core.List.{List, [], ◌∷◌, map}
 use mathlib.Core.Logic.{inl, inr}
-use native.Mathlib.Nat.{add-zero}
 use native.Mathlib.Numerals.{add-one}
 use native.Mathlib.Omega.{arith}
 use lib.Dec.{eqb, leb, ltb}
-use lib.ListN.{length, get_or, take, drop, set, drop_of_length-le, get_or-eq_default}
-use lib.Seq.{drop-cons, drop-drop, take-suc, take_all, length-take-le}
+use lib.ListN.{length, get_or, take, drop, set, get_or-eq_default}
+use lib.Seq.{drop-drop, take-suc, take_all, length-take-le}
 use borrow.Author.Tests.{le-leb, lt-leb, leb-true, leb-false, ltb-true, ltb-false}
 use Rattle.std.specs.Borrow.{Bor}
 use Rattle.std.specs.Option.{unwrap_or}
@@ -18,8 +17,9 @@ use Rattle.std.specs.Slice.{IsGetRangeResult}
 use Rattle.std.proofs.Common.{nat_eq}
 use Rattle.std.specs.Cmp.Lexicographic.{pointwise}
 use Rattle.std.specs.List.{list_any}
-use Rattle.definitions.specs.Lists.{choose, any, place_by, sum, Letters, same_letters}
+use Rattle.definitions.specs.Lists.{choose, any, sum, Letters, same_letters}
 use Rattle.definitions.specs.Bytes.{cut}
+use Rattle.parts.proofs.Cuts.{cut-count}
 use Rattle.spelling.specs.Writing.{over_at}
 use Rattle.spelling.proofs.Writing.{over_nothing, over-then, over-set}
 use Rattle.parts.specs.Places.{start, name_at}
@@ -112,14 +112,7 @@ unfolding name_at
 name-tail n ns letters i = ap (λ l. take (get_or ns i 0) l) (drop-drop (start ns i) n letters ∙ ap (λ k. drop k letters) (sym (start-cons n ns i)))
 
 pub cut-length : (lens letters : List ℕ) → length (cut lens letters) ≡ length lens
-unfolding cut
-cut-length [] ls = refl
-cut-length (n ∷ ns) ls = ap suc (cut-length ns (drop n ls))
-
-pub cut_at : (lens letters : List ℕ) (i : ℕ) → i < length lens
-    → cut (drop i lens) (drop (start lens i) letters) ≡ name_at lens letters i ∷ cut (drop (i + 1) lens) (drop (start lens (i + 1)) letters)
-unfolding cut name_at
-cut_at lens letters i h = rw (start-next lens letters i, add-one i, drop-cons lens i 0 h, drop-drop (get_or lens i 0) (start lens i) letters)
+cut-length = cut-count
 
 -- name i, by the lengths
 pub cut-name : (lens letters : List ℕ) (i : ℕ) → i < length lens → get_or (cut lens letters) i [] ≡ name_at lens letters i
@@ -161,31 +154,3 @@ same-pointwise (a ∷ x) (b ∷ y) = go (eqb a b) (same-pointwise x y)
 pub among-any : (x : Letters) (f : ℕ → Letters) (ids : List ℕ) → list_any (λ i. pointwise nat_eq x (f i)) ids ≡ any (same_letters x) (map f ids)
 among-any x f [] = refl
 among-any x f (i ∷ ids) = rw (same-pointwise x (f i), among-any x f ids) refl
-
--- a name looked for among those cut out of letters, of which the first i are passed
-module _ (lens letters : List ℕ) (x : Letters) where
-  -- the place of the name among those from i on, whose letters are the rest
-  abbrev pub place_from : ℕ → List ℕ → ℕ
-  place_from i rest = i + place_by (same_letters x) (cut (drop i lens) rest)
-
-  module _ (i : ℕ) (rest : List ℕ) where
-    first-cut : i < length lens → cut (drop i lens) rest ≡ take (get_or lens i 0) rest ∷ cut (drop (i + 1) lens) (drop (get_or lens i 0) rest)
-    unfolding cut
-    first-cut h = rw (add-one i, drop-cons lens i 0 h) refl
-
-    pub sum-next : i < length lens → sum (drop i lens) ≡ get_or lens i 0 + sum (drop (i + 1) lens)
-    sum-next h = rw (add-one i, drop-cons lens i 0 h) refl
-
-    pub place-here : {r : Bool} → i < length lens → r ≡ pointwise nat_eq x (take (get_or lens i 0) rest) → r ≡ true → place_from i rest ≡ i
-    place-here h e f =
-        let t : same_letters x (take (get_or lens i 0) rest) ≡ true = sym (same-pointwise x (take (get_or lens i 0) rest)) ∙ sym e ∙ f in
-        rw (first-cut h, t) (add-zero i)
-
-    pub place-next : {r : Bool} → i < length lens → r ≡ pointwise nat_eq x (take (get_or lens i 0) rest) → r ≡ false → place_from i rest ≡ place_from (i + 1) (drop (get_or lens i 0) rest)
-    place-next h e f =
-        let t : same_letters x (take (get_or lens i 0) rest) ≡ false = sym (same-pointwise x (take (get_or lens i 0) rest)) ∙ sym e ∙ f in
-        rw (first-cut h, t) (omega arith)
-
-    pub place-end : length lens ≤ i → place_from i rest ≡ i
-    unfolding cut
-    place-end h = rw (drop_of_length-le lens h) (add-zero i)

@@ -2,26 +2,29 @@
 use Prim.Native.Nat.{ℕ, suc, ◌+◌, ◌-◌, ◌≤◌, ◌<◌}
 use mathlib.Core.Path.{◌≡◌, refl, sym, ap, ◌∙◌}
 use mathlib.Core.Bool.{Bool, true, false, false≢true, ◌&&◌, ◌||◌, not}
-use mathlib.Core.List.{List, [], ◌∷◌, ◌++◌, map}
+use mathlib.Core.List.{List, [], ◌∷◌, ◌++◌}
 use mathlib.Core.Logic.{◌⊎◌, inl, inr}
 use native.Mathlib.Nat.{zero-add}
 use native.Mathlib.Numerals.{add-one}
 use native.Mathlib.Omega.{arith}
 use lib.Dec.{leb}
 use Rattle.std.specs.Prelude.{Option, Some, None, is_some, IfSome}
+use Rattle.std.specs.Cmp.Lexicographic.{pointwise}
+use Rattle.std.proofs.Common.{nat_eq}
 use Rattle.std.specs.Option.{unwrap_or}
-use lib.ListN.{length, take, drop, set, length-append, length-drop, take-append-drop}
+use lib.ListN.{length, take, drop, set, length-append, length-drop}
 use lib.Seq.{take-length, take-suc-set, length-take-le, take-append-le, drop-append-le}
 use borrow.Author.Tests.{le-leb, leb-true}
 use Rattle.definitions.specs.Lists.{choose, any, place_by, sum, join, bytes, Letters, same_letters}
 use Rattle.definitions.specs.Bytes.{cut}
 use Rattle.definitions.specs.Tree.{Sheet}
 use Rattle.definitions.specs.Output.{id_of, condact_id, add_name, add_names, within_limits, sheet_tokens, most_tokens_out}
+use Rattle.parts.proofs.Cuts.{cut-join}
 use Rattle.spelling.specs.Table.{names_of, within, NamesHeld}
 use Rattle.spelling.specs.declared.name_table.NameTable.{NameTable}
 use Rattle.spelling.specs.Writing.{over_at}
 use Rattle.spelling.proofs.Writing.{over-take}
-use Rattle.spelling.proofs.Places.{cut-length}
+use Rattle.spelling.proofs.Places.{cut-length, same-pointwise}
 
 -- ---- lists
 sum-append : (a b : List ℕ) → sum (a ++ b) ≡ sum a + sum b
@@ -58,6 +61,14 @@ id-most (m ∷ names) n = go (same_letters n m) (id-most names n)
     go true h = omega arith
     go false h = omega arith
 
+-- a name looked for among those that are left: the first is it, or is not
+module _ (n m : Letters) {l left : List Letters} {r : Bool} (s : left ≡ m ∷ l) (e : r ≡ pointwise nat_eq n m) where
+  pub id-first : r ≡ true → id_of left n ≡ 0
+  id-first f = let t : same_letters n m ≡ true = sym (same-pointwise n m) ∙ sym e ∙ f in rw (s, t) refl
+
+  pub id-later : r ≡ false → id_of left n ≡ suc (id_of l n)
+  id-later f = let t : same_letters n m ≡ false = sym (same-pointwise n m) ∙ sym e ∙ f in rw (s, t) refl
+
 -- that of `condact` among names cut out of letters
 pub condact-few : (lens letters : List ℕ) (x : ℕ) → x ≡ condact_id (cut lens letters) → length lens ≤ 1024 → x ≤ 1024
 condact-few lens letters x e h = omega (arith, id-most (cut lens letters) (bytes "condact"), cut-length lens letters)
@@ -80,22 +91,6 @@ cut-last (n ∷ ns) letters name e =
     let h : n ≤ length letters = omega arith in
     let f : sum ns ≡ length (drop n letters) = omega (arith, length-drop n letters) in
     rw (take-append-le n letters name h, drop-append-le n letters name h) (ap (λ l. take n letters ∷ l) (cut-last ns (drop n letters) name f))
-
-cut-join : (lens letters : List ℕ) → sum lens ≡ length letters → join (cut lens letters) ≡ letters
-unfolding cut
-cut-join [] [] e = refl
-cut-join [] (b ∷ letters) e = absurd (omega arith)
-cut-join (n ∷ ns) letters e =
-    let f : sum ns ≡ length (drop n letters) = omega (arith, length-drop n letters) in
-    ap (λ l. take n letters ++ l) (cut-join ns (drop n letters) f) ∙ take-append-drop n letters
-
-cut-lengths : (lens letters : List ℕ) → sum lens ≡ length letters → map length (cut lens letters) ≡ lens
-unfolding cut
-cut-lengths [] letters e = refl
-cut-lengths (n ∷ ns) letters e =
-    let f : sum ns ≡ length (drop n letters) = omega (arith, length-drop n letters) in
-    let g : length (take n letters) ≡ n = length-take-le n letters (omega arith) in
-    rw g (ap (λ l. n ∷ l) (cut-lengths ns (drop n letters) f))
 
 -- ---- names that have no places
 within-not : (many long : ℕ) (names : List Letters) → (length names ≤ many → length (join names) ≤ long → ⊥) → within many long names ≡ false
@@ -223,10 +218,6 @@ module _ {many long : ℕ} where
 
   -- ---- what a table that is not full says of the names
   module _ {t : NameTable many long} {names : List Letters} (h : NamesHeld t names) (e : t.full ≡ false) where
-    pub holds-letters : join names ≡ take t.used t.letters
-    unfolding names_of
-    holds-letters = ap join (h.kept e) ∙ cut-join (take t.names t.lengths) (take t.used t.letters) (used t)
-
     pub holds-count : length names ≡ t.names
     holds-count = ap length (h.kept e) ∙ names-count t
 

@@ -74,14 +74,7 @@ module _ {A : Type 0} where
   over-then (suc p) a b [] = rw (suc-add p (length a))
   over-then (suc p) a b (y ∷ s) = rw (suc-add p (length a)) (ap (λ r. y ∷ r) (over-then p a b s))
 
-  -- what stands before, within and behind
-  pub over-before : (n p : ℕ) (l s : List A) → n ≤ p → take n (over_at p l s) ≡ take n s
-  unfolding over_at
-  over-before zero p l s h = refl
-  over-before (suc n) zero l s h = absurd (omega arith)
-  over-before (suc n) (suc p) l [] h = refl
-  over-before (suc n) (suc p) l (b ∷ s) h = ap (λ r. b ∷ r) (over-before n p l s (omega arith))
-
+  -- what stands within and behind
   pub over-within : (p : ℕ) (l s : List A) → p + length l ≤ length s → take (length l) (drop p (over_at p l s)) ≡ l
   unfolding over_at
   over-within zero [] s h = refl
@@ -146,10 +139,6 @@ module _ {A : Type 0} where
       go false f =
           let g : last_place < r = leb-false r last_place f in
           over-past q b s (omega arith) ∙ sym (over-past r b s (omega arith))
-
--- how long the bytes are stays
-pub put-length : {l : Letters} {p q : ℕ} {s s₁ : List ℕ} → Put l p s q s₁ → length s₁ ≡ length s
-put-length {l} {p} {q} {s} u = ap length u.bytes ∙ length_over p l s
 
 -- a text put at the front is the front, as far as the bytes reach
 pub put-over : {l : Letters} {q : ℕ} {s s₁ : List ℕ} → Put l 0 s q s₁ → s₁ ≡ over l s

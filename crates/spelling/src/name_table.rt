@@ -1,14 +1,14 @@
 // A table of names that grows.
-ghost use Rattle.std.specs.Prelude.{◌≡◌, ◌≤◌, ◌<◌, List, [], ◌∷◌, ◌++◌, length, take, IfSome};
-ghost use Rattle.std.specs.Option.{unwrap_or};
+ghost use Rattle.std.specs.Prelude.{◌≡◌, ◌≤◌, ◌<◌, List, [], ◌∷◌, ◌++◌, length, take};
 ghost use Rattle.definitions.specs.Lists.{sum, Letters};
 ghost use Rattle.definitions.specs.Bytes.{cut};
 ghost use Rattle.definitions.specs.Output.{id_of, add_name};
 ghost use Rattle.spelling.specs.Stems.{new_letters};
 
 use crate::text_writer::copy_at;
-use crate::{NewName, find_name, spell};
+use crate::{NewName, find_name, find_new, spell};
 use definitions::{MOST_LETTERS, MOST_NAMES, NAME_LETTERS};
+use parts::EachName;
 
 // A sheet's names with those that rewriting adds, of at most NAMES with LETTERS in all: each name's length, the letters of all, how many
 // of both are in use; full, where a name had no place.
@@ -47,25 +47,23 @@ impl<const NAMES: usize, const LETTERS: usize> NameTable<NAMES, LETTERS> {
         copy_at(&mut self.letters, 0, text);
     }
 
-    // The place of some letters among the names, if they are one of them.
+    // One name after another, of those in use.
     #[tactic(auto, unfolding(crate::specs::Table::names_of))]
-    fn find(&self, name: &[u8]) -> Option<usize>
-        ensures value { unwrap_or result self.now.names ≡ id_of (names_of self.now) name.now }
-        ensures in_bounds { IfSome result (λ i. i < self.now.names) }
+    fn each(&self) -> EachName<'_>
+        ensures value { cut result.lengths.now result.letters.now ≡ names_of self.now }
+        ensures count { length result.lengths.now ≡ self.now.names }
     {
-        find_name(
-            &self.lengths[..self.names],
-            &self.letters[..self.used],
-            name,
-        )
+        EachName {
+            lengths: &self.lengths[..self.names],
+            letters: &self.letters[..self.used],
+        }
     }
 
     // The id of a new name: the number of names, where it is none of them.
     pub fn find_new(&self, name: NewName) -> usize
         ensures { result ≡ id_of (names_of self.now) (new_letters name) }
     {
-        let mut buffer = [0u8; NAME_LETTERS];
-        self.find(spell(name, &mut buffer)).unwrap_or(self.names)
+        find_new(self.each(), name)
     }
 
     // A name that has no place yet is put behind the others, where there is room.
@@ -91,7 +89,7 @@ impl<const NAMES: usize, const LETTERS: usize> NameTable<NAMES, LETTERS> {
     {
         let mut buffer = [0u8; NAME_LETTERS];
         let letters = spell(name, &mut buffer);
-        if !self.full && self.find(letters).is_none() {
+        if !self.full && find_name(self.each(), letters).is_none() {
             self.add_last(letters);
         }
     }

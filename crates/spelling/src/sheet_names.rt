@@ -5,6 +5,7 @@ ghost use Rattle.definitions.specs.Bytes.{cut};
 ghost use Rattle.definitions.specs.Output.{condact_id};
 
 use crate::{NewName, Spelling, find_new};
+use parts::EachName;
 
 // Each name's length, and the letters of all, which are as many as the lengths say.
 #[derive(Clone, Copy)]
@@ -21,6 +22,10 @@ impl SheetNames<'_> {
     pub fn condact(&self) -> u32
         ensures { result ≡ condact_id (cut self.now.lengths.now self.now.spelling.letters.now) }
     {
-        find_new(self.lengths, self.spelling.letters, NewName::Condact) as u32
+        let names = EachName {
+            lengths: self.lengths,
+            letters: self.spelling.letters,
+        };
+        find_new(names, NewName::Condact) as u32
     }
 }

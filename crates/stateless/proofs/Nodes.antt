@@ -105,9 +105,6 @@ formed-after (formed x) f b e = (x, refl, e)
 pub same-clocking : (n : Node) (k l : Clocking) → clocking n ≡ formed k → clocking n ≡ formed l → k ≡ l
 same-clocking n k l e f = formed-eq k l (sym e ∙ f)
 
-pub not-too-deep : (n : Node) (k : Clocking) → clocking n ≡ formed k → clocking n ≡ deep → ⊥
-not-too-deep n k e f = not-deep k (sym f ∙ e)
-
 -- what `clocking` says when it forms
 pub record Checks (n : Node) (k : Clocking) : Type 0 where
   pub inference : inferred n ≡ formed (record { passes = k.passes; clocks = k.names })

@@ -3,7 +3,7 @@
 use Rattle.std.specs.Prelude.{Result, Ok, Err}
 use Prim.Native.Nat.{ℕ, suc, ◌+◌, ◌-◌, ◌≤◌, ◌<◌}
 use mathlib.Core.Path.{◌≡◌, refl, sym, ◌∙◌, ap, subst}
-use mathlib.Core.List.{List, [], ◌∷◌, ◌++◌, append-nil, append_assoc}
+use mathlib.Core.List.{List, [], ◌∷◌, ◌++◌, append_assoc}
 use mathlib.Core.Bool.{Bool, true, false}
 use mathlib.Core.Option.{Option, none, some}
 use native.Mathlib.Omega.{arith}
@@ -28,7 +28,7 @@ use Rattle.grammar.specs.Outcome.{told}
 use Rattle.grammar.proofs.Laws.{wrap-got, tokens-length}
 use Rattle.grammar.proofs.Got.{tagged-value}
 use Rattle.layout.proofs.TypedefsLaws.{type-not-refused, type-is-basic, type-is-named, type-is-array}
-use Rattle.layout.proofs.Walks.{first-laid, none-laid}
+use Rattle.layout.proofs.Walks.{first-laid}
 use Rattle.layout.specs.declared.DeclarationLayout.{DeclarationLayout}
 use Rattle.layout.specs.Walk.{LaidAll}
 use Rattle.operands.specs.declared.Gap.{Gap}
@@ -183,12 +183,6 @@ declaring-step M gs vs same all l ls t t₁ w word e room few h =
       whole = h.whole ∙ (ap (λ (ds : List Declared). h.done ++ ds) a.whole ∙ sym (append_assoc h.done (d ∷ []) a.rest));
     }
 
-pub declaring-end : (M : ℕ) (ts : List TagValue) (all : List Declared) (ls : List DeclarationLayout) (t : List ℕ) → ls ≡ [] → Declaring M ts all ls t → Declares M ts t all
-declaring-end M ts all ls t e h =
-    let n : h.rest ≡ [] = none-laid (rw e at h.laid) in
-    let i : all ≡ h.done = h.whole ∙ (ap (λ (ds : List Declared). h.done ++ ds) n ∙ append-nil h.done) in
-    rw i h.declares
-
 -- nothing is declared yet
 pub declares-start : (M : ℕ) (ts : List TagValue) (t : List ℕ) → ((x : ℕ) → x < M → get_or t x 0 ≡ 0) → Declares M ts t []
 unfolding last_type IsFound
@@ -309,12 +303,6 @@ ops-index e es i = rw i
 -- ---- an expression, by its role
 pub not_back : (at first second p : ℕ) → at < first → first < second → second ≤ p → p ≤ at → ⊥
 not_back at first second p h i j k = omega arith
-
-pub not-past : (p q : ℕ) → p < q → q ≤ p → ⊥
-not-past p q h k = omega arith
-
-pub not-before : (at first p : ℕ) → at < first → first ≤ p → p ≤ at → ⊥
-not-before at first p h i j = omega arith
 
 -- the roles that have no type
 record Untyped (ρ : Role) : Type 0 where

@@ -108,10 +108,10 @@ pub fn type_of(source: &Source<'_>, types: &[u32], at: usize) -> Option<TypeFoun
     ensures { (e : Expr) (q : ℕ) (ds : List Declared) → tree source.now.names (tokens_of source.now) at ≡ got e q → Declares source.now.names (tokens_of source.now) types.now ds → IsFound source.now.names (tokens_of source.now) (operand_type ds e) result }
 {
     let v = operands::view_at(source, at);
-    if v.operands.first <= at {
+    if v.operands.rest.next <= at {
         return None;
     }
-    let o = operands::first_operand(source, v.operands.gap, v.operands.first);
+    let o = operands::first_operand(source, v.operands.rest);
     if o.at <= at {
         return None;
     }
@@ -121,7 +121,7 @@ pub fn type_of(source: &Source<'_>, types: &[u32], at: usize) -> Option<TypeFoun
         Role::Sample(_) | Role::Previous => type_of(source, types, o.at),
         Role::Follow => {
             let a = type_of(source, types, o.at);
-            let p = operands::operand_at(source.tags, o.rest.gap, o.rest.next);
+            let p = o.rest.place(source.tags);
             if p <= at {
                 return None;
             }
@@ -159,10 +159,10 @@ pub fn called_after(index: &Index<'_>, c: Clock, at: usize) -> Option<u32>
     ensures { (e : Expr) (q : ℕ) (types : List TypeDef) (l : List Node) (node : Node) → tree index.now.source.names (tokens_of index.now.source) at ≡ got e q → NodesIn index.now l → result ≡ called_by (shape_after types l node index.now.condact (value_of c) e) }
 {
     let v = operands::view_at(&index.source, at);
-    if v.operands.first <= at {
+    if v.operands.rest.next <= at {
         return None;
     }
-    let place = operands::operand_at(index.source.tags, v.operands.gap, v.operands.first);
+    let place = v.operands.rest.place(index.source.tags);
     match v.role {
         Role::Sample(_) => {
             let up = c.parent();

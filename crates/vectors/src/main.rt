@@ -13,6 +13,7 @@ use clock_pass::TOLD_CLOCKS;
 use clock_tables::ClockList;
 use definitions::{CHAIN_TABLE, FaultRecord, MOST_NODES, MOST_TOKENS, Refusal};
 use lines::NamedText;
+use parts::TokenArrays;
 use query::NodeCounts;
 use spelling::{Spelling, TextWriter};
 use std::io;
@@ -33,6 +34,13 @@ struct Tally {
 struct NumberedPlace {
     number: usize,
     place: usize,
+}
+
+// A sheet that a line spells, and what stands behind it: the answer that is listed for it.
+#[derive(Clone, Copy)]
+struct ListedSheet<'a> {
+    sheet: &'a [u8],
+    answer: &'a [u8],
 }
 
 fn large() -> [u8; 524288]
@@ -177,40 +185,38 @@ fn is_refused_with(r: Refusal, faults: &[FaultRecord; MOST_NODES], answer: &[u8]
     })
 }
 
-// Is rewriting into the bytes lent answered so?
-fn is_rewritten(sheet: &[u8], out: &mut [u8], answer: &[u8]) -> bool {
-    let told = clock_pass::rewrite_told(sheet, out);
+// Is rewriting into the bytes lent answered as listed?
+fn is_rewritten(listed: ListedSheet<'_>, out: &mut [u8]) -> bool {
+    let told = clock_pass::rewrite_told(listed.sheet, out);
     match told.answer {
-        Ok(n) => is_written(arguments::front(out, n), answer),
-        Err(r) => is_refused_with(r, &told.list, answer),
+        Ok(n) => is_written(arguments::front(out, n), listed.answer),
+        Err(r) => is_refused_with(r, &told.list, listed.answer),
     }
 }
 
-// Is the text of a fault into the bytes lent answered so?
-fn is_told(sheet: &[u8], node: usize, fault: usize, out: &mut [u8], answer: &[u8]) -> bool {
-    match questions::text(sheet, node, fault, out) {
-        Ok(n) => is_written(arguments::front(out, n), answer),
-        Err(r) => is_refused(r, answer),
+// Is the text of a fault into the bytes lent answered as listed?
+fn is_told(listed: ListedSheet<'_>, node: usize, fault: usize, out: &mut [u8]) -> bool {
+    match questions::text(listed.sheet, node, fault, out) {
+        Ok(n) => is_written(arguments::front(out, n), listed.answer),
+        Err(r) => is_refused(r, listed.answer),
     }
 }
 
 // 65,536 bytes are enough for any rewritten sheet.
-fn rewrite_lent(sheet: &[u8], lent: usize, answer: &[u8]) -> bool {
+fn rewrite_lent(listed: ListedSheet<'_>, lent: usize) -> bool {
     let mut out = [0u8; 65536];
-    is_rewritten(sheet, &mut out[..lent.min(65536)], answer)
+    is_rewritten(listed, &mut out[..lent.min(65536)])
 }
 
 // They are enough for any text too.
-fn text_lent(sheet: &[u8], node: usize, fault: usize, lent: usize, answer: &[u8]) -> bool {
+fn text_lent(listed: ListedSheet<'_>, node: usize, fault: usize, lent: usize) -> bool {
     let mut out = [0u8; 65536];
-    is_told(sheet, node, fault, &mut out[..lent.min(65536)], answer)
+    is_told(listed, node, fault, &mut out[..lent.min(65536)])
 }
 
 // The byte at a place, 0 past the end.
-fn byte_at(bytes: &[u8], i: usize) -> u32
-    ensures { result < 256 }
-{
-    bytes.get(i).copied().unwrap_or(0) as u32
+fn byte_at(bytes: &[u8], i: usize) -> u8 {
+    bytes.get(i).copied().unwrap_or(0)
 }
 
 // Where each name's letters start: the lengths stand behind the sheet's three sizes.
@@ -220,16 +226,15 @@ fn starts_of(sheet: &[u8]) -> [u32; 1025] {
     let mut at: u32 = 0;
     for (i, start) in starts.iter_mut().enumerate() {
         *start = at;
-        at += byte_at(sheet, 12 + i);
+        at += u32::from(byte_at(sheet, 12 + i));
     }
     starts
 }
 
 // Where the letters start.
 fn letters_at(sheet: &[u8]) -> usize {
-    let low = byte_at(sheet, 0);
-    let high = byte_at(sheet, 1);
-    (12 + low + 256 * high) as usize
+    let names = u16::from_le_bytes([byte_at(sheet, 0), byte_at(sheet, 1)]);
+    12 + usize::from(names)
 }
 
 // What a node's clock question is answered: its counts, and the clocks in lent lists.
@@ -298,13 +303,12 @@ fn is_clocks(
     })
 }
 
-// Is this what a node's clocks are answered?
+// Are these a node's clocks as listed, and are they what its listing says?
 fn are_clocks(
-    sheet: &[u8],
+    listed: ListedSheet<'_>,
     node: usize,
     clocks: NodeClocks<'_>,
     faults: &[FaultRecord; TOLD_CLOCKS],
-    answer: &[u8],
 ) -> bool {
     let counts = clocks.counts;
     let mut listing = [0u8; 65536];
@@ -312,35 +316,35 @@ fn are_clocks(
         out: &mut listing,
         at: 0,
     };
-    put_sheet_listing(&mut writer, sheet, clocks);
+    put_sheet_listing(&mut writer, listed.sheet, clocks);
     let m = writer.at;
     let mut text = [0u8; 65536];
-    match questions::listing(sheet, node, &mut text) {
+    match questions::listing(listed.sheet, node, &mut text) {
         Err(_) => false,
         Ok(n) => {
             let listing = arguments::front(&listing, m);
             is_listing(arguments::front(&text, n), listing, counts.faults)
-                && is_clocks(listing, counts, faults, answer)
+                && is_clocks(listing, counts, faults, listed.answer)
         }
     }
 }
 
-// Is this what the listing is refused for?
-fn is_listing_refused(sheet: &[u8], node: usize, answer: &[u8]) -> bool {
+// Is a node's listing refused as listed?
+fn is_listing_refused(listed: ListedSheet<'_>, node: usize) -> bool {
     let mut text = [0u8; 65536];
-    match questions::listing(sheet, node, &mut text) {
-        Err(r) => is_refused(r, answer),
+    match questions::listing(listed.sheet, node, &mut text) {
+        Err(r) => is_refused(r, listed.answer),
         Ok(_) => false,
     }
 }
 
-// Is the node's clock question answered so, by clocks in lent lists and by the listing?
-fn is_clocked(sheet: &[u8], node: usize, answer: &[u8]) -> bool {
+// Is the node's clock question answered as listed, by clocks in lent lists and by the listing?
+fn is_clocked(listed: ListedSheet<'_>, node: usize) -> bool {
     let mut equations = [0u32; 1088];
     let mut chains = [0u32; CHAIN_TABLE];
-    let told = clock_pass::clocks_told(sheet, node, &mut equations, &mut chains);
+    let told = clock_pass::clocks_told(listed.sheet, node, &mut equations, &mut chains);
     match told.answer {
-        Err(r) => is_refused(r, answer) && is_listing_refused(sheet, node, answer),
+        Err(r) => is_refused(r, listed.answer) && is_listing_refused(listed, node),
         Ok(counts) => {
             let clocks = NodeClocks {
                 counts,
@@ -353,32 +357,29 @@ fn is_clocked(sheet: &[u8], node: usize, answer: &[u8]) -> bool {
                     count: counts.chains,
                 },
             };
-            are_clocks(sheet, node, clocks, &told.list, answer)
+            are_clocks(listed, node, clocks, &told.list)
         }
     }
 }
 
-// Does this hold of the sheet that the first field spells?
-fn holds_of_sheet<F: FnOnce(&[u8]) -> bool>(line: &[u8], check: F) -> bool
+// Does this hold of the sheet that the first field spells, and of the answer behind it?
+fn holds_of_sheet<F: FnOnce(ListedSheet<'_>) -> bool>(line: &[u8], check: F) -> bool
     requires { F.IsAlwaysCallable check }
 {
     let mut bytes = [0u8; 4096];
     let n = decode(field(line), &mut bytes);
-    check(arguments::front(&bytes, n))
+    check(ListedSheet {
+        sheet: arguments::front(&bytes, n),
+        answer: next(line),
+    })
 }
 
-// NODE SHEET ANSWER
-fn check_clocks(line: &[u8]) -> Option<bool> {
-    let node = number(line)?;
-    let rest = next(line);
-    Some(holds_of_sheet(rest, |sheet| is_clocked(sheet, node, next(rest))))
-}
-
-// LENT SHEET ANSWER
-fn check_rewrite(line: &[u8]) -> Option<bool> {
-    let lent = number(line)?;
-    let rest = next(line);
-    Some(holds_of_sheet(rest, |sheet| rewrite_lent(sheet, lent, next(rest))))
+// NUMBER SHEET ANSWER: the number is that of a node, or of how many bytes are lent.
+fn check_numbered<F: Fn(ListedSheet<'_>, usize) -> bool>(line: &[u8], check: F) -> Option<bool>
+    requires { F.IsAlwaysCallable check }
+{
+    let n = number(line)?;
+    Some(holds_of_sheet(next(line), |listed| check(listed, n)))
 }
 
 // NODE FAULT LENT SHEET ANSWER
@@ -388,18 +389,16 @@ fn check_text(line: &[u8]) -> Option<bool> {
     let fault = number(faults)?;
     let lents = next(faults);
     let lent = number(lents)?;
-    let rest = next(lents);
-    Some(holds_of_sheet(
-        rest,
-        |sheet| text_lent(sheet, node, fault, lent, next(rest)),
-    ))
+    Some(holds_of_sheet(next(lents), |listed| text_lent(listed, node, fault, lent)))
 }
 
 // What reading a sheet is refused for.
 fn reading(bytes: &[u8]) -> Option<NumberedPlace> {
-    let mut tags = [0u8; MOST_TOKENS];
-    let mut values = [0u32; MOST_TOKENS];
-    let refusal = sheet::read(bytes, &mut tags, &mut values).err()?;
+    let mut tokens = TokenArrays {
+        tags: [0; MOST_TOKENS],
+        values: [0; MOST_TOKENS],
+    };
+    let refusal = sheet::read(bytes, &mut tokens).err()?;
     Some(NumberedPlace {
         number: refusals::number(refusal) as usize,
         place: refusals::place(refusal),
@@ -439,7 +438,7 @@ fn check_reading(line: &[u8], refused: bool) -> Verdict {
     let rest = from_sheet(line);
     let want = listed(next(rest));
     if want.is_some() == refused {
-        return Some(holds_of_sheet(rest, |sheet| reading(sheet) == want));
+        return Some(holds_of_sheet(rest, |listed| reading(listed.sheet) == want));
     }
     None
 }
@@ -525,13 +524,13 @@ fn replay_all(output: &mut impl Write, list: &[u8]) -> io::Result<()> {
     report(
         output,
         list,
-        |line| check_asked(line, b"clocks", check_clocks),
+        |line| check_asked(line, b"clocks", |rest| check_numbered(rest, is_clocked)),
         "clock questions: ",
     )?;
     report(
         output,
         list,
-        |line| check_asked(line, b"rewrite", check_rewrite),
+        |line| check_asked(line, b"rewrite", |rest| check_numbered(rest, rewrite_lent)),
         "rewritings: ",
     )?;
     report(

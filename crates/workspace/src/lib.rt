@@ -4,7 +4,7 @@
 // Tables for the clocks of names, for what is found in equations, for chains and their order, and for the clocks of sites. Planning needs
 // sites alone: the clocks with a flag go into `table` then, those with a first-tick flag into `env`, the declared types of names stand in
 // the rows of chains, and what becomes of tokens in their order.
-// Stays (fixed memory): five slices: `questions` lends them from arrays on its stack, in two sizes, so no array type would fit both.
+// Stays (fixed memory): slices of arrays on the stack of `questions`, in two sizes: as arrays, each use had four const parameters.
 #[derive(Drop)]
 pub struct Working<'a> {
     pub env: &'a mut [u32],

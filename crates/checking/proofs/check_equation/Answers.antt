@@ -12,14 +12,14 @@ returns-clause-ends c = λ e q g.
     (c.check_expr.ensures.traversed e.right q p.1).end
 
 pub returns-clause-held : goal.returns-clause-held
-returns-clause-held c = λ node clocks e q fs a k g h.
+returns-clause-held c = λ node clocks e q fs r g h.
     let s = c.args.input.now.source in
     let p = left-laid s.names s.tags.now s.values.now s.same_length c.args.at _ c.names_at-left.ensures e q g in
     let same = c.names_in-names.ensures.read e.left _ p.0 in
     let below = name-below s.names s.tags.now s.values.now s.same_length _ _ _ e.left _ same p.0 in
-    let l = c.check_left.ensures.held node clocks fs a k below (rw c.put_site.ensures.same_findings h) in
+    let l = c.check_left.ensures.held node clocks fs r below (rw c.put_site.ensures.same_findings h) in
     let w = c.check_expr.ensures.traversed e.right q p.1 in
-    equation-whole node clocks c.args.input.now.equation (value_of c.args.on) e _ _ fs (w.holds clocks _ a (rw same at l))
+    equation-whole node clocks c.args.input.now.equation (value_of c.args.on) e _ _ fs (w.holds clocks _ r.agrees (rw same at l))
 
 pub returns-clause-stored : goal.returns-clause-stored
 returns-clause-stored c = λ e q g.

@@ -1,10 +1,7 @@
 -- The left names, one after another.
 use mathlib.Core.Path.{refl, ◌∙◌}
-use Rattle.checking.proofs.Left.{left-start, left_step, left-end}
+use Rattle.checking.proofs.Left.{left_step, left-end}
 use Rattle.checking.proofs.check_left.Goals as goal
-
-pub loop-x-init : goal.loop-x-init
-loop-x-init c = (refl, refl, left-start _ _ _ _ _ _ _ _)
 
 pub loop-x-preserved : goal.loop-x-preserved
 loop-x-preserved c =
@@ -15,4 +12,4 @@ loop-x-preserved c =
     )
 
 pub returns-clause-held : goal.returns-clause-held
-returns-clause-held c = left-end _ _ _ _ _ _ _ c.args.names.now _ _ c.loop-x.x-index c.loop-x.invariant.2 c.loop-x-test.false
+returns-clause-held c = λ node clocks fs r. left-end _ _ _ _ _ _ _ c.args.names.now _ _ c.loop-x.x-index c.loop-x.invariant.2 c.loop-x-test.false node clocks fs r.agrees r.ports

@@ -1,10 +1,6 @@
-use mathlib.Core.Path.{sym, ap, ◌∙◌}
-use mathlib.Core.Option.{some}
-use Rattle.clock_tables.proofs.EnvironmentLaws.{env-unassigned, env-assigned}
+use Rattle.std.proofs.Common.{rules}
+use Rattle.clock_tables.proofs.EnvironmentLaws.{env-told}
 use Rattle.clock_tables.proofs.lookup.Goals as goal
 
-pub returns-then-not-is_assigned : goal.returns-then-not-is_assigned
-returns-then-not-is_assigned c = sym (env-unassigned c.args.table.now c.args.x c.is_assigned.ensures c.if-not-is_assigned.true)
-
 pub returns : goal.returns
-returns c = ap some c.load.ensures ∙ sym (env-assigned c.args.table.now c.args.x c.is_assigned.ensures c.if-not-is_assigned.false)
+returns c = env-told c.args.table.now c.args.x _ _ (λ o h. search (rules, h)) c.is_assigned.ensures c.then.ensures.variant c.then.ensures.some

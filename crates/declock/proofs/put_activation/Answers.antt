@@ -1,6 +1,7 @@
 -- `declock::put_activation` meets its contract: base is always on; else by the last condition, over the parent. Assumes nothing.
 use Rattle.clock_tables.specs.Value.{value_of}
-use Rattle.declock.proofs.FlagsLaws.{on-base, on-condition, last-over}
+use Rattle.clock_tables.proofs.ClockLaws.{last-over}
+use Rattle.declock.proofs.FlagsLaws.{on-base, on-condition}
 use Rattle.declock.proofs.put_activation.Goals as goal
 
 pub returns-in_default : goal.returns-in_default

@@ -6,4 +6,4 @@ pub returns-in-On : goal.returns-in-On
 returns-in-On c = condition-on _ _ c.args.k c.in-On.is c.emit.ensures
 
 pub returns-in-Not : goal.returns-in-Not
-returns-in-Not c = condition-not _ _ c.args.k c.in-Not.is c.emit_all.ensures
+returns-in-Not c = condition-not _ _ c.args.k c.in-Not.is c.put_named.ensures

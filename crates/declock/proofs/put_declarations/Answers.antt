@@ -15,6 +15,6 @@ loop-row-preserved c =
 pub returns : goal.returns
 returns c =
     record {
-      result_after = λ i t. declared-all _ _ _ _ _ _ i.flag (activation_by i) (omega (arith, c.loop-row-test.false, c.order-row-items.ensures.counted)) (c.loop-row.invariant i.flag t);
-      result_after_2 = λ i t. declared-all _ _ _ _ _ _ i.first (first_tick_by i) (omega (arith, c.loop-row-test.false, c.order-row-items.ensures.counted)) (c.loop-row.invariant i.first t);
+      result_after = λ i t. declared-all _ _ _ _ _ _ i.flag (activation_by i) (omega (arith, c.loop-row-test.false, c.order-row-items.ensures.counted, t.few)) (c.loop-row.invariant i.flag t);
+      result_after_2 = λ i t. declared-all _ _ _ _ _ _ i.first (first_tick_by i) (omega (arith, c.loop-row-test.false, c.order-row-items.ensures.counted, t.few)) (c.loop-row.invariant i.first t);
     }

@@ -16,4 +16,4 @@ loop-row-preserved c =
     rows_more _ _ (first_equations j) _ _ (first_equation j) (λ k ks. refl) _ _ _ _ few here (c.loop-row.invariant j t u) (equation-line _ _ _ _ _ _ own c.put_left.ensures (c.put_first_tick.ensures j _ own (c.id-flag.ensures j.flag u)))
 
 pub returns : goal.returns
-returns c = λ j t u. rows_all _ _ (first_equations j) _ _ refl _ _ (omega (arith, c.loop-row-test.false, c.order-row-items.ensures.counted)) (c.loop-row.invariant j t u)
+returns c = λ j t u. rows_all _ _ (first_equations j) _ _ refl _ _ (omega (arith, c.loop-row-test.false, c.order-row-items.ensures.counted, t.few)) (c.loop-row.invariant j t u)

@@ -14,4 +14,4 @@ loop-row-preserved c =
     λ j t. rows_more _ _ (flag_equations j) _ _ (flag_equation j) (λ k ks. refl) _ _ _ _ few here (c.loop-row.invariant j t) (equation-line _ _ _ _ _ _ (id-here f j.flag _ _ _ t c.order-row-items.ensures.value few c.id_in.ensures ∙ ap j.flag (sym here)) c.put_left.ensures (c.put_activation.ensures j t))
 
 pub returns : goal.returns
-returns c = λ j t. rows_all _ _ (flag_equations j) _ _ refl _ _ (omega (arith, c.loop-row-test.false, c.order-row-items.ensures.counted)) (c.loop-row.invariant j t)
+returns c = λ j t. rows_all _ _ (flag_equations j) _ _ refl _ _ (omega (arith, c.loop-row-test.false, c.order-row-items.ensures.counted, t.few)) (c.loop-row.invariant j t)

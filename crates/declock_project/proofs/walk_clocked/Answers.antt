@@ -1,6 +1,6 @@
 -- `declock_project::walk_clocked` meets its contract: what has a clock too deep or a fault is not written. Assumes nothing.
 use mathlib.Core.Path.{sym, ap, ◌∙◌}
-use Rattle.workspace.proofs.Kept.{same-more, plan-kept}
+use Rattle.workspace.proofs.Kept.{plan-kept}
 use Rattle.node_plan.specs.Outcomes.{met_by}
 use Rattle.first_faults.proofs.Laws.{deep-unformed}
 use Rattle.declock_project.proofs.Nodes.{never-put, full_put, deep-unclean, unclean, plan-put}
@@ -21,16 +21,13 @@ returns-then-sheet-clause-laid_put c = λ r. full_put c.if-sheet.true
 pub returns-then-has_rows-clause-laid_put : goal.returns-then-has_rows-clause-laid_put
 returns-then-has_rows-clause-laid_put c = λ r.
     let rooms = c.has_rows.ensures c.if-has_rows.true in
-    plan-put _ c.if-sheet.false c.plan_left-node.ensures
+    plan-put _ c.if-sheet.false c.plan_in-node.ensures
     (record {
       planned = λ i n h u. (c.in_ok-counts.ensures.found_in i n.node _ n.clocking h u.laid u.uses u.clean.forms r.plans).planned _ c.in-Ok.is;
       flag-room = rooms.0;
       first-room = rooms.1;
       hold-room = c.laid_found.auto.holds ∙ r.hold-room;
     }) c.write_planned.ensures.names_held c.write_planned.ensures.next_after
-
-pub returns-clause-same_room : goal.returns-clause-same_room
-returns-clause-same_room c = same-more c.laid_found.ensures.same_room c.write_wide.ensures.same_room
 
 pub returns-clause-laid_put : goal.returns-clause-laid_put
 returns-clause-laid_put c = λ r. c.write_wide.ensures.laid_put c.if-sheet.false (record {

@@ -21,9 +21,6 @@ returns-in_err-fault-clause-walks c =
     λ i h r. let met = c.in_err-fault.ensures.node_met (room-still l.invariant.0 l.invariant.1 r) in
     rw (e.1, e.2, met.refused_at) (walk-deep i l.k (l.invariant.3 i h r) _ (omega (arith, c.loop-k-test.true, h.nodes.count)) (λ n e. met.deep i n h e) _ _ refl)
 
-pub returns-in_err-fault-clause-same_room : goal.returns-in_err-fault-clause-same_room
-returns-in_err-fault-clause-same_room c = same-more c.loop-k.invariant.0 c.walk_node.ensures.same_room
-
 pub loop-k-preserved : goal.loop-k-preserved
 loop-k-preserved c =
     let l = c.loop-k in
@@ -32,13 +29,10 @@ loop-k-preserved c =
       c.walk_node.auto.holds ∙ l.invariant.1,
       omega (arith, l.invariant.2, c.add_first.ensures.upper_bound),
       λ i h r. nodes-step i l.k (l.invariant.3 i h r) _ (omega (arith, few, h.nodes.count)) (λ n e. (c.in_ok-fault.ensures.node_met (room-still l.invariant.0 l.invariant.1 r)).deep i n h e) refl,
-      λ i ns h f r. first_step i ns f _ l.k _ _ _ _ _ _ (omega (arith, few, h.nodes.count)) refl ((c.in_ok-fault.ensures.node_met (room-still l.invariant.0 l.invariant.1 r)).fault i ns h f) (λ lent fs g h e. c.add_first.ensures.by_index lent fs g h (omega (arith, l.invariant.2, few, c.args.index.now.nodes.within)) e) (l.invariant.4 i ns h f r),
+      λ i ns h f r. first_step i ns f _ l.k _ _ _ _ _ _ (omega (arith, few, h.nodes.count)) refl ((c.in_ok-fault.ensures.node_met (room-still l.invariant.0 l.invariant.1 r)).fault i ns h f) (λ lent fs g h e. c.add_first.ensures.by_index lent fs g h (omega (arith, l.invariant.2, few, c.args.named.index.now.nodes.within)) e) (l.invariant.4 i ns h f r),
       λ bytes i ns f h r held. names_more f h l.k few (c.in_ok-fault.ensures.node_put (room-still l.invariant.0 l.invariant.1 r)) (l.invariant.5 bytes i ns f h r held),
       λ bytes i ns f h r held free. tokens-more f h l.k few (c.in_ok-fault.ensures.node_put (room-still l.invariant.0 l.invariant.1 r)) (l.invariant.5 bytes i ns f h r held) _ (l.invariant.6 bytes i ns f h r held) free,
     )
-
-pub returns-clause-same_room : goal.returns-clause-same_room
-returns-clause-same_room c = c.loop-k.invariant.0
 
 pub returns-clause-walks : goal.returns-clause-walks
 returns-clause-walks c =

@@ -24,7 +24,7 @@ invariant-loop-k l =
     SameRoom l.initial.working l.working
     × (length l.holds ≡ length l.initial.holds)
     × (l.list.count ≤ l.k)
-    × ((i : Input) → Indexed l.index i → RoomToWrite l.index l.initial.working l.initial.holds → Ahead l.k (drop l.k i.sheet.nodes) (clockings 0 i.sheet.nodes))
-    × ((i : Input) (ns : List ClockedNode) → Indexed l.index i → clockings 0 i.sheet.nodes ≡ accepted ns → RoomToWrite l.index l.initial.working l.initial.holds → Recorded l.initial.list.records.now (first_faults_from i 0 (take l.k ns)) l.list.count l.list.records.now)
-    × ((bytes : List ℕ) (i : Input) (ns : List ClockedNode) (f : Faultless l.spelling bytes i ns) → Indexed l.index i → RoomToWrite l.index l.initial.working l.initial.holds → NamesHeld l.initial.sheet.names i.names → NamesHeld l.sheet.names (names-to f l.k))
-    × ((bytes : List ℕ) (i : Input) (ns : List ClockedNode) (f : Faultless l.spelling bytes i ns) → Indexed l.index i → RoomToWrite l.index l.initial.working l.initial.holds → NamesHeld l.initial.sheet.names i.names → l.sheet.names.full ≡ false → l.sheet.tokens ≡ tokens-to f l.k l.initial.sheet.tokens)
+    × ((i : Input) → Indexed l.named.index.now i → RoomToWrite l.named.index.now l.initial.working l.initial.holds → Ahead l.k (drop l.k i.sheet.nodes) (clockings 0 i.sheet.nodes))
+    × ((i : Input) (ns : List ClockedNode) → Indexed l.named.index.now i → clockings 0 i.sheet.nodes ≡ accepted ns → RoomToWrite l.named.index.now l.initial.working l.initial.holds → Recorded l.initial.list.records.now (first_faults_from i 0 (take l.k ns)) l.list.count l.list.records.now)
+    × ((bytes : List ℕ) (i : Input) (ns : List ClockedNode) (f : Faultless l.named.spelling bytes i ns) → Indexed l.named.index.now i → RoomToWrite l.named.index.now l.initial.working l.initial.holds → NamesHeld l.initial.sheet.names i.names → NamesHeld l.sheet.names (names-to f l.k))
+    × ((bytes : List ℕ) (i : Input) (ns : List ClockedNode) (f : Faultless l.named.spelling bytes i ns) → Indexed l.named.index.now i → RoomToWrite l.named.index.now l.initial.working l.initial.holds → NamesHeld l.initial.sheet.names i.names → l.sheet.names.full ≡ false → l.sheet.tokens ≡ tokens-to f l.k l.initial.sheet.tokens)

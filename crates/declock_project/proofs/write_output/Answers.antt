@@ -15,4 +15,4 @@ pub returns : goal.returns
 unfolding names_of
 returns c = λ bytes r ns list o n f z h e t v.
     let free = c.if-table.false in
-    output-given bytes r z.reading c.args.out.now list ns z.clocks z.none-faulty c.args.sheet.now.names h free o c.args.sheet.now.tokens n f (e free) t v c.if-tokens.false _ _ c.write.ensures.value c.write.ensures.out_after
+    output-given bytes r z.reading c.args.out.now list ns z.clocks z.none-faulty c.args.sheet.now.names h free o c.args.sheet.now.tokens n f (e free) t v c.if-tokens.false _ c.min-n.ensures _ _ c.write.ensures.value c.write.ensures.out_after

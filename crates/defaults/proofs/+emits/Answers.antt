@@ -2,47 +2,39 @@
 -- The measure falls with the depth at each type, then at each copy or field.
 -- Assumes nothing.
 use mathlib.Core.Path.{sym, ◌∙◌}
+use Rattle.std.proofs.Common.{rules}
 use native.Mathlib.Omega.{arith}
 use Rattle.definitions.specs.Types.{default_named}
 use Rattle.layout.specs.Table.{def_at}
 use Rattle.layout.proofs.TypedefsLaws.{named, type-not-refused, type-is-basic, type-is-named, type-is-array}
 use Rattle.emit.proofs.Laws.{emits-stuck}
-use Rattle.defaults.proofs.Written.{wrote-basic, element-default, wrote-array, wrote-plain, wrote-same, plain-default, copies-more, copies-none, named-default, not-unnamed, definition-default, wrote-variant, fields-default, alias-default, wrote-record, fields-next, fields-end}
+use Rattle.defaults.proofs.Written.{wrote-basic, element-default, wrote-array, wrote-plain, wrote-same, plain-default, named-default, not-unnamed, definition-default, wrote-variant, fields-default, alias-default, wrote-record, fields-next, fields-end}
 use Rattle.defaults.proofs.+emits.Goals as goal
 
 pub emit_array-returns-in-Some : goal.emit_array-returns-in-Some
 emit_array-returns-in-Some t c = λ types f v y q e s h g d. wrote-plain e _ _ _ _ _ (plain-default (default_named types _) _ y e (c.in-Some.ensures _ y q g) d) c.emit_all.ensures c.emit_literals.ensures
 
 pub emit_array-returns-in-None : goal.emit_array-returns-in-None
-emit_array-returns-in-None t c = λ types f v y q e s h g d. wrote-array e _ _ _ _ c.emit_all.ensures (c.emit_copies.ensures types f v y q e s h g d)
-
-pub emit_copies-returns-then-output : goal.emit_copies-returns-then-output
-emit_copies-returns-then-output t c = λ types f v y q e s h g d. sym (c.loop.invariant types f v y q e s h g d ∙ emits-stuck _ _ c.if-output.true)
-
-pub emit_copies-loop-preserved : goal.emit_copies-loop-preserved
-emit_copies-loop-preserved t c = λ types f v y q e s h g d. copies-more e _ _ _ _ _ c.loop-test.true (c.emit_type.ensures types f v y q e s h g d) (c.loop.invariant types f v y q e s h g d)
-
-pub emit_copies-returns : goal.emit_copies-returns
-emit_copies-returns t c = λ types f v y q e s h g d. copies-none e _ _ _ _ c.loop-test.false (c.loop.invariant types f v y q e s h g d)
+emit_array-returns-in-None t c = λ types f v y q e s h g d. wrote-array e _ _ _ _ c.emit_all.ensures (c.emit_times.ensures e (λ o r k. search rules))
 
 pub emit_definition-returns-in-Some-Enum : goal.emit_definition-returns-in-Some-Enum
-emit_definition-returns-in-Some-Enum t c = λ types f b q e s h g d. wrote-variant _ _ _ c.args.table.now.source.same_length (default_named types _) b q _ (c.in-Some-Enum.ensures b q g) e d _ _ _ _ _ _ c.in-Some-Enum.field-0-is c.value_at-v.ensures c.emit.ensures
+emit_definition-returns-in-Some-Enum t c = λ types f b q e s h g d. wrote-variant _ _ _ c.args.table.now.source.same_length (default_named types _) b q _ (c.in-Some-Enum.ensures b q g) e d _ _ _ _ _ c.in-Some-Enum.field-0-is c.value_at-v.ensures c.emit.ensures
 
 pub emit_definition-returns-in-Some-Record : goal.emit_definition-returns-in-Some-Record
-emit_definition-returns-in-Some-Record t c = λ types f b q e s h g d. let a = fields-default _ _ _ c.args.table.now.source.same_length (default_named types _) b q _ (c.in-Some-Record.ensures b q g) e d _ _ _ c.in-Some-Record.field-0-is in wrote-record (default_named types _) _ _ _ _ _ a.0 q a.1 e _ _ _ a.2 a.3 a.4 c.emit_all.ensures (c.emit_fields.ensures types f a.0 q a.1 s h a.2 a.3)
+emit_definition-returns-in-Some-Record t c = λ types f b q e s h g d. let a = fields-default _ _ _ c.args.table.now.source.same_length (default_named types _) b q _ (c.in-Some-Record.ensures b q g) e d _ _ c.in-Some-Record.field-0-is in wrote-record (default_named types _) _ _ a.0 a.1 e _ _ _ (a.2).many a.3 a.4 c.emit_all.ensures (c.emit_fields.ensures types f a.0 a.1 s h a.2 a.3)
 
 pub emit_definition-returns-in-Some-Alias : goal.emit_definition-returns-in-Some-Alias
 emit_definition-returns-in-Some-Alias t c = λ types f b q e s h g d. let a = alias-default _ _ _ c.args.table.now.source.same_length (default_named types _) b q _ (c.in-Some-Alias.ensures b q g) e d _ _ c.in-Some-Alias.field-0-is in c.emit_type.ensures types f 8 a.0 q e s h a.1 a.2
 
 pub emit_fields-returns-then-output : goal.emit_fields-returns-then-output
-emit_fields-returns-then-output t c = λ types f fs q es s h g d. sym ((c.loop-field.invariant types f fs q es s h g d).whole ∙ emits-stuck _ _ c.if-output.true)
+emit_fields-returns-then-output t c = λ types f fs es s h g d. sym ((c.loop-field.invariant types f fs es s h g d).whole ∙ emits-stuck _ _ c.if-output.true)
 
 pub emit_fields-loop-field-preserved : goal.emit_fields-loop-field-preserved
-emit_fields-loop-field-preserved t c = λ types f fs q es s h g d.
-    fields-next (default_named types f) _ _ _ _ _ _ (rw c.in-Some.ensures.steps at (c.loop-field.invariant types f fs q es s h g d)) _ _ c.emit.ensures (λ y r e i k. c.emit_type.ensures types f 8 y r e s h i k)
+emit_fields-loop-field-preserved t c = λ types f fs es s h g d.
+    fields-next (default_named types f) _ _ _ _ _ _ (rw c.in-Some.ensures.steps at (c.loop-field.invariant types f fs es s h g d)) _ _ c.emit.ensures (λ y r e i k. c.emit_type.ensures types f 8 y r e s h i k)
 
 pub emit_fields-returns : goal.emit_fields-returns
-emit_fields-returns t c = λ types f fs q es s h g d. fields-end (default_named types f) _ _ _ _ _ (c.loop-field.invariant types f fs q es s h g d) c.in-None.ensures.steps.0
+emit_fields-returns t c = λ types f fs es s h g d. fields-end (default_named types f) _ _ _ _ _ (c.loop-field.invariant types f fs es s h g d) c.in-None.ensures.steps.0
 
 pub emit_named-returns-in_default : goal.emit_named-returns-in_default
 emit_named-returns-in_default t c = λ types f e s h d. absurd (not-unnamed _ _ _ _ types s _ f e d (c.in_default.ensures.first types (named _ _ _ c.args.table.now.source.same_length _ _ types s)))

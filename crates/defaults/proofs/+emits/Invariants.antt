@@ -4,15 +4,14 @@
 use mathlib.Core.Path.{◌≡◌}
 use mathlib.Core.List.{List, map}
 use mathlib.Core.Option.{some}
-use Prim.Native.Nat.{ℕ, suc, ◌+◌, ◌-◌, ◌*◌}
+use Prim.Native.Nat.{ℕ, ◌+◌, ◌*◌}
 use Rattle.grammar.specs.Read.{tokens_of}
-use Rattle.definitions.specs.Lists.{join}
-use Rattle.definitions.specs.Tree.{Ty, Declared, TypeDef, Expr, Exprs}
-use Rattle.definitions.specs.Reading.{got, times}
-use Rattle.definitions.specs.Grammar.{ty, declaration}
-use Rattle.definitions.specs.Types.{copies, default_by, defaults_by, default_named}
+use Rattle.definitions.specs.Tree.{Declared, TypeDef, Exprs}
+use Rattle.definitions.specs.Grammar.{declaration}
+use Rattle.definitions.specs.Types.{defaults_by, default_named}
 use Rattle.definitions.specs.Output.{field_tokens, operand_tokens}
 use Rattle.cycles.specs.Defines.{Defines}
+use Rattle.layout.specs.Spans.{Spans}
 use Rattle.layout.specs.Walk.{declared_left}
 use Rattle.emit.specs.Out.{emits}
 use Rattle.defaults.specs.Depth.{Enough}
@@ -22,8 +21,8 @@ use Rattle.defaults.proofs.+emits.Given as goal
 abbrev pub decreases-emit_array : goal.decreases-emit_array
 decreases-emit_array l = 4 * l.depth + 2
 
-abbrev pub decreases-emit_copies : goal.decreases-emit_copies
-decreases-emit_copies l = 4 * l.depth + 1
+abbrev pub decreases-emit_array-emit_times : goal.decreases-emit_array-emit_times
+decreases-emit_array-emit_times l = 4 * l.depth + 1
 
 abbrev pub decreases-emit_definition : goal.decreases-emit_definition
 decreases-emit_definition l = 4 * l.depth + 2
@@ -37,14 +36,8 @@ decreases-emit_named l = 4 * l.depth + 3
 abbrev pub decreases-emit_type : goal.decreases-emit_type
 decreases-emit_type l = 4 * l.depth
 
-abbrev pub invariant-emit_copies-loop : goal.invariant-emit_copies-loop
-invariant-emit_copies-loop l =
-    let s = l.table.source in
-    (types : List TypeDef) (fuel levels : ℕ) (t : Ty) (q : ℕ) (e : Expr) → Defines l.table types → Enough l.depth fuel (suc levels) → ty s.names levels (tokens_of s) l.at ≡ got t q → default_by (default_named types fuel) t ≡ some e →
-    emits l.initial.output (join (operand_tokens (copies l.m e))) ≡ emits l.output (join (operand_tokens (copies (l.m - l.counter) e)))
-
 abbrev pub invariant-emit_fields-loop-field : goal.invariant-emit_fields-loop-field
 invariant-emit_fields-loop-field l =
     let s = l.table.source in
-    (types : List TypeDef) (fuel : ℕ) (fs : List Declared) (q : ℕ) (es : Exprs) → Defines l.table types → Enough l.depth fuel 9 → times l.count (declaration s.names) (tokens_of s) l.at ≡ got fs q → defaults_by (default_named types fuel) fs ≡ some es →
+    (types : List TypeDef) (fuel : ℕ) (fs : List Declared) (es : Exprs) → Defines l.table types → Enough l.depth fuel 9 → Spans (declaration s.names) (tokens_of s) fs l.fn.fields → defaults_by (default_named types fuel) fs ≡ some es →
     FieldsLeft (default_named types fuel) s.names (tokens_of s) (declared_left l.field-iterator) (emits l.initial.output (field_tokens (map (λ f. f.name) fs) (operand_tokens es))) l.output

@@ -1,12 +1,12 @@
 -- The readers of an expression and of its parts call each other: the depth that is left falls, or stays while a part is told from its
 -- whole.
-use mathlib.Core.Path.{refl, sym, ◌∙◌}
+use mathlib.Core.Path.{sym, ◌∙◌}
 use Rattle.std.proofs.Common.{rules}
 use Rattle.definitions.specs.Grammar.{expr}
 use Rattle.grammar.specs.Outcome.{outcome}
 use Rattle.grammar.specs.Parts.{field}
 use Rattle.grammar.specs.Read.{tokens_of}
-use Rattle.grammar.proofs.Laws.{passes, expr-stop, expr-deep, exprs-repeated, fields-repeated, onward-ok, onward-err}
+use Rattle.grammar.proofs.Laws.{passes, expr-stop, expr-deep, exprs-repeated, fields-repeated}
 use Rattle.grammar.proofs.Shapes.{expr-follows}
 use Rattle.grammar.proofs.+reading.Goals as goal
 
@@ -23,12 +23,6 @@ pub read_exprs-returns : goal.read_exprs-returns
 read_exprs-returns t c =
     let a = c.args.source.now in
     c.read_times.ensures (λ q. outcome (expr a.names c.args.depth (tokens_of a) q)) (λ p s h. search rules) ∙ sym (exprs-repeated _ _ _ _)
-
-pub read_field-returns-in_err-value : goal.read_field-returns-in_err-value
-read_field-returns-in_err-value t c = passes _ _ _ c.from_residual.ensures (sym (onward-err _ _ _ (sym c.read_name.ensures ∙ c.in_err-value.was)))
-
-pub read_field-returns : goal.read_field-returns
-read_field-returns t c = c.read_expr.ensures ∙ sym (onward-ok _ _ _ _ (sym c.read_name.ensures ∙ c.in_ok-value.was) refl)
 
 pub read_fields-returns : goal.read_fields-returns
 read_fields-returns t c =

@@ -2,16 +2,17 @@
 use mathlib.Core.Path.{sym, ◌∙◌, ap}
 use Rattle.grammar.specs.Found.{option_of}
 use Rattle.grammar.specs.Outcome.{told}
-use Rattle.grammar.proofs.Laws.{step-got, step-refused, step_end}
+use Rattle.grammar.proofs.Laws.{step-got, step-refused, step_end, none-passes}
 use Rattle.grammar.proofs.read_token.Goals as goal
 
-pub returns-in-Some-find : goal.returns-in-Some-find
-returns-in-Some-find g c =
-    λ f m. sym (ap told (step-got f _ _ _ c.token_at.ensures.token _ _ _ c.in-Some.is _ (sym (m _ _ _ c.in-Some.ensures.word c.find.ensures) ∙ ap option_of c.in-Some-find.is)))
+pub returns-in_err-tag : goal.returns-in_err-tag
+returns-in_err-tag g c = λ f m. none-passes _ _ _ _ _ c.in_err-tag.ensures.value c.in_err-tag.ensures.ok_part c.from_residual.ensures (sym (ap told (step_end f _ _ _ c.token_at.ensures.token c.in_err-tag.ensures.ok_part)))
+
+pub returns-in_err-t : goal.returns-in_err-t
+returns-in_err-t g c =
+    λ f m. none-passes _ _ _ _ _ c.in_err-t.ensures.value c.in_err-t.ensures.ok_part c.from_residual-in_err-t.ensures (
+    sym (ap told (step-refused f _ _ _ c.token_at.ensures.token _ _ _ c.in_ok-tag.ensures.ok_part (sym (m _ _ _ (rw c.in_ok-tag.ensures.ok_part at c.token_at.ensures.word) c.find.ensures) ∙ ap option_of c.in_err-t.ensures.ok_part))))
 
 pub returns : goal.returns
 returns g c =
-    λ f m. sym (ap told (step-refused f _ _ _ c.token_at.ensures.token _ _ _ c.in-Some.is (sym (m _ _ _ c.in-Some.ensures.word c.find.ensures) ∙ ap option_of c.in-None.is)))
-
-pub returns-in_default : goal.returns-in_default
-returns-in_default g c = λ f m. sym (ap told (step_end f _ _ _ c.token_at.ensures.token c.in_default.is))
+    λ f m. sym (ap told (step-got f _ _ _ c.token_at.ensures.token _ _ _ c.in_ok-tag.ensures.ok_part _ (sym (m _ _ _ (rw c.in_ok-tag.ensures.ok_part at c.token_at.ensures.word) c.find.ensures) ∙ ap option_of c.in_ok-t.ensures.ok_part)))

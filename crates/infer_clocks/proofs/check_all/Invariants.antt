@@ -9,7 +9,7 @@ use Rattle.definitions.specs.Reading.{got, times}
 use Rattle.definitions.specs.Grammar.{equation}
 use Rattle.definitions.specs.InferClocks.{Clocks, Clocked, formed, clocked_by}
 use Rattle.clock_tables.specs.Environment.{Agrees}
-use Rattle.checking.specs.Walk.{PortMarks, Stays}
+use Rattle.checking.specs.Walk.{ReadsNode, Stays}
 use Rattle.infer_clocks.specs.Clocked.{found_from}
 use Rattle.infer_clocks.proofs.Laws.{Going}
 use Rattle.infer_clocks.proofs.Sites.{Siting}
@@ -18,5 +18,5 @@ use Rattle.infer_clocks.proofs.check_all.Given as goal
 abbrev pub invariant-loop-equation : goal.invariant-loop-equation
 invariant-loop-equation l =
     Stays l.initial.output l.output
-    × ((node : Node) (clocks : Clocks) (es : List Equation) (q : ℕ) → Agrees l.input.env.now l.input.source.names clocks → PortMarks l.input.ports.now l.input.source.names node → times l.fn.equations.count (equation l.input.source.names) (tokens l.input.source.tags.now l.input.source.values.now) l.fn.equations.at ≡ got es q → l.initial.output.findings.now.count ≡ 0 → Going l.input.source.names (tokens l.input.source.tags.now l.input.source.values.now) node clocks l.output (l.fn.equations.count - l.equation) l.equation l.place q (found_from node clocks 0 es))
+    × ((node : Node) (clocks : Clocks) (es : List Equation) (q : ℕ) → ReadsNode l.input node clocks → times l.fn.equations.count (equation l.input.source.names) (tokens l.input.source.tags.now l.input.source.values.now) l.fn.equations.at ≡ got es q → l.initial.output.findings.now.count ≡ 0 → Going l.input.source.names (tokens l.input.source.tags.now l.input.source.values.now) node clocks l.output (l.fn.equations.count - l.equation) l.equation l.place q (found_from node clocks 0 es))
     × ((node : Node) (clocks : Clocks) (es : List Equation) (q : ℕ) (cs : List Clocked) → Agrees l.input.env.now l.input.source.names clocks → times l.fn.equations.count (equation l.input.source.names) (tokens l.input.source.tags.now l.input.source.values.now) l.fn.equations.at ≡ got es q → 17 * length l.input.source.tags.now ≤ length l.initial.output.sites.now → clocked_by clocks es ≡ formed cs → Siting l.input.source.names l.input.source.tags.now l.input.source.values.now l.output.sites.now node clocks (l.fn.equations.count - l.equation) l.equation l.place l.fn.equations.at q cs)

@@ -14,13 +14,13 @@ use Prim.Native.Nat.{ℕ, ◌≤◌, ◌+◌, ◌-◌, ◌*◌}
 use Rattle.inference.proofs.+natural.Given as goal
 
 abbrev pub decreases-first_found : goal.decreases-first_found
-decreases-first_found l = 3 * (length l.source.now.tags.now - l.operands.first) + 2
+decreases-first_found l = 3 * (length l.input.now.source.tags.now - l.operands.rest.next) + 2
 
 abbrev pub decreases-found_at : goal.decreases-found_at
-decreases-found_at l = 3 * (length l.source.now.tags.now - l.at)
+decreases-found_at l = 3 * (length l.input.now.source.tags.now - l.at)
 
 abbrev pub decreases-operand_clock : goal.decreases-operand_clock
-decreases-operand_clock l = 3 * (length l.source.now.tags.now - l.at) + 1
+decreases-operand_clock l = 3 * (length l.input.now.source.tags.now - l.at) + 1
 
 abbrev pub invariant-first_found-loop : goal.invariant-first_found-loop
-invariant-first_found-loop l = (l.fn.operands.first ≤ l.from) × ((es : Exprs) (q : ℕ) (clocks : Clocks) → spread l.source.names l.initial.between l.fn.operands.count (tree l.source.names) (tokens l.source.tags.now l.source.values.now) l.fn.operands.first ≡ got es q → Agrees l.env l.source.names clocks → Remains l.source.names (tokens l.source.tags.now l.source.values.now) clocks l.up l.between (l.fn.operands.count - l.counter) l.from q (first_of clocks l.up es))
+invariant-first_found-loop l = (l.fn.operands.rest.next ≤ l.rest.next) × ((es : Exprs) (q : ℕ) (clocks : Clocks) → spread l.input.source.names l.initial.rest.gap l.fn.operands.count (tree l.input.source.names) (tokens l.input.source.tags.now l.input.source.values.now) l.initial.rest.next ≡ got es q → Agrees l.input.env.now l.input.source.names clocks → Remains l.input.source.names (tokens l.input.source.tags.now l.input.source.values.now) clocks l.up l.rest.gap (l.fn.operands.count - l.counter) l.rest.next q (first_of clocks l.up es))

@@ -1,8 +1,7 @@
 -- `listings::listing_in` meets its contract. Assumes nothing.
-use mathlib.Core.Path.{refl}
 use Rattle.std.proofs.lemmas.Result.{err_from_is_err_and}
-use Rattle.workspace.proofs.Kept.{ample-room, list-kept}
-use Rattle.listings.proofs.Given.{listing-turned, node-there, given, listing-given}
+use Rattle.workspace.proofs.Kept.{list-kept}
+use Rattle.listings.proofs.Given.{short-of, listing-turned, node-there, given, listing-given}
 use Rattle.listings.proofs.listing_in.Goals as goal
 
 pub returns-in_err-told-clause-given : goal.returns-in_err-told-clause-given
@@ -12,6 +11,4 @@ returns-in_err-told-clause-given c = λ i s r. let e = err_from_is_err_and c.fro
 pub returns-clause-given : goal.returns-clause-given
 returns-clause-given c = λ i s r.
     let z = node-there _ _ _ _ _ i _ _ (c.in_ok-told.ensures.node_told i _ s.tree r.clocks) in
-    let n = z.2 in
-    let room = ample-room _ _ _ (list-kept c.clock_at.ensures.same_room r).chains _ _ refl n.tells.room in
-    listing-given _ i _ _ z.0 _ _ _ s.named z.3 z.1 (given _ _ _ _ (c.put_clocked.ensures z.0 n room.0 room.1 s.few-letters s.few-tokens room.2))
+    listing-given _ i _ _ z.0 _ _ _ s.named z.3 z.1 (given _ _ _ _ (c.put_clocked.ensures z.0 z.2 (list-kept c.clock_at.ensures.same_room r).chains (short-of s)))

@@ -9,4 +9,4 @@ use Rattle.listings.proofs.Given.{listing-same}
 use Rattle.listings.proofs.listings_lent.Goals as goal
 
 pub returns-clause-given : goal.returns-clause-given
-returns-clause-given c = λ ns q g r x y. listing-same _ _ _ _ _ (sym (lent-each (clockings 0 ns) _ _)) (c.lend_put.ensures.given (listings_text _ ns) (λ o w a o' w' s p. search (rules, p, g, list-kept s r, x, y)))
+returns-clause-given c = λ ns q g r x. listing-same _ _ _ _ _ (sym (lent-each (clockings 0 ns) _ _)) (c.lend_put.ensures.given (listings_text _ ns) (λ o w a o' w' s p. search (rules, p, g, list-kept s r, x)))

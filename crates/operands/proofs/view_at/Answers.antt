@@ -10,4 +10,4 @@ pub returns-in-Ok : goal.returns-in-Ok
 returns-in-Ok c = viewed _ _ _ _ _ _ _ (told-got _ _ _ _ c.expr_head.ensures c.in-Ok.is) c.role_of.ensures c.operands_of-operands.ensures refl
 
 pub returns-in-Err : goal.returns-in-Err
-returns-in-Err c = unviewed _ _ _ _ _ (told-refused _ _ _ c.expr_head.ensures c.in-Err.is) (ap (λ (o : Operands). o.first) c.plain.ensures)
+returns-in-Err c = unviewed _ _ _ _ _ (told-refused _ _ _ c.expr_head.ensures c.in-Err.is) (ap (λ (o : Operands). o.rest.next) c.plain.ensures)

@@ -6,4 +6,4 @@ use Rattle.planned.proofs.HoldsLaws.{equated-hold}
 use Rattle.planned.proofs.put_equation.Goals as goal
 
 pub returns : goal.returns
-returns c = λ W h s d. equated-hold c.args.written.now W _ _ _ _ _ h _ _ _ _ _ s d c.word_at-x.ensures (ap (λ (h : HeldOperand). h.row) c.hold_at-held.ensures) c.word_at-flag.ensures (ap (λ (h : HeldOperand). h.at) c.hold_at-held.ensures) c.put_hold.ensures (c.expr.ensures W s) c.put_named.ensures
+returns c = λ W h e s d. equated-hold c.args.written.now W _ _ _ _ _ h _ _ _ _ _ s d c.word_at-x.ensures (ap (λ (h : HeldOperand). h.row) e) c.word_at-flag.ensures (ap (λ (h : HeldOperand). h.at) e) c.put_hold.ensures (c.expr.ensures W s) c.put_named.ensures

@@ -1,13 +1,16 @@
--- `query::write_equations` meets its contract: the clocks of the first i equations are written. Assumes nothing.
-use native.Mathlib.Omega.{arith}
-use Rattle.query.proofs.Entries.{equations-none, equation-entered, equations-entered}
+-- `query::write_equations` meets its contract: the clocks so far are written, and the others left. Assumes nothing.
+use mathlib.Core.Path.{◌∙◌, ap}
+use Rattle.lines.proofs.Walks.{clocks-begin}
+use Rattle.query.proofs.Entries.{entered-none, entered-more, entered-all}
 use Rattle.query.proofs.write_equations.Goals as goal
 
 pub loop-i-init : goal.loop-i-init
-loop-i-init c = λ M cs q g h. equations-none M _ _ _ cs q _ _ g
+loop-i-init c = λ all h. entered-none all _ _ _ (ap (λ s. s.count) c.into_iter-i-iterator.ensures.into_iter_gives ∙ c.enumerate-i-items.ensures.count) h
 
 pub loop-i-preserved : goal.loop-i-preserved
-loop-i-preserved c = λ M cs q g h. equation-entered M _ _ _ cs q _ _ _ _ _ _ _ (omega (arith, c.loop-i-test.true, h)) c.get.ensures c.equation_end-place.ensures c.put_row.ensures.words c.put_row.ensures.past (c.loop-i.invariant M cs q g h)
+loop-i-preserved c = let steps = c.in-Some.ensures.steps in
+    λ all h. entered-more all _ (c.loop-i.invariant all h) _ _ _ _ _ steps.0 steps.1 steps.2 c.put_row.ensures.words c.put_row.ensures.past
 
 pub returns : goal.returns
-returns c = λ M cs q g h. equations-entered M _ _ _ cs q _ _ _ _ (omega (arith, c.loop-i-test.false, h)) (c.loop-i.invariant M cs q g h)
+returns c = λ M cs q g h. let e = c.enumerate-i-items.ensures in
+    entered-all _ _ (c.loop-i.invariant _ (rw (c.into_iter-i-iterator.ensures.into_iter_gives, e.source, c.equation_clocks.ensures) (clocks-begin M cs q _ g h))) _ c.in-None.ensures.steps.0

@@ -1,22 +1,17 @@
 -- `questions::answer_read` meets its contract. Assumes nothing.
-use mathlib.Core.Path.{refl}
-use native.Mathlib.Omega.{arith}
-use Rattle.questions.proofs.Front.{few, standing, all-letters, few-letters, cut-names}
-use Rattle.questions.proofs.Demand.{bytes_below}
+use Rattle.questions.proofs.Front.{names-fit, standing, cut-names}
 use Rattle.questions.proofs.answer_read.Goals as goal
 
 pub invariant_of-names : goal.invariant_of-names
-invariant_of-names g c = let b = c.args.sheet.now in
-    let s = c.args.sizes in
-    let a = c.requires.accepted in
-    record { summed = all-letters b s a; few = few b s a; short = few-letters b s a }
+invariant_of-names g c = let z = names-fit _ _ c.args.read.sheet.accepted _ _ c.lengths.ensures c.letters.ensures in
+    record { summed = z.0; few = z.1; short = z.2 }
 
 pub returns : goal.returns
 returns g c = λ i z.
-    let b = c.args.sheet.now in
-    c.answer_standing.ensures b i (record {
-      are-bytes = bytes_below b (λ k. omega (arith, c.type_inv.sheet k));
+    let a = c.args.read.sheet.accepted in
+    c.answer_standing.ensures _ i (record {
+      are-bytes = z.are-bytes;
       reading = z.reading;
-      standing = standing b c.args.sizes c.requires.accepted _ i z _ c.starts_of-starts.ensures refl;
-      lengths = cut-names b c.args.sizes c.requires.accepted _ i z;
+      standing = standing _ _ a _ i z _ c.starts_of-starts.ensures c.letters.ensures;
+      lengths = cut-names _ _ a _ i z _ _ c.lengths.ensures c.letters.ensures;
     })

@@ -1,10 +1,10 @@
 -- `questions::starts_of` meets its contract. Assumes nothing.
 use native.Mathlib.Omega.{arith}
-use Rattle.questions.proofs.Front.{summed, starts-stand}
+use Rattle.questions.proofs.Front.{lengths-fit, starts-stand}
 use Rattle.questions.proofs.starts_of.Goals as goal
 
-pub fill_starts-requires-clause-lengths_bound : goal.fill_starts-requires-clause-lengths_bound
-fill_starts-requires-clause-lengths_bound c = omega (arith, summed c.args.sheet.now c.args.sizes c.requires)
+pub fill_starts-requires-clause-lengths_in_bounds : goal.fill_starts-requires-clause-lengths_in_bounds
+fill_starts-requires-clause-lengths_in_bounds c = omega (arith, (lengths-fit _ _ c.args.sheet.accepted _ c.lengths.ensures).0)
 
 pub returns : goal.returns
-returns c = starts-stand c.args.sheet.now c.args.sizes c.requires _ c.fill_starts.ensures
+returns c = starts-stand _ _ c.args.sheet.accepted _ _ c.lengths.ensures c.fill_starts.ensures

@@ -1,28 +1,51 @@
--- `spelling::find_name` meets its contract. The loop has passed the first i names. Assumes nothing.
-use Prim.Native.Nat.{◌+◌}
-use mathlib.Core.Path.{◌≡◌, sym, ap, ◌∙◌}
+-- `spelling::find_name` meets its contract. Assumes nothing.
+use mathlib.Core.Path.{◌≡◌, refl, ap}
+use mathlib.Core.Logic.{inl}
 use native.Mathlib.Omega.{arith}
 use lib.ListN.{length}
-use Rattle.std.proofs.Common.{nat_eq}
-use Rattle.std.specs.Cmp.Lexicographic.{pointwise}
-use Rattle.spelling.proofs.Places.{place_from, place-here, place-next, place-end, sum-next}
+use Rattle.definitions.specs.Bytes.{cut}
+use Rattle.definitions.specs.Output.{id_of}
+use Rattle.spelling.proofs.Places.{cut-length}
+use Rattle.spelling.proofs.Table.{id-first, id-later}
 use Rattle.spelling.proofs.find_name.Goals as goal
+
+pub loop-i-init-derived : goal.loop-i-init-derived
+loop-i-init-derived c =
+    let w = c.into_iter-i-iterator.result in
+    let g = c.into_iter-i-iterator.ensures.into_iter_gives in
+    let n : w.count ≡ 0 = rw (g, c.enumerate-i-items.ensures.count) refl in
+    let m : length (cut w.iter.lengths.now w.iter.letters.now) ≡ length c.args.names.lengths.now = rw (g, c.enumerate-i-items.ensures.source) (cut-length c.args.names.lengths.now c.args.names.letters.now) in
+    ((tt, tt, inl (omega (arith, n, m, c.ranges.names.0))), tt)
+
+pub loop-i-init : goal.loop-i-init
+loop-i-init c =
+    let g = c.into_iter-i-iterator.ensures.into_iter_gives in
+    let e = c.enumerate-i-items.ensures in
+    record {
+      sought = rw (g, e.count, e.source) (omega arith);
+      counted = rw (g, e.count, e.source) (omega arith);
+    }
 
 pub returns-then-eq-clause-value : goal.returns-then-eq-clause-value
 returns-then-eq-clause-value c =
-    let l = c.loop-i in
-    sym (l.invariant.1 ∙ place-here c.args.lengths.now c.args.letters.now c.args.name.now l.i l.rest.now (omega (arith, c.loop-i-test.true)) (c.eq.ensures ∙ ap (λ p. pointwise nat_eq c.args.name.now p) c.split_at.ensures.front) c.if-eq.true)
+    let s = c.in-Some.ensures.steps in
+    omega (arith, s.1, c.loop-i.invariant.sought, id-first c.args.name.now _ s.0 c.eq.ensures c.if-eq.true)
+
+pub returns-then-eq-clause-in_bounds : goal.returns-then-eq-clause-in_bounds
+returns-then-eq-clause-in_bounds c =
+    let s = c.in-Some.ensures.steps in
+    omega (arith, s.1, c.loop-i.invariant.counted, ap length s.0, cut-length c.args.names.lengths.now c.args.names.letters.now)
 
 pub loop-i-preserved : goal.loop-i-preserved
 loop-i-preserved c =
-    let l = c.loop-i in (
-      omega (arith, sum-next c.args.lengths.now c.args.letters.now c.args.name.now l.i l.rest.now (omega (arith, c.loop-i-test.true)), l.invariant.0, c.split_at.ensures.back_len),
-      l.invariant.1 ∙ place-next c.args.lengths.now c.args.letters.now c.args.name.now l.i l.rest.now (omega (arith, c.loop-i-test.true)) (c.eq.ensures ∙ ap (λ p. pointwise nat_eq c.args.name.now p) c.split_at.ensures.front) c.if-eq.false
-          ∙ ap (λ r. place_from c.args.lengths.now c.args.letters.now c.args.name.now (l.i + 1) r) (sym c.split_at.ensures.back),
-    )
+    let s = c.in-Some.ensures.steps in
+    let f = id-later c.args.name.now _ s.0 c.eq.ensures c.if-eq.false in
+    record {
+      sought = omega (arith, s.1, s.2, c.loop-i.invariant.sought, f);
+      counted = omega (arith, s.1, s.2, c.loop-i.invariant.counted, ap length s.0);
+    }
 
 pub returns-clause-value : goal.returns-clause-value
 returns-clause-value c =
-    let l = c.loop-i in
-    let e : l.i ≡ length c.args.lengths.now = omega (arith, c.loop-i-test.false, l.auto.i-end) in
-    sym (l.invariant.1 ∙ place-end c.args.lengths.now c.args.letters.now c.args.name.now l.i l.rest.now (omega arith) ∙ e)
+    let e = c.in-None.ensures.steps.0.0 in
+    omega (arith, c.loop-i.invariant.sought, c.loop-i.invariant.counted, ap (λ l. id_of l c.args.name.now) e, ap length e, cut-length c.args.names.lengths.now c.args.names.letters.now)

@@ -1,13 +1,14 @@
--- `spelling::find_name` meets its contract. The loop has passed the first i names. Assumes nothing.
-use Prim.Native.Nat.{◌≤◌}
+-- `spelling::find_name` meets its contract. The loop has passed the first names, none of which is the one that is looked for. Assumes nothing.
+use Prim.Native.Nat.{◌+◌}
 use mathlib.Core.Path.{◌≡◌}
-use lib.ListN.{length, drop}
-use Rattle.definitions.specs.Lists.{sum}
+use lib.ListN.{length}
 use Rattle.definitions.specs.Bytes.{cut}
 use Rattle.definitions.specs.Output.{id_of}
-use Rattle.spelling.proofs.Places.{place_from}
 use Rattle.spelling.proofs.find_name.Given as goal
 
 abbrev pub invariant-loop-i : goal.invariant-loop-i
 invariant-loop-i l =
-    (sum (drop l.i l.lengths) ≤ length l.rest) × (id_of (cut l.lengths l.letters) l.name ≡ place_from l.lengths l.letters l.name l.i l.rest)
+    record {
+      sought : id_of (cut l.names.lengths.now l.names.letters.now) l.name ≡ l.i-iterator.count + id_of (cut l.i-iterator.iter.lengths.now l.i-iterator.iter.letters.now) l.name;
+      counted : l.i-iterator.count + length (cut l.i-iterator.iter.lengths.now l.i-iterator.iter.letters.now) ≡ length (cut l.names.lengths.now l.names.letters.now);
+    }

@@ -12,10 +12,10 @@ use Rattle.typing.specs.After.{called_by}
 use Rattle.typing.proofs.+called_after.Goals as goal
 
 pub called_after-requires : goal.called_after-requires
-called_after-requires t c = let l = at-or-past (length c.args.index.now.source.tags.now) c.view_at-v.result.operands.gap c.view_at-v.result.operands.first c.operand_at-place.result c.operand_at-place.ensures in omega (arith, l, c.decreases, left_there _ _ _ c.args.index.now.source.same_length _ _ c.view_at-v.ensures c.if-v-at.false, c.if-v-at.false)
+called_after-requires t c = let l = at-or-past (length c.args.index.now.source.tags.now) c.view_at-v.result.operands.rest.gap c.view_at-v.result.operands.rest.next c.place-place.result c.place-place.ensures in omega (arith, l, c.decreases, left_there _ _ _ c.args.index.now.source.same_length _ _ c.view_at-v.ensures c.if-v-at.false, c.if-v-at.false)
 
 pub returns-in-Sample : goal.returns-in-Sample
-returns-in-Sample t c = λ e q types l node g s. let a = arm e _ _ (c.view_at-v.ensures.role e q g) c.in-Sample.is in let p = first_of c.args.index.now.source.names c.args.index.now.source.tags.now c.args.index.now.source.values.now c.args.index.now.source.same_length _ _ _ _ c.operand_at-place.ensures _ q (c.view_at-v.ensures.operands e q g) a.0 _ (ops-when e a.0 _ a.1) in c.called_after.ensures a.0 p.0 types l node p.1 s ∙ ap called_by (when-after types l node _ _ e _ a.0 _ a.1 c.parent-up.ensures)
+returns-in-Sample t c = λ e q types l node g s. let a = arm e _ _ (c.view_at-v.ensures.role e q g) c.in-Sample.is in let p = first_of c.args.index.now.source.names c.args.index.now.source.tags.now c.args.index.now.source.values.now c.args.index.now.source.same_length _ _ _ _ c.place-place.ensures _ q (c.view_at-v.ensures.operands e q g) a.0 _ (ops-when e a.0 _ a.1) in c.called_after.ensures a.0 p.0 types l node p.1 s ∙ ap called_by (when-after types l node _ _ e _ a.0 _ a.1 c.parent-up.ensures)
 
 pub returns-in-Call : goal.returns-in-Call
 returns-in-Call t c = λ e q types l node g s. let a = arm e _ _ (c.view_at-v.ensures.role e q g) c.in-Call.is in ap called_by (call_shape types l node _ _ e _ a.0 _ a.1 (c.call_after.ensures a.0 types l node s))

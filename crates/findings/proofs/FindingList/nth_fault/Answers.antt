@@ -27,5 +27,5 @@ returns-in_err-i c =
 
 pub returns : goal.returns
 returns c =
-    ap some (ap (λ (f : rules.Fault). record { equation = c.row_in-row.result.equation; fault = f }) c.fault_of.ensures ∙ c.row_in-row.ensures)
+    ap some (ap (λ (f : rules.Fault). record { equation = c.row_in-row.result.equation; fault = f }) c.from.ensures ∙ c.row_in-row.ensures)
     ∙ nth-some c.args.self.now.words.now c.args.self.now.count c.args.j c.in_ok-i.i (sym (ap (option_map (λ (i : ℕ). i)) c.in_ok-i.was) ∙ placed (goal.at.returns c).After-nth)

@@ -1,13 +1,27 @@
--- `lines::ListedNode::put_equations` meets its contract: the lines so far, and the equations left. Assumes nothing.
-use mathlib.Core.Path.{refl, ◌∙◌}
-use Rattle.lines.proofs.Laws.{lines_start, lines_step}
+-- `lines::ListedNode::put_equations` meets its contract: the lines so far, and the clocks left. Assumes nothing.
+use mathlib.Core.Path.{refl, ◌∙◌, ap}
+use Rattle.lines.proofs.Walks.{clocks-begin}
+use Rattle.lines.proofs.Laws.{lines_start, lines_step, lines_end}
 use Rattle.lines.proofs.ListedNode.put_equations.Goals as goal
 
 pub loop-i-init : goal.loop-i-init
-loop-i-init c = (record { names = refl; same = refl; out = refl }, λ M cs q g h. lines_start M _ _ _ _ _ _ _ _ q cs refl g h)
+loop-i-init c = (record { names = refl; same = refl; out = refl }, λ all h. lines_start _ _ all _ _ (ap (λ s. s.count) c.into_iter-i-iterator.ensures.into_iter_gives ∙ c.enumerate-i-items.ensures.count) h)
 
 pub loop-i-preserved : goal.loop-i-preserved
 loop-i-preserved c =
     let put = c.put_equation_line.ensures in
     let kept = c.loop-i.invariant.0 in
-    (record { names = put.names ∙ kept.names; same = put.same ∙ kept.same; out = put.wrote.same ∙ kept.out }, λ M cs q g h. lines_step M _ _ _ _ _ _ _ _ q _ _ _ c.loop-i-test.true c.get-c.ensures c.equation_end-place.ensures (rw kept.names at put.wrote) (c.loop-i.invariant.1 M cs q g h))
+    let steps = c.in-Some.ensures.steps in (
+      record { names = put.names ∙ kept.names; same = put.same ∙ kept.same; out = put.wrote.same ∙ kept.out },
+      λ all h. lines_step _ _ all (c.loop-i.invariant.1 all h) _ _ _ _ steps.0 steps.1 steps.2 (rw kept.names at put.wrote),
+    )
+
+pub returns-clause-spelled : goal.returns-clause-spelled
+returns-clause-spelled c = λ M cs q g h.
+    let kept = c.loop-i.invariant.0 in
+    let e = c.enumerate-i-items.ensures in
+    record {
+      names = kept.names;
+      same = kept.same;
+      wrote = lines_end _ _ _ (c.loop-i.invariant.1 _ (rw (c.into_iter-i-iterator.ensures.into_iter_gives, e.source, c.equation_clocks.ensures) (clocks-begin M cs q _ g h))) _ c.in-None.ensures.steps.0;
+    }

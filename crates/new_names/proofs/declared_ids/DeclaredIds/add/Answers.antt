@@ -1,6 +1,6 @@
 -- `new_names::declared_ids::DeclaredIds::add` meets its contract: the names so far, and the declarations left. Assumes nothing.
 use native.Mathlib.Omega.{arith}
-use Rattle.new_names.proofs.Ids.{putting-start, putting-next, putting-room, putting-end}
+use Rattle.new_names.proofs.Ids.{putting-start, putting-next, putting-room}
 use Rattle.new_names.proofs.declared_ids.DeclaredIds.add.Goals as goal
 
 pub loop-declared-init : goal.loop-declared-init
@@ -13,6 +13,3 @@ returns-then-self-ge-MOST_DECLARED c = λ l h u.
 
 pub loop-declared-preserved : goal.loop-declared-preserved
 loop-declared-preserved c = λ l h u. putting-next _ _ _ _ _ _ l _ _ (rw c.in-Some.ensures.steps at (c.loop-declared.invariant l h u))
-
-pub returns : goal.returns
-returns c = λ l h u. putting-end _ _ _ _ _ _ l _ (c.loop-declared.invariant l h u) c.in-None.ensures.steps.0

@@ -7,5 +7,5 @@ use Rattle.spelling.specs.Table.{NamesHeld}
 use Rattle.new_names.specs.Names.{ordered_names}
 use Rattle.new_names.proofs.flag_names.FlagNames.add_to.Given as goal
 
-abbrev pub invariant-loop-row : goal.invariant-loop-row
-invariant-loop-row l = (all : List Letters) → NamesHeld l.initial.table all → NamesHeld l.table (add_names all (ordered_names (stem_of l.stem) l.self.numbers l.self.order l.row-index))
+abbrev pub invariant-loop-i : goal.invariant-loop-i
+invariant-loop-i l = (all : List Letters) → NamesHeld l.initial.table all → NamesHeld l.table (add_names all (ordered_names (stem_of l.stem) l.self.numbers l.self.order l.i))

@@ -16,4 +16,4 @@ pub returns : goal.returns
 returns c = λ all node q condact cs types ns e laid few a b h.
     let own = c.of-own.ensures node q laid few in
     told-filled (old_needs types ns node condact cs no_needs) c.args.needs.now a b h all node _ (apart-old types ns node condact cs no_needs apart_none) (c.is_crowded.ensures.1 c.if-is_crowded.false)
-    (letters_in c.args.spelling) e c.fill.ensures.sorted (c.fill.ensures.numbered all node e own) c.fill-2.ensures.sorted (c.fill-2.ensures.numbered all node e own) (numbers-front all node hold _ _ c.args.self.now.hold_numbers c.args.needs.now.holds _ (omega arith) (omega (arith, (c.is_crowded.ensures.1 c.if-is_crowded.false).holds)) (c.number_stem.ensures all node e own)) refl refl
+    (letters_in c.args.named.spelling) e c.fill.ensures.sorted (c.fill.ensures.numbered all node e own) c.fill-2.ensures.sorted (c.fill-2.ensures.numbered all node e own) (numbers-front all node hold _ _ c.args.self.now.hold_numbers c.args.needs.now.holds _ (omega arith) (omega (arith, (c.is_crowded.ensures.1 c.if-is_crowded.false).holds)) (c.number_stem.ensures all node e own)) refl refl

@@ -29,12 +29,6 @@ loop-i-init c =
       few = rw (g, e.count) (omega arith);
     }
 
-pub has_before-requires : goal.has_before-requires
-has_before-requires c =
-    let s = c.in-Some.ensures.steps in
-    let f = left-first c.args.self.lengths.now c.args.self.letters.now _ _ c.loop-i.invariant.left _ _ s.0 in
-    omega (arith, f.0, s.1)
-
 pub returns-then-not-well_formed : goal.returns-then-not-well_formed
 returns-then-not-well_formed c =
     let s = c.in-Some.ensures.steps in

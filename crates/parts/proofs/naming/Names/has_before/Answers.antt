@@ -1,21 +1,20 @@
--- `parts::naming::Names::has_before` meets its contract. It is one of the first names just where it is one of those that are left.
+-- `parts::naming::Names::has_before` meets its contract. It is one of the names before where it is one of the first that are walked.
 -- Assumes nothing.
-use mathlib.Core.Path.{sym, ◌∙◌}
+use Rattle.std.proofs.Common.{rules, tests}
+use Rattle.std.proofs.lemmas.Iterator.{YieldsList-from_take}
+use Rattle.std.proofs.lemmas.Iterator.Consumers.{YieldsList-from_first}
+use Rattle.std.proofs.lemmas.Iterator.Search.{any_from_yields_List}
+use Rattle.std.specs.Str.{bytes_eq}
+use mathlib.Core.Path.{sym, ◌∙◌, ap}
 use Rattle.definitions.specs.Lists.{same_letters}
-use Rattle.parts.proofs.NamesLaws.{any-before, any-here, any-on, any-none, same_bytes}
+use Rattle.definitions.specs.Bytes.{cut}
+use Rattle.parts.specs.declared.naming.EachName.{EachName}
+use Rattle.parts.proofs.NamesLaws.{any-before, any-listed}
 use Rattle.parts.proofs.naming.Names.has_before.Goals as goal
 
-pub loop-earlier-init : goal.loop-earlier-init
-loop-earlier-init c =
-    rw (c.into_iter-earlier-iterator.ensures.into_iter_gives, c.take-earlier-items.ensures.count, c.take-earlier-items.ensures.source, c.each.ensures) (any-before c.args.self.lengths.now c.args.self.letters.now (same_letters c.args.name.now) c.args.count c.requires)
-
-pub returns-then-eq : goal.returns-then-eq
-returns-then-eq c =
-    sym (c.loop-earlier.invariant ∙ any-here (same_letters c.args.name.now) _ _ _ _ _ c.in-Some.ensures.steps.1 c.in-Some.ensures.steps.0 (sym (c.eq.ensures ∙ same_bytes c.args.name.now c.in-Some.earlier.now) ∙ c.if-eq.true))
-
-pub loop-earlier-preserved : goal.loop-earlier-preserved
-loop-earlier-preserved c =
-    c.loop-earlier.invariant ∙ any-on (same_letters c.args.name.now) _ _ _ _ _ c.in-Some.ensures.steps.1 c.in-Some.ensures.steps.0 (sym (c.eq.ensures ∙ same_bytes c.args.name.now c.in-Some.earlier.now) ∙ c.if-eq.false)
-
 pub returns : goal.returns
-returns c = sym (c.loop-earlier.invariant ∙ any-none (same_letters c.args.name.now) _ _ (λ h. (c.in-None.ensures.steps h).0))
+returns c =
+    let left = ap (λ (s : EachName). cut s.lengths.now s.letters.now) c.take.ensures.source ∙ c.each.ensures in
+    any_from_yields_List (bytes_eq c.args.name.now) c.any.new.self _ _ c.any.ensures.ran (YieldsList-from_take c.args.count (YieldsList-from_first (λ y. y.now) (λ s. cut s.lengths.now s.letters.now) _ left) c.take.ensures.count) (λ x b q k. search (rules, tests))
+    ∙ any-listed c.args.name.now _
+    ∙ sym (any-before c.args.self.lengths.now c.args.self.letters.now (same_letters c.args.name.now) c.args.count c.requires)

@@ -1,7 +1,5 @@
--- `spelling::name_table::NameTable::find_new` meets its contract: the letters of this new name are looked for. Assumes nothing.
-use mathlib.Core.Path.{ap, ◌∙◌}
-use Rattle.definitions.specs.Output.{id_of}
+-- `spelling::name_table::NameTable::find_new` meets its contract: this new name is looked for among those in use. Assumes nothing.
 use Rattle.spelling.proofs.name_table.NameTable.find_new.Goals as goal
 
 pub returns : goal.returns
-returns g c = c.unwrap_or.ensures ∙ c.find.ensures.value ∙ ap (id_of _) c.spell.ensures.value
+returns g c = rw (← c.each.ensures.value) c.find_new.ensures

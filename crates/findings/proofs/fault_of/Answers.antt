@@ -1,6 +1,0 @@
--- Its name and clocks.
-use mathlib.Core.Path.{refl}
-use Rattle.findings.proofs.fault_of.Goals as goal
-
-pub returns-in-2 : goal.returns-in-2
-returns-in-2 c = rw c.in-2.is refl

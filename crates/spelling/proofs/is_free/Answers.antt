@@ -1,6 +1,0 @@
--- `spelling::is_free` meets its contract. Assumes nothing.
-use Rattle.spelling.proofs.Free.{free-told}
-use Rattle.spelling.proofs.is_free.Goals as goal
-
-pub returns : goal.returns
-returns c = free-told _ _ c.args.number _ c.spell.ensures.value c.is_among.ensures

@@ -116,7 +116,6 @@ pub fn front(bytes: &[u8], n: usize) -> &[u8]
 }
 
 // Writes a refusal's line, `refused NUMBER PLACE: REASON`.
-// Stays (no plainer): programs pass two streams, `output` and `errors`: a struct of both takes two type parameters at each of 8 functions.
 pub fn refuse<W: Write>(errors: &mut W, r: Refusal) -> io::Result<()>
     ensures { OnOk result ((line : Letters) × (n : ℕ) × Put (reason_line r) 0 (replicate 256 0) n line × Appends (W.contents errors.old) (W.contents errors.new) (take n line)) }
 {

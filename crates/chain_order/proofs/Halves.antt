@@ -26,17 +26,17 @@ use Rattle.chain_order.proofs.Total.{chain-total, swap, rising-at}
 -- what an answer says
 answered-less : (o : Ordering) → answer_of o ≡ Less → o ≡ Ordering.lt
 answered-less Ordering.lt e = refl
-answered-less Ordering.eq e = absurd (let z : ◌≡◌ {A = ℕ} 0 1 = cc in omega arith)
-answered-less Ordering.gt e = absurd (let z : ◌≡◌ {A = ℕ} 0 1 = cc in omega arith)
+answered-less Ordering.eq e = absurd cc
+answered-less Ordering.gt e = absurd cc
 
 answered-same : (o : Ordering) → answer_of o ≡ Equal → o ≡ Ordering.eq
-answered-same Ordering.lt e = absurd (let z : ◌≡◌ {A = ℕ} 0 1 = cc in omega arith)
+answered-same Ordering.lt e = absurd cc
 answered-same Ordering.eq e = refl
-answered-same Ordering.gt e = absurd (let z : ◌≡◌ {A = ℕ} 0 1 = cc in omega arith)
+answered-same Ordering.gt e = absurd cc
 
 answered-more : (o : Ordering) → answer_of o ≡ Greater → o ≡ Ordering.gt
-answered-more Ordering.lt e = absurd (let z : ◌≡◌ {A = ℕ} 0 1 = cc in omega arith)
-answered-more Ordering.eq e = absurd (let z : ◌≡◌ {A = ℕ} 0 1 = cc in omega arith)
+answered-more Ordering.lt e = absurd cc
+answered-more Ordering.eq e = absurd cc
 answered-more Ordering.gt e = refl
 
 module _ (letters : ℕ → Letters) (rows o : List ℕ) (k : ℕ) (c : Clock) where

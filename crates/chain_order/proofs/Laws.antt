@@ -1,6 +1,6 @@
 -- Laws of the order of chains, and of rows put into it.
 -- Assumes nothing.
-use mathlib.Core.Path.{◌≡◌, refl, sym, ◌∙◌, ap, fun_ext}
+use mathlib.Core.Path.{◌≡◌, refl, sym, ◌∙◌, ap}
 use mathlib.Core.List.{List, [], ◌∷◌, ◌++◌, map, append_assoc}
 use mathlib.Core.Bool.{Bool, true, false}
 use Prim.Native.Nat.compare
@@ -14,15 +14,11 @@ use borrow.Author.Tests.{eqb-true, eqb-false, ltb-true, ltb-false}
 use Rattle.definitions.specs.declared.Condition.{Condition}
 use Rattle.definitions.specs.declared.Test.{Test}
 use Rattle.definitions.specs.contracts.TestOrd.TheImpl as derived
-use Rattle.definitions.specs.Lists.{Letters, sum}
-use Rattle.definitions.specs.Bytes.{cut}
-use Rattle.definitions.specs.Output.{letters_of}
+use Rattle.definitions.specs.Lists.{Letters}
 use Rattle.definitions.specs.Clock.{Clock, conditions, and_then, lexical, condition_order, test_order, chain_order, insert, in_chain_order}
 use Rattle.clock_tables.specs.Value.{at, clock_at}
 use Rattle.clock_tables.specs.Flat.{condition_at, conditions_from}
 use Rattle.clock_tables.proofs.FlatLaws.{at_from}
-use Rattle.spelling.specs.Places.{starts_from, letters_at}
-use Rattle.spelling.proofs.Places.{letters-name}
 use Rattle.clock_tables.specs.Rows.{clocks_from}
 use Rattle.clock_tables.proofs.RowsLaws.{from-none, from_more}
 use Rattle.std.proofs.Common.{nat_cmp, Ok, Err, min}
@@ -101,14 +97,14 @@ conditions-alike letters k l e f = f ∙ rw (e, letters-same (letters l.name)) r
 
 -- an answer is `Equal` where the orders are
 pub answer-eq : (o : Ordering) {r : cmp.Ordering} {t : Bool} → r ≡ answer_of o → t ≡ is_ne r → t ≡ false → o ≡ Ordering.eq
-answer-eq Ordering.lt e f g = absurd (let z : ◌≡◌ {A = ℕ} 0 1 = cc in omega arith)
+answer-eq Ordering.lt e f g = absurd cc
 answer-eq Ordering.eq e f g = refl
-answer-eq Ordering.gt e f g = absurd (let z : ◌≡◌ {A = ℕ} 0 1 = cc in omega arith)
+answer-eq Ordering.gt e f g = absurd cc
 
 -- the first order decides where it does not say same
 then-other : (o p : Ordering) {r : cmp.Ordering} {t : Bool} → r ≡ answer_of o → t ≡ is_ne r → t ≡ true → and_then o p ≡ o
 then-other Ordering.lt p e f g = refl
-then-other Ordering.eq p e f g = absurd (let z : ◌≡◌ {A = ℕ} 0 1 = cc in omega arith)
+then-other Ordering.eq p e f g = absurd cc
 then-other Ordering.gt p e f g = refl
 
 -- ---- conditions
@@ -383,7 +379,3 @@ module _ (letters : ℕ → Letters) (rows : List ℕ) (n : ℕ) where
       let b : i - 1 + 1 ≡ i = omega arith in
       let d : n - (i - 1) - 1 ≡ n - i = omega arith in
       rw (from_more rows (i - 1) (n - (i - 1)) a, b, d)
-
--- the letters by starts are those of the sheet's names
-pub letters-of : (lens letters : List ℕ) → sum lens ≤ length letters → letters_at (starts_from 0 lens) letters ≡ letters_of (cut lens letters)
-letters-of lens letters h = fun_ext (λ x. letters-name lens letters x h)

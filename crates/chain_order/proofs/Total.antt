@@ -7,7 +7,7 @@ use mathlib.Core.Bool.{true}
 use mathlib.Core.Logic.{◌⊎◌, inl, inr}
 use Prim.Native.Nat.compare
 use Prim.Native.Nat.{ℕ, zero, suc, ◌+◌, ◌<◌, compare, Ordering}
-use native.Mathlib.Omega.{arith}
+use native.Mathlib.Omega.{arith, compare-eq, compare-gt}
 use lib.ListN.{get_or}
 use Rattle.definitions.specs.declared.Condition.{Condition}
 use Rattle.definitions.specs.declared.Test.{Test}
@@ -34,12 +34,12 @@ then-swap Ordering.eq p = refl
 then-swap Ordering.gt p = refl
 
 then-both : (o p : Ordering) → and_then o p ≡ Ordering.eq → (o ≡ Ordering.eq) × (p ≡ Ordering.eq)
-then-both Ordering.lt p h = absurd (let z : ◌≡◌ {A = ℕ} 0 1 = cc in omega arith)
+then-both Ordering.lt p h = absurd cc
 then-both Ordering.eq p h = (refl, h)
-then-both Ordering.gt p h = absurd (let z : ◌≡◌ {A = ℕ} 0 1 = cc in omega arith)
+then-both Ordering.gt p h = absurd cc
 
 then-gt : (o p : Ordering) → and_then o p ≡ Ordering.gt → (o ≡ Ordering.gt) ⊎ ((o ≡ Ordering.eq) × (p ≡ Ordering.gt))
-then-gt Ordering.lt p h = absurd (let z : ◌≡◌ {A = ℕ} 0 1 = cc in omega arith)
+then-gt Ordering.lt p h = absurd cc
 then-gt Ordering.eq p h = inr (refl, h)
 then-gt Ordering.gt p h = inl refl
 
@@ -71,8 +71,8 @@ module _ {A : Type 0} (f : A → A → Ordering) (t : Total f) where
   lexical-alike : (k l m : List A) → lexical f k l ≡ Ordering.eq → lexical f k m ≡ lexical f l m
   unfolding lexical
   lexical-alike [] [] m h = refl
-  lexical-alike [] (b ∷ l) m h = absurd (let z : ◌≡◌ {A = ℕ} 0 1 = cc in omega arith)
-  lexical-alike (a ∷ k) [] m h = absurd (let z : ◌≡◌ {A = ℕ} 0 1 = cc in omega arith)
+  lexical-alike [] (b ∷ l) m h = absurd cc
+  lexical-alike (a ∷ k) [] m h = absurd cc
   lexical-alike (a ∷ k) (b ∷ l) [] h = refl
   lexical-alike (a ∷ k) (b ∷ l) (c ∷ m) h =
       let both = then-both (f a b) (lexical f k l) h in
@@ -80,10 +80,10 @@ module _ {A : Type 0} (f : A → A → Ordering) (t : Total f) where
 
   lexical-after : (k l m : List A) → lexical f k l ≡ Ordering.gt → lexical f l m ≡ Ordering.gt → lexical f k m ≡ Ordering.gt
   unfolding lexical
-  lexical-after [] [] m p q = absurd (let z : ◌≡◌ {A = ℕ} 0 1 = cc in omega arith)
-  lexical-after [] (b ∷ l) m p q = absurd (let z : ◌≡◌ {A = ℕ} 0 1 = cc in omega arith)
-  lexical-after (a ∷ k) [] [] p q = absurd (let z : ◌≡◌ {A = ℕ} 0 1 = cc in omega arith)
-  lexical-after (a ∷ k) [] (c ∷ m) p q = absurd (let z : ◌≡◌ {A = ℕ} 0 1 = cc in omega arith)
+  lexical-after [] [] m p q = absurd cc
+  lexical-after [] (b ∷ l) m p q = absurd cc
+  lexical-after (a ∷ k) [] [] p q = absurd cc
+  lexical-after (a ∷ k) [] (c ∷ m) p q = absurd cc
   lexical-after (a ∷ k) (b ∷ l) [] p q = refl
   lexical-after (a ∷ k) (b ∷ l) (c ∷ m) p q = then-after f t a b c (lexical f k l) (lexical f l m) (lexical f k m) (lexical-after k l m) p q
 
@@ -115,18 +115,6 @@ compare-swapped zero (suc b) = rw (compare.zero-suc b, compare.suc-zero b)
 compare-swapped (suc a) zero = rw (compare.zero-suc a, compare.suc-zero a)
 compare-swapped (suc a) (suc b) = rw (compare.suc-suc a b, compare.suc-suc b a) (compare-swapped a b)
 
-compare-eq : (a b : ℕ) → compare a b ≡ Ordering.eq → a ≡ b
-compare-eq zero zero h = refl
-compare-eq zero (suc b) h = absurd (let z : ◌≡◌ {A = ℕ} 0 1 = cc (compare.zero-suc b) in omega arith)
-compare-eq (suc a) zero h = absurd (let z : ◌≡◌ {A = ℕ} 0 1 = cc (compare.suc-zero a) in omega arith)
-compare-eq (suc a) (suc b) h = ap suc (compare-eq a b (sym (compare.suc-suc a b) ∙ h))
-
-compare-gt : (a b : ℕ) → compare a b ≡ Ordering.gt → b < a
-compare-gt zero zero h = absurd (let z : ◌≡◌ {A = ℕ} 0 1 = cc compare.zero-zero in omega arith)
-compare-gt zero (suc b) h = absurd (let z : ◌≡◌ {A = ℕ} 0 1 = cc (compare.zero-suc b) in omega arith)
-compare-gt (suc a) zero h = omega arith
-compare-gt (suc a) (suc b) h = omega (arith, compare-gt a b (sym (compare.suc-suc a b) ∙ h))
-
 compare-total : Total compare
 compare-total =
     record {
@@ -144,16 +132,16 @@ test-swapped Test.Not Test.Not = refl
 
 test-alike : (a b c : Test) → test_order a b ≡ Ordering.eq → test_order a c ≡ test_order b c
 test-alike Test.On Test.On c h = refl
-test-alike Test.On Test.Not c h = absurd (let z : ◌≡◌ {A = ℕ} 0 1 = cc in omega arith)
-test-alike Test.Not Test.On c h = absurd (let z : ◌≡◌ {A = ℕ} 0 1 = cc in omega arith)
+test-alike Test.On Test.Not c h = absurd cc
+test-alike Test.Not Test.On c h = absurd cc
 test-alike Test.Not Test.Not c h = refl
 
 test-after : (a b c : Test) → test_order a b ≡ Ordering.gt → test_order b c ≡ Ordering.gt → test_order a c ≡ Ordering.gt
-test-after Test.On Test.On c p q = absurd (let z : ◌≡◌ {A = ℕ} 0 1 = cc in omega arith)
-test-after Test.On Test.Not c p q = absurd (let z : ◌≡◌ {A = ℕ} 0 1 = cc in omega arith)
-test-after Test.Not Test.On Test.On p q = absurd (let z : ◌≡◌ {A = ℕ} 0 1 = cc in omega arith)
-test-after Test.Not Test.On Test.Not p q = absurd (let z : ◌≡◌ {A = ℕ} 0 1 = cc in omega arith)
-test-after Test.Not Test.Not c p q = absurd (let z : ◌≡◌ {A = ℕ} 0 1 = cc in omega arith)
+test-after Test.On Test.On c p q = absurd cc
+test-after Test.On Test.Not c p q = absurd cc
+test-after Test.Not Test.On Test.On p q = absurd cc
+test-after Test.Not Test.On Test.Not p q = absurd cc
+test-after Test.Not Test.Not c p q = absurd cc
 
 test-total : Total test_order
 test-total = record { swapped = test-swapped; alike = test-alike; after = test-after }
@@ -175,8 +163,8 @@ module _ (letters : ℕ → Letters) where
 
   -- ---- clocks that stand each after those before it
   is_gt : (o : Ordering) → is_after o ≡ true → o ≡ Ordering.gt
-  is_gt Ordering.lt e = absurd (let z : ◌≡◌ {A = ℕ} 0 1 = cc in omega arith)
-  is_gt Ordering.eq e = absurd (let z : ◌≡◌ {A = ℕ} 0 1 = cc in omega arith)
+  is_gt Ordering.lt e = absurd cc
+  is_gt Ordering.eq e = absurd cc
   is_gt Ordering.gt e = refl
 
   after-all : (c d : Clock) (ds : List Clock) → chain_order letters d c ≡ Ordering.gt → Before letters d ds → Before letters c ds

@@ -4,7 +4,7 @@ use mathlib.Core.Path.{◌≡◌, refl, sym, ◌∙◌, ap, subst}
 use mathlib.Core.Bool.{Bool, true, false, true≢false}
 use mathlib.Core.List.{List, [], ◌∷◌, ◌++◌, append-nil}
 use mathlib.Core.Option.{none, some}
-use Prim.Native.Nat.{ℕ, zero, suc, ◌+◌, ◌-◌, ◌≤◌, ◌<◌}
+use Prim.Native.Nat.{ℕ, suc, ◌+◌, ◌-◌, ◌≤◌, ◌<◌}
 use native.Mathlib.Omega.{arith}
 use lib.Dec.{eqb, ltb, leb}
 use lib.ListN.{length, get_or}
@@ -27,24 +27,21 @@ use Rattle.operands.proofs.Laws.{reads, token-there}
 use Rattle.stateless.specs.Need.{is_bare}
 use Rattle.skeleton.specs.Lies.{Frame, hole, is_plain, parts_at, Computes, Lies}
 use Rattle.skeleton.specs.Sites.{is_site, WasRead, Sited}
-use Rattle.skeleton.proofs.Laws.{plain-not, Seen, sign-first, expr-first, seen-cons}
+use Rattle.skeleton.proofs.Laws.{fewer, no-sample, plain-not, Seen, sign-first, expr-first, seen-cons}
 use Rattle.checking.specs.Walk.{is_site_tag, meets}
 use Rattle.checking.proofs.Laws.{meets-name, meets-none}
 
 -- ---- parts, then others
 module _ {gs vs : List ℕ} {S : Clock → Expr → ℕ → ℕ → Type 0} where
-  many-as : {c : Clock} {es : Exprs} {fs : Frame} {p k m q : ℕ} → k ≡ m → Lies gs vs S c es fs p k q → Lies gs vs S c es fs p m q
-  many-as {c} {es} {fs} {p} {k} {m} {q} i h = subst (λ (z : ℕ). Lies gs vs S c es fs p z q) i h
-
   pub lies-join : {c : Clock} {us es : Exprs} {ds fs : Frame} {p a r k q : ℕ} → Lies gs vs S c us ds p a r → Lies gs vs S c es fs r k q → Lies gs vs S c (append us es) (ds ++ fs) p (a + k) q
-  lies-join Lies.done o = many-as (omega arith) o
-  lies-join {k = k} (Lies.sign {k = a} b t h) o = many-as (omega arith) (Lies.sign {k = a + k} b t (many-as (omega arith) (lies-join h o)))
-  lies-join (Lies.computed b s f d h) o = many-as (omega arith) (Lies.computed b s f d (lies-join h o))
-  lies-join (Lies.previous b s i d h) o = many-as (omega arith) (Lies.previous b s i d (lies-join h o))
-  lies-join (Lies.follow b s i d f h) o = many-as (omega arith) (Lies.follow b s i d f (lies-join h o))
-  lies-join (Lies.calls b s i a d h) o = many-as (omega arith) (Lies.calls b s i a d (lies-join h o))
-  lies-join (Lies.sample b s i j d h) o = many-as (omega arith) (Lies.sample b s i j d (lies-join h o))
-  lies-join (Lies.join b s i d f h) o = many-as (omega arith) (Lies.join b s i d f (lies-join h o))
+  lies-join Lies.done o = fewer (omega arith) o
+  lies-join {k = k} (Lies.sign {k = a} b t h) o = fewer (omega arith) (Lies.sign {k = a + k} b t (fewer (omega arith) (lies-join h o)))
+  lies-join (Lies.computed b s f d h) o = fewer (omega arith) (Lies.computed b s f d (lies-join h o))
+  lies-join (Lies.previous b s i d h) o = fewer (omega arith) (Lies.previous b s i d (lies-join h o))
+  lies-join (Lies.follow b s i d f h) o = fewer (omega arith) (Lies.follow b s i d f (lies-join h o))
+  lies-join (Lies.calls b s i a d h) o = fewer (omega arith) (Lies.calls b s i a d (lies-join h o))
+  lies-join (Lies.sample b s i j d h) o = fewer (omega arith) (Lies.sample b s i j d (lies-join h o))
+  lies-join (Lies.join b s i d f h) o = fewer (omega arith) (Lies.join b s i d f (lies-join h o))
 
 -- the same apart, where each expression ends at one place whatever is known of it
 module _ (gs vs : List ℕ) (S T : Clock → Expr → ℕ → ℕ → Type 0) (ends : (c : Clock) (e : Expr) (p r s : ℕ) → S c e p r → T c e p s → s ≡ r) (es : Exprs) (fs : Frame) (k q : ℕ) where
@@ -59,8 +56,7 @@ module _ (gs vs : List ℕ) (S T : Clock → Expr → ℕ → ℕ → Type 0) (e
       go : (t : Bool) → ltb (get_or gs p 0) 50 ≡ t → Both c (Exprs.and e us) (none ∷ ds) p (suc a) z
       go true t =
           let x = sign-first g (omega arith) (ltb-true (get_or gs p 0) 50 t) in
-          let y : ◌≡◌ {A = ℕ} 0 1 = cc x.1 in
-          absurd (omega arith)
+          absurd (cc x.1)
       go false t =
           let x = expr-first g (omega arith) (ltb-false (get_or gs p 0) 50 t) in
           let i₁ : x.first ≡ e = cc x.whole in
@@ -102,7 +98,7 @@ module _ (M : ℕ) (gs vs : List ℕ) where
       where
         go : (u : ExprToken) (b : Bool) → ltb (get_or vs p 0) M ≡ b → given b t ≡ some u → role_of u ≡ role_of_expr e → (get_or vs p 0 < M) × (role_of t ≡ role_of_expr e)
         go u true h j k = let l : t ≡ u = cc j in (ltb-true (get_or vs p 0) M h, ap role_of l ∙ k)
-        go u false h j k = let y : ◌≡◌ {A = ℕ} 0 1 = cc j in absurd (omega arith)
+        go u false h j k = absurd (cc j)
 
     pub name-is : get_or gs p 0 ≡ 54 → (get_or vs p 0 < M) × (Role.Name (get_or vs p 0) ≡ role_of_expr e)
     unfolding expr_token_of
@@ -202,10 +198,5 @@ module _ (M : ℕ) (gs vs : List ℕ) (same : length vs ≡ length gs) (c : Cloc
         marked = λ h. rw t;
         again = λ later o. Seen.calls f us ds i t k a o;
       }
-  opened e q g (Seen.sample x a i lo hi d) n67 n68 n69 = absurd (two-tags (get_or gs p 0 - 67) refl)
-    where
-      two-tags : (d : ℕ) → get_or gs p 0 - 67 ≡ d → ⊥
-      two-tags zero z = n67 (omega arith)
-      two-tags (suc zero) z = n68 (omega arith)
-      two-tags (suc (suc n)) z = omega arith
+  opened e q g (Seen.sample x a i lo hi d) n67 n68 n69 = absurd (no-sample (get_or gs p 0) n67 n68 lo hi)
   opened e q g (Seen.join x a b r i t k d f) n67 n68 n69 = absurd (n69 t)

@@ -1,5 +1,5 @@
 -- Checking, step by step: a name's clock, what is met at a token, operands on what may be a clock, a when and a merge.
-use mathlib.Core.Path.{◌≡◌, refl, sym, ◌∙◌, ap}
+use mathlib.Core.Path.{◌≡◌, refl, sym, ◌∙◌, ap, subst}
 use mathlib.Core.List.{List, [], ◌∷◌, ◌++◌, append_assoc, append-nil}
 use mathlib.Core.Bool.{Bool, true, false}
 use mathlib.Core.Logic.{◌⊎◌, inl, inr}
@@ -7,17 +7,23 @@ use mathlib.Core.Option.{Option, none, some}
 use Prim.Native.Nat.{ℕ, ◌+◌, ◌*◌, ◌≤◌, ◌<◌}
 use native.Mathlib.Omega.{arith}
 use lib.Dec.{eqb, ltb}
-use lib.ListN.{length}
+use lib.ListN.{length, get_or}
 use borrow.Author.Tests.{eqb-true, eqb-false, ltb-true, ltb-false, ne_eqb}
 use Rattle.definitions.specs.declared.Condition.{Condition}
 use Rattle.definitions.specs.Lists.{choose}
+use Rattle.definitions.specs.Tokens.{TagValue}
 use Rattle.definitions.specs.Tree.{Expr}
-use Rattle.definitions.specs.Clock.{Clock, ◌↓◌, depth, deepest, parent, same_clock, ends_in}
+use Rattle.definitions.specs.Clock.{Clock, base, ◌↓◌, depth, deepest, parent, same_clock, ends_in}
 use Rattle.definitions.specs.InferClocks as rules
-use Rattle.definitions.specs.InferClocks.{Clocks, clock_of, deep, formed, condition_over, natural, Fault, left_elsewhere, used_elsewhere, when_elsewhere, clock_name_elsewhere, Finding, found, site, too_deep, one_down, on_natural, must_be_on, check}
+use Rattle.definitions.specs.InferClocks.{Clocks, clock_of, deep, formed, condition_over, natural, Fault, left_elsewhere, used_elsewhere, when_elsewhere, clock_name_elsewhere, Finding, found, site, too_deep, one_down, on_natural, or_base, must_be_on, check}
 use Rattle.std.specs.Prelude.{Result, Ok, Err, IsOkAnd}
 use Rattle.std.specs.Result.{MatchResult}
 use Rattle.std.specs.Prelude as maybe
+use Rattle.std.specs.Option.{unwrap_or}
+use Rattle.grammar.specs.declared.source.Source.{Source}
+use Rattle.grammar.specs.Read.{tokens_of}
+use Rattle.grammar.specs.Step.{step_of, step_at}
+use Rattle.grammar.proofs.ReaderLaws.{tokens-at, tokens-end}
 use Rattle.clock_tables.specs.declared.clock.Clock as struct
 use Rattle.clock_tables.specs.declared.TooDeep.{TooDeep}
 use Rattle.clock_tables.specs.Value.{value_of, option_of, reached_of, natural_of}
@@ -25,10 +31,45 @@ use Rattle.clock_tables.specs.Flat.{clock_in}
 use Rattle.clock_tables.proofs.FlatLaws.{Within, clock-same}
 use Rattle.clock_tables.specs.Environment.{env_at}
 use Rattle.findings.specs.Findings.{FindingsHeld}
+use Rattle.findings.specs.Met.{Met}
+use Rattle.findings.specs.declared.Findings as table
 use Rattle.findings.specs.Value.{clock_fault_of}
 use Rattle.findings.specs.declared.ClockFault.{ClockFault}
 use Rattle.checking.specs.Walk.{other_than, meets, SiteStored, Stays}
 use Rattle.checking.specs.declared.CheckOutput.{CheckOutput}
+
+-- ---- what stands at a place, by what `token_at` says
+module _ (s : Source) (p : ℕ) (o : maybe.Option (ℕ × ℕ × ℕ)) where
+  -- this tag and value, and the next place
+  abbrev pub Tells : ℕ → ℕ → ℕ → Type 0
+  Tells tag x next = (o ≡ step_at (tokens_of s) p) × (o ≡ maybe.Some (tag, x, next))
+
+  -- no token any more
+  abbrev pub Ends : Type 0
+  Ends = (o ≡ step_at (tokens_of s) p) × (o ≡ maybe.None)
+
+  token-here : o ≡ step_at (tokens_of s) p → p < length s.tags.now → o ≡ maybe.Some (get_or s.tags.now p 0, get_or s.values.now p 0, p + 1)
+  token-here e h = e ∙ ap (λ (t : Option TagValue). step_of t p) (tokens-at s.tags.now s.values.now p s.same_length h)
+
+  token-past : o ≡ step_at (tokens_of s) p → length s.tags.now ≤ p → o ≡ maybe.None
+  token-past e h = e ∙ ap (λ (t : Option TagValue). step_of t p) (tokens-end s.tags.now s.values.now p h)
+
+  pub token-none : Ends → length s.tags.now ≤ p
+  token-none (e, i) = go (ltb p (length s.tags.now)) refl
+    where
+      go : (b : Bool) → ltb p (length s.tags.now) ≡ b → length s.tags.now ≤ p
+      go true h = let j = token-here e (ltb-true p (length s.tags.now) h) in absurd cc
+      go false h = ltb-false p (length s.tags.now) h
+
+  pub token-some : (tag x next : ℕ) → Tells tag x next → (tag ≡ get_or s.tags.now p 0) × (x ≡ get_or s.values.now p 0) × (next ≡ p + 1)
+  token-some tag x next (e, i) = go (ltb p (length s.tags.now)) refl
+    where
+      go : (b : Bool) → ltb p (length s.tags.now) ≡ b → (tag ≡ get_or s.tags.now p 0) × (x ≡ get_or s.values.now p 0) × (next ≡ p + 1)
+      go true h =
+          let j = token-here e (ltb-true p (length s.tags.now) h) in
+          let m : ◌≡◌ {A = ℕ × ℕ × ℕ} (tag, x, next) (get_or s.tags.now p 0, get_or s.values.now p 0, p + 1) = cc in
+          (ap (λ (y : ℕ × ℕ × ℕ). y.0) m, ap (λ (y : ℕ × ℕ × ℕ). y.1) m, ap (λ (y : ℕ × ℕ × ℕ). y.2) m)
+      go false h = let j = token-past e (ltb-false p (length s.tags.now) h) in absurd cc
 
 -- ---- a clock unless it is too deep, as what may be a clock
 pub some-clock : (r : Result struct.Clock TooDeep) (n : Result (maybe.Option struct.Clock) TooDeep) (Q : struct.Clock → maybe.Option struct.Clock → Type 0)
@@ -36,6 +77,11 @@ pub some-clock : (r : Result struct.Clock TooDeep) (n : Result (maybe.Option str
 some-clock (Ok d) (Ok o) Q f h = ap (λ (u : maybe.Option struct.Clock). formed (option_of u)) (f d o h)
 some-clock (Ok d) (Err e) Q f h = absurd h
 some-clock (Err e) n Q f h = ap natural_of h
+
+-- a clock, or base
+pub or_value : (o : maybe.Option struct.Clock) (b c : struct.Clock) → value_of b ≡ base → c ≡ unwrap_or o b → value_of c ≡ or_base (option_of o)
+or_value maybe.None b c e i = ap value_of i ∙ e
+or_value (maybe.Some d) b c e i = ap value_of i
 
 -- ---- tables and lists
 pub stays-then : (o o' o'' : CheckOutput) → Stays o o' → Stays o' o'' → Stays o o''
@@ -48,11 +94,22 @@ stays-then o o' o'' a b =
       sites_length = b.sites_length ∙ a.sites_length;
     }
 
-pub holds-nil : (t : List ℕ) (n : ℕ) (fs l : List Finding) → l ≡ [] → FindingsHeld t n fs → FindingsHeld t n (fs ++ l)
-holds-nil t n fs l e h = rw (e, append-nil fs) h
+-- nothing is met where the table is as it was
+pub nothing-met : (t u : table.Findings) (l : List Finding) → l ≡ [] → u ≡ t → Met l t u
+nothing-met t u l e i = rw (e, i) (record { same_reference = refl; same_length = refl; held = λ fs h. rw (append-nil fs) h })
 
-pub holds_by : (t : List ℕ) (n : ℕ) (fs k l : List Finding) → k ≡ l → FindingsHeld t n (fs ++ k) → FindingsHeld t n (fs ++ l)
-holds_by t n fs k l e h = rw e at h
+-- these findings are those, and that table is this
+pub met-as : (t t' u : table.Findings) (k l : List Finding) → k ≡ l → t' ≡ t → Met k t' u → Met l t u
+met-as t t' u k l e i m = rw (e, i) at m
+
+-- these findings, then those
+pub met-then : (t u v : table.Findings) (k l : List Finding) → Met k t u → Met l u v → Met (k ++ l) t v
+met-then t u v k l a b =
+    record {
+      same_reference = b.same_reference ∙ a.same_reference;
+      same_length = b.same_length ∙ a.same_length;
+      held = λ fs h. subst (λ (z : List Finding). FindingsHeld v.words.now v.count z) (append_assoc fs k l) (b.held (fs ++ k) (a.held fs h));
+    }
 
 -- ---- a name's clock, where it is another
 module _ (clocks : Clocks) (i : ℕ) (c : Clock) (F : Clock → Fault) where
@@ -125,7 +182,7 @@ one_down_lem n c k f i = rw i (go (ltb (depth c) deepest))
     go false = refl
 
 -- ---- a when
-module _ (clocks : Clocks) (i : ℕ) (c : Clock) (k : Condition) (e : Expr) (b : Bool) (j : b ≡ ends_in k c) (fs : List Finding) where
+module _ (clocks : Clocks) (i : ℕ) (c : Clock) (k : Condition) (e : Expr) (b : Bool) (j : b ≡ ends_in k c) where
   -- by whether the condition matches
   abbrev when-by : Bool → List Finding
   when-by true = must_be_on clocks i (parent c) k.name (λ a. clock_name_elsewhere k.name a (parent c)) ++ check clocks i (parent c) e
@@ -142,15 +199,11 @@ module _ (clocks : Clocks) (i : ℕ) (c : Clock) (k : Condition) (e : Expr) (b :
       go true = refl
       go false = refl
 
-  pub when-match : (u : Clock) → b ≡ true → u ≡ parent c → (fs ++ must_be_on clocks i u k.name (λ a. clock_name_elsewhere k.name a u)) ++ check clocks i u e ≡ fs ++ check clocks i c (Expr.when k e)
-  when-match u h m =
-      append_assoc fs _ _
-      ∙ ap (λ (x : List Finding). fs ++ x) (ap (λ (w : Clock). must_be_on clocks i w k.name (λ a. clock_name_elsewhere k.name a w) ++ check clocks i w e) m ∙ sym (when-is ∙ ap when-by h))
+  pub when-match : (u : Clock) → b ≡ true → u ≡ parent c → must_be_on clocks i u k.name (λ a. clock_name_elsewhere k.name a u) ++ check clocks i u e ≡ check clocks i c (Expr.when k e)
+  when-match u h m = ap (λ (w : Clock). must_be_on clocks i w k.name (λ a. clock_name_elsewhere k.name a w) ++ check clocks i w e) m ∙ sym (when-is ∙ ap when-by h)
 
-  pub when-other : (n : rules.Natural) → b ≡ false → n ≡ natural clocks e → (fs ++ (found (record { equation = i; fault = when_elsewhere k c }) ∷ [])) ++ on_natural n (λ a. check clocks i a e) ≡ fs ++ check clocks i c (Expr.when k e)
-  when-other n h l =
-      append_assoc fs _ _
-      ∙ ap (λ (x : List Finding). fs ++ x) (ap (λ (m : rules.Natural). found (record { equation = i; fault = when_elsewhere k c }) ∷ on_natural m (λ a. check clocks i a e)) l ∙ sym (when-is ∙ ap when-by h))
+  pub when-other : (n : rules.Natural) → b ≡ false → n ≡ natural clocks e → found (record { equation = i; fault = when_elsewhere k c }) ∷ on_natural n (λ a. check clocks i a e) ≡ check clocks i c (Expr.when k e)
+  when-other n h l = ap (λ (m : rules.Natural). found (record { equation = i; fault = when_elsewhere k c }) ∷ on_natural m (λ a. check clocks i a e)) l ∙ sym (when-is ∙ ap when-by h)
 
 -- a fault of a left name, which says whether it is an input or output
 pub left-told : (x : ℕ) (d on : struct.Clock) (f : ClockFault) (port b : Bool) → f ≡ ClockFault.LeftElsewhere (record { name = x; on = d; expected = on }) port → port ≡ b → clock_fault_of f ≡ left_elsewhere x (value_of d) (value_of on) b

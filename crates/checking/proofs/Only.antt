@@ -1,25 +1,21 @@
 -- Findings that are sites alone.
 -- Assumes nothing.
-use mathlib.Core.Path.{◌≡◌, refl, sym, ap₂}
-use mathlib.Core.Bool.{Bool, true, false, true≢false, ◌&&◌}
+use mathlib.Core.Path.{◌≡◌, refl, ap₂}
+use mathlib.Core.Bool.{true, false, true≢false, ◌&&◌}
 use mathlib.Core.List.{List, [], ◌∷◌, ◌++◌}
 use Prim.Native.Nat.{ℕ}
-use native.Mathlib.Omega.{arith}
+use Rattle.std.proofs.lemmas.Bool.{and_parts}
 use Rattle.definitions.specs.Lists.{any}
 use Rattle.definitions.specs.Tree.{Equation, Node}
 use Rattle.definitions.specs.Clock.{Clock}
 use Rattle.definitions.specs.InferClocks.{Clocks, Finding, found, site, too_deep, is_too_deep, clock_faults, check, check_left, check_equation}
 use Rattle.checking.specs.Walk.{is_site_found, only_sites}
 
-both_true : (a b : Bool) → a && b ≡ true → (a ≡ true) × (b ≡ true)
-both_true true b h = (refl, h)
-both_true false b h = absurd (true≢false (sym h))
-
 -- of two lists, both
 pub only-both : (a b : List Finding) → only_sites (a ++ b) ≡ true → (only_sites a ≡ true) × (only_sites b ≡ true)
 only-both [] b h = (refl, h)
 only-both (x ∷ a) b h =
-    let u = both_true (is_site_found x) (only_sites (a ++ b)) h in
+    let u = and_parts (is_site_found x) (only_sites (a ++ b)) h in
     let v = only-both a b u.1 in
     (ap₂ ◌&&◌ u.0 v.0, v.1)
 
@@ -27,7 +23,7 @@ only-both (x ∷ a) b h =
 pub sites-alone : (fs : List Finding) → clock_faults fs ≡ [] → any is_too_deep fs ≡ false → only_sites fs ≡ true
 unfolding clock_faults
 sites-alone [] h d = refl
-sites-alone (found f ∷ fs) h d = let z : ◌≡◌ {A = ℕ} 0 1 = cc h in absurd (omega arith)
+sites-alone (found f ∷ fs) h d = absurd (cc h)
 sites-alone (site c ∷ fs) h d = sites-alone fs h d
 sites-alone (too_deep ∷ fs) h d = absurd (true≢false d)
 

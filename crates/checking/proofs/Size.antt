@@ -21,7 +21,8 @@ use Rattle.operands.specs.Role.{operands_of}
 use Rattle.operands.specs.Spread.{tree, spread, later}
 use Rattle.operands.proofs.Laws.{reads, spread-nil, spread-cons, before-place, behind-place, name-place}
 use Rattle.grammar.proofs.Longer.{expr-grows, counted-grows}
-use Rattle.checking.proofs.Left.{times-nil, times-cons, equation-count, equation-parts}
+use Rattle.grammar.proofs.Got.{times-nil, times-cons}
+use Rattle.checking.proofs.Left.{equation-parts}
 
 -- the number of a tree's expressions
 unfoldable mutual
@@ -145,11 +146,11 @@ module _ (M : ℕ) (ts : List TagValue) where
   none-take g zero p q h = let z = (spread-nil M (tree M) ts g zero p Exprs.end q refl h).1 in omega arith
   none-take g (suc n) p q h =
       let k = spread-cons M (tree M) ts g (suc n) p Exprs.end q (λ z. omega (arith, z)) h in
-      let z : ◌≡◌ {A = ℕ} 0 1 = cc k.11 in absurd (omega arith)
+      absurd (cc k.11)
 
   more-take : (e : Expr) (es : Exprs) → Takes e → Take es → Take (Exprs.and e es)
   unfolding size
-  more-take e es f fs g zero p q h = let z = (spread-nil M (tree M) ts g zero p (Exprs.and e es) q refl h).0 in let y : ◌≡◌ {A = ℕ} 0 1 = cc in absurd (omega arith)
+  more-take e es f fs g zero p q h = let z = (spread-nil M (tree M) ts g zero p (Exprs.and e es) q refl h).0 in absurd cc
   more-take e es f fs g (suc n) p q h =
       let k = spread-cons M (tree M) ts g (suc n) p (Exprs.and e es) q (λ z. omega (arith, z)) h in
       let i : k.2 ≡ e = cc k.11 in
@@ -184,7 +185,7 @@ module _ (M : ℕ) (ts : List TagValue) where
     take (Exprs.and e es) g n p q h = more-take e es (λ u v k. takes e u v k) (λ d m u v k. take es d m u v k) g n p q h
 
   -- THE LAW: the findings of an expression are at most its tokens
-  pub expr-fits : (clocks : Clocks) (i : ℕ) (c : Clock) (e : Expr) (p q : ℕ) → tree M ts p ≡ got e q → p + length (check clocks i c e) ≤ q
+  expr-fits : (clocks : Clocks) (i : ℕ) (c : Clock) (e : Expr) (p q : ℕ) → tree M ts p ≡ got e q → p + length (check clocks i c e) ≤ q
   expr-fits clocks i c e p q g = omega (arith, few clocks i c e, takes e p q g)
 
   names-take : (n p : ℕ) (xs : List ℕ) (q : ℕ) → times n (name M) ts p ≡ got xs q → p + length xs ≤ q
@@ -197,23 +198,22 @@ module _ (M : ℕ) (ts : List TagValue) where
       rw a.5 (omega (arith, b.0))
 
   -- those of an equation
-  pub equation-fits : (node : Node) (clocks : Clocks) (i : ℕ) (c : Clocked) (p q : ℕ) → equation M ts p ≡ got c.equation q → p + length (check_equation node clocks i c) ≤ q
+  equation-fits : (node : Node) (clocks : Clocks) (i : ℕ) (c : Clocked) (p q : ℕ) → equation M ts p ≡ got c.equation q → p + length (check_equation node clocks i c) ≤ q
   unfolding check_equation
   equation-fits node clocks i c p q g =
-      let n = equation-count M ts p c.equation q g in
-      let a = equation-parts M ts p c.equation q n.0 n.1 g n.2 in
-      let l = counted-grows 3 1 8 ts p n.0 n.1 n.2 in
-      let x = names-take n.0 n.1 c.equation.left a.0 a.1 in
-      let r = expr-fits clocks i c.clock c.equation.right a.0 q a.2 in
+      let n = equation-parts M ts p c.equation q g in
+      let l = counted-grows 3 1 8 ts p n.0 n.1 n.3 in
+      let x = names-take n.0 n.1 c.equation.left n.2 n.4 in
+      let r = expr-fits clocks i c.clock c.equation.right n.2 q n.5 in
       omega (arith, l, x, r, left-few clocks i node c.clock c.equation.left, length-append (check_left clocks i node c.clock c.equation.left) (check clocks i c.clock c.equation.right))
 
   -- those of a node's equations, from equation j on
   pub equations-fit : (node : Node) (clocks : Clocks) (n p : ℕ) (es : List Equation) (q : ℕ) → times n (equation M) ts p ≡ got es q → (cs : List Clocked) → map (λ c. c.equation) cs ≡ es → (j : ℕ) → p + length (join (numbered (check_equation node clocks) j cs)) ≤ q
   equations-fit node clocks zero p es q g [] w j = let z = times-nil (equation M) ts zero p es q refl g in omega (arith, z.1)
-  equations-fit node clocks zero p es q g (c ∷ cs) w j = let z = (times-nil (equation M) ts zero p es q refl g).0 in let y : ◌≡◌ {A = ℕ} 0 1 = cc in absurd (omega arith)
+  equations-fit node clocks zero p es q g (c ∷ cs) w j = let z = (times-nil (equation M) ts zero p es q refl g).0 in absurd cc
   equations-fit node clocks (suc n) p es q g [] w j =
       let a = times-cons (equation M) ts (suc n) p es q (λ z. omega (arith, z)) g in
-      let y : ◌≡◌ {A = ℕ} 0 1 = cc a.5 in absurd (omega arith)
+      absurd (cc a.5)
   equations-fit node clocks (suc n) p es q g (c ∷ cs) w j =
       let a = times-cons (equation M) ts (suc n) p es q (λ z. omega (arith, z)) g in
       let x : a.0 ≡ c.equation = cc a.5 in

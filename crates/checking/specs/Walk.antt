@@ -1,19 +1,20 @@
 -- Checking in the code's terms: what is met at a token, and what a walk did to the tables of findings and of sites.
-use Rattle.std.specs.Prelude.{ℕ, ◌+◌, ◌*◌, ◌≤◌, ◌<◌, ◌≡◌, List, [], ◌∷◌, ◌++◌, Bool, true, false, ◌⊎◌, eqb, length, get_or}
+use Rattle.std.specs.Prelude.{ℕ, ◌+◌, ◌*◌, ◌≤◌, ◌<◌, ◌≡◌, List, [], ◌∷◌, Bool, true, false, ◌⊎◌, eqb, length, get_or}
 use Rattle.std.proofs.Math.Option.{Option, none, some}
 use Rattle.definitions.specs.Lists.{choose, all}
-use Rattle.definitions.specs.Tree.{Expr, Equation, Node}
+use Rattle.definitions.specs.Tree.{Expr, Exprs, Equation, Node}
 use Rattle.definitions.specs.Clock.{Clock, same_clock}
 use Rattle.definitions.specs.InferClocks.{Clocks, is_port, used_elsewhere, Fault, Finding, found, site, too_deep, must_be_on, check}
+use Rattle.grammar.specs.declared.source.Source.{Source}
 use Rattle.clock_tables.specs.declared.clock.Clock as struct
 use Rattle.clock_tables.specs.Value.{value_of}
 use Rattle.clock_tables.specs.Flat.{clock_in}
 use Rattle.clock_tables.specs.Environment.{Agrees}
-use Rattle.findings.specs.Findings.{FindingsHeld}
+use Rattle.findings.specs.Met.{Met}
 use Rattle.findings.specs.declared.ClockFault.{ClockFault}
 use Rattle.findings.specs.Value.{clock_fault_of}
-use Rattle.skeleton.specs.Lies.{LiesAt}
-use Rattle.skeleton.specs.Sites.{Sited, EquationSited}
+use Rattle.skeleton.specs.Lies.{Frame, Lies, LiesAt}
+use Rattle.skeleton.specs.Sites.{WasRead, Sited, EquationSited}
 use Rattle.checking.specs.declared.CheckInput.{CheckInput}
 use Rattle.checking.specs.declared.CheckOutput.{CheckOutput}
 
@@ -52,23 +53,13 @@ pub record SiteStored (sites sites' : List ℕ) (b : Bool) (c : Clock) (p : ℕ)
   pub here : b ≡ true → 17 * p + 17 ≤ length sites → clock_in sites' (17 * p) ≡ c
   pub elsewhere : (j : ℕ) → (j ≡ p → ⊥) → clock_in sites' (17 * j) ≡ clock_in sites (17 * j)
 
--- where a walk ended, and how many findings there are then
-pub record CheckedTo : Type 0 where
-  pub end : ℕ
-  pub count : ℕ
-
--- what a walk from p up to q did that met these findings: where it ended, what the table of findings holds, which rows of sites are as
--- before, and what every later table says that has the same rows, where sites alone were met
-pub record Traversed (M : ℕ) (gs vs env t t' sites sites' : List ℕ) (n : ℕ) (met : Clocks → List Finding) (Says : List ℕ → Type 0) (p q : ℕ) (r : CheckedTo) : Type 0 where
-  pub end : r.end ≡ q
-  pub holds : (clocks : Clocks) (fs : List Finding) → Agrees env M clocks → FindingsHeld t n fs → FindingsHeld t' r.count (fs ++ met clocks)
-  pub kept : (j : ℕ) → (j < p) ⊎ (q ≤ j) → clock_in sites' (17 * j) ≡ clock_in sites (17 * j)
-  pub sited : (clocks : Clocks) → 17 * length gs ≤ length sites → only_sites (met clocks) ≡ true → (later : List ℕ) → ((j : ℕ) → p ≤ j → j < q → clock_in later (17 * j) ≡ clock_in sites' (17 * j)) → Says later
-
--- the same, of what checking reads and writes: r is where the walk ended
-abbrev pub Walked : CheckInput → CheckOutput → CheckOutput → (Clocks → List Finding) → (List ℕ → Type 0) → ℕ → ℕ → ℕ → Type 0
-Walked k o o' met Says p q r =
-    Traversed k.source.names k.source.tags.now k.source.values.now k.env.now o.findings.now.words.now o'.findings.now.words.now o.sites.now o'.sites.now o.findings.now.count met Says p q (record { end = r; count = o'.findings.now.count })
+-- what a walk from p up to q did that met these findings: that it ended there, what the table of findings holds, which rows of sites are
+-- as before, and what every later table says that has the same rows, where sites alone were met
+pub record Traversed (k : CheckInput) (o o' : CheckOutput) (met : Clocks → List Finding) (Says : List ℕ → Type 0) (p q r : ℕ) : Type 0 where
+  pub end : r ≡ q
+  pub holds : (clocks : Clocks) → Agrees k.env.now k.source.names clocks → Met (met clocks) o.findings.now o'.findings.now
+  pub kept : (j : ℕ) → (j < p) ⊎ (q ≤ j) → clock_in o'.sites.now (17 * j) ≡ clock_in o.sites.now (17 * j)
+  pub sited : (clocks : Clocks) → 17 * length k.source.tags.now ≤ length o.sites.now → only_sites (met clocks) ≡ true → (later : List ℕ) → ((j : ℕ) → p ≤ j → j < q → clock_in later (17 * j) ≡ clock_in o'.sites.now (17 * j)) → Says later
 
 -- the tables stay those that were lent, and as long
 pub record Stays (o o' : CheckOutput) : Type 0 where
@@ -78,16 +69,24 @@ pub record Stays (o o' : CheckOutput) : Type 0 where
   pub findings_length : length o'.findings.now.words.now ≡ length o.findings.now.words.now
   pub sites_length : length o'.sites.now ≡ length o.sites.now
 
+-- these parts on this clock were read so
+abbrev pub ReadAll : CheckInput → Clock → Exprs → Frame → ℕ → ℕ → ℕ → Type 0
+ReadAll k c es fs p n q = Lies k.source.tags.now k.source.values.now (WasRead k.source.names k.source.tags.now k.source.values.now) c es fs p n q
+
+-- and the clocks of their sites stand in these rows
+abbrev pub StandAll : CheckInput → List ℕ → Clock → Exprs → Frame → ℕ → ℕ → ℕ → Type 0
+StandAll k sites c es fs p n q = Lies k.source.tags.now k.source.values.now (Sited k.source.names k.source.tags.now k.source.values.now sites) c es fs p n q
+
 -- this expression on this clock stands from p up to q, and the clocks of its sites in these rows
 abbrev pub Stands : CheckInput → List ℕ → Clock → Expr → ℕ → ℕ → Type 0
 Stands k sites c e p q = LiesAt k.source.tags.now k.source.values.now (Sited k.source.names k.source.tags.now k.source.values.now sites) c e p q
 
 -- what equation i from p up to q on this clock stored: rows of other tokens are as before, its clock stands in its count's row, and its
 -- sites have theirs in every later table of the same rows, where checking its right side met sites alone
-pub record EquationStored (M : ℕ) (gs vs sites sites' : List ℕ) (i : ℕ) (c : Clock) (e : Equation) (p q : ℕ) : Type 0 where
+pub record EquationStored (s : Source) (sites sites' : List ℕ) (i : ℕ) (c : Clock) (e : Equation) (p q : ℕ) : Type 0 where
   pub kept : (j : ℕ) → (j < p) ⊎ (q ≤ j) → clock_in sites' (17 * j) ≡ clock_in sites (17 * j)
-  pub row : 17 * length gs ≤ length sites → clock_in sites' (17 * p) ≡ c
-  pub sited : (clocks : Clocks) → 17 * length gs ≤ length sites → only_sites (check clocks i c e.right) ≡ true → (later : List ℕ) → ((j : ℕ) → p ≤ j → j < q → clock_in later (17 * j) ≡ clock_in sites' (17 * j)) → EquationSited M gs vs later c e p q
+  pub row : 17 * length s.tags.now ≤ length sites → clock_in sites' (17 * p) ≡ c
+  pub sited : (clocks : Clocks) → 17 * length s.tags.now ≤ length sites → only_sites (check clocks i c e.right) ≡ true → (later : List ℕ) → ((j : ℕ) → p ≤ j → j < q → clock_in later (17 * j) ≡ clock_in sites' (17 * j)) → EquationSited s.names s.tags.now s.values.now later c e p q
 
 -- of the names below m, the inputs and outputs of this node are marked
 pub record PortMarks (ports : List Bool) (m : ℕ) (n : Node) : Type 0 where

@@ -15,12 +15,10 @@ ghost use Rattle.definitions.specs.InferClocks as rules;
 ghost use Rattle.definitions.specs.InferClocks.{Clocks, clock_of, formed, left_elsewhere, clock_name_elsewhere, one_down, on_natural, must_be_on, check, checks, check_left, check_equation};
 ghost use Rattle.clock_tables.specs.Value.{value_of, option_of, natural_of};
 ghost use Rattle.clock_tables.specs.Environment.{env_at};
-ghost use Rattle.findings.specs.Met.{StillLent};
-ghost use Rattle.findings.specs.Findings.{FindingsHeld};
+ghost use Rattle.findings.specs.Met.{Met, StillLent};
 ghost use Rattle.operands.specs.Spread.{tree};
-ghost use Rattle.skeleton.specs.Lies.{Frame, Lies};
-ghost use Rattle.skeleton.specs.Sites.{WasRead, Sited};
-ghost use Rattle.checking.specs.Walk.{other_than, Makes, is_site_tag, meets, SiteStored, Stays, Stands, Walked, ReadsNode, EquationStored};
+ghost use Rattle.skeleton.specs.Lies.{Frame};
+ghost use Rattle.checking.specs.Walk.{other_than, Makes, is_site_tag, meets, SiteStored, Stays, Stands, ReadAll, StandAll, Traversed, ReadsNode, EquationStored};
 
 use clock_tables::{Clock, Natural};
 use definitions::{Condition, Test};
@@ -74,7 +72,7 @@ fn must_be_on<F: Fn(Elsewhere) -> ClockFault>(
 )
     requires { F.IsAlwaysCallable fault }
     ensures still_lent { StillLent findings.old findings.new }
-    ensures held { (make : clocked.Clock → rules.Fault) (clocks : Clocks) (fs : List rules.Finding) → Makes (λ d f. F.post fault (record { name = x; on = d; expected = on }) f) make → env_at input.now.env.now x ≡ clock_of clocks x → FindingsHeld findings.old.words.now findings.old.count fs → FindingsHeld findings.new.words.now findings.new.count (fs ++ must_be_on clocks input.now.equation (value_of on) x make) }
+    ensures held { (make : clocked.Clock → rules.Fault) (clocks : Clocks) → Makes (λ d f. F.post fault (record { name = x; on = d; expected = on }) f) make → env_at input.now.env.now x ≡ clock_of clocks x → Met (must_be_on clocks input.now.equation (value_of on) x make) findings.old findings.new }
 {
     if let Some(own) = elsewhere(input.env, x, on) {
         let equation = input.equation;
@@ -90,7 +88,7 @@ fn must_be_on<F: Fn(Elsewhere) -> ClockFault>(
 // A clock name must be on the clock that it samples.
 fn samples_on(input: &CheckInput<'_>, findings: &mut Findings<'_>, x: u32, on: Clock)
     ensures still_lent { StillLent findings.old findings.new }
-    ensures held { (clocks : Clocks) (fs : List rules.Finding) → env_at input.now.env.now x ≡ clock_of clocks x → FindingsHeld findings.old.words.now findings.old.count fs → FindingsHeld findings.new.words.now findings.new.count (fs ++ must_be_on clocks input.now.equation (value_of on) x (λ d. clock_name_elsewhere x d (value_of on))) }
+    ensures held { (clocks : Clocks) → env_at input.now.env.now x ≡ clock_of clocks x → Met (must_be_on clocks input.now.equation (value_of on) x (λ d. clock_name_elsewhere x d (value_of on))) findings.old findings.new }
 {
     must_be_on(input, findings, x, on, ClockFault::ClockNameElsewhere);
 }
@@ -107,7 +105,7 @@ fn enter(
 )
     ensures stays { Stays output.old output.new }
     ensures site_stored { SiteStored output.old.sites.now output.new.sites.now (is_site_tag tag) (value_of on) at }
-    ensures held { (clocks : Clocks) (fs : List rules.Finding) → (tag ≡ 54 → env_at input.now.env.now value ≡ clock_of clocks value) → FindingsHeld output.old.findings.now.words.now output.old.findings.now.count fs → FindingsHeld output.new.findings.now.words.now output.new.findings.now.count (fs ++ meets clocks input.now.equation (value_of on) tag value) }
+    ensures held { (clocks : Clocks) → (tag ≡ 54 → env_at input.now.env.now value ≡ clock_of clocks value) → Met (meets clocks input.now.equation (value_of on) tag value) output.old.findings.now output.new.findings.now }
 {
     match tag {
         tags::VAR => must_be_on(input, output.findings, value, on, ClockFault::UsedElsewhere),
@@ -141,23 +139,21 @@ fn check_expr(
     at: usize,
 ) -> usize
     ensures stays { Stays output.old output.new }
-    ensures traversed { (e : Expr) (q : ℕ) → tree input.now.source.names (tokens_of input.now.source) at ≡ got e q → Walked input.now output.old output.new (λ clocks. check clocks input.now.equation (value_of on) e) (λ later. Stands input.now later (value_of on) e at q) at q result }
+    ensures traversed { (e : Expr) (q : ℕ) → tree input.now.source.names (tokens_of input.now.source) at ≡ got e q → Traversed input.now output.old output.new (λ clocks. check clocks input.now.equation (value_of on) e) (λ later. Stands input.now later (value_of on) e at q) at q result }
 {
-    if input.source.tags.len() <= at {
+    let Some((tag, value, next)) = grammar::token_at(&input.source, at) else {
         return at;
-    }
-    let tag = input.source.tags[at];
-    let value = input.source.values[at];
+    };
     if tag == tags::MERGE {
-        return check_merge(input, output, on, value, at + 1);
+        return check_merge(input, output, on, value, next);
     }
     if layout::is_sample(tag) {
         let k = sampled_by(tag, value);
-        return check_sample(input, output, on, k, at + 1);
+        return check_sample(input, output, on, k, next);
     }
     enter(input, output, on, tag, value, at);
     let many = input.parts.follow(tag, value);
-    check_exprs(input, output, on, many as usize, at + 1)
+    check_exprs(input, output, on, many as usize, next)
 }
 
 // So many parts that stand from there on; what is on the same clock is met here, without a call.
@@ -170,33 +166,30 @@ fn check_exprs(
     at: usize,
 ) -> usize
     ensures stays { Stays output.old output.new }
-    ensures traversed { (es : Exprs) (fs : Frame) (q : ℕ) → Lies input.now.source.tags.now input.now.source.values.now (WasRead input.now.source.names input.now.source.tags.now input.now.source.values.now) (value_of on) es fs at many q → Walked input.now output.old output.new (λ clocks. checks clocks input.now.equation (value_of on) es) (λ later. Lies input.now.source.tags.now input.now.source.values.now (Sited input.now.source.names input.now.source.tags.now input.now.source.values.now later) (value_of on) es fs at many q) at q result }
+    ensures traversed { (es : Exprs) (fs : Frame) (q : ℕ) → ReadAll input.now (value_of on) es fs at many q → Traversed input.now output.old output.new (λ clocks. checks clocks input.now.equation (value_of on) es) (λ later. StandAll input.now later (value_of on) es fs at many q) at q result }
 {
     let mut left = many;
     let mut from = at;
     // Stays (no plainer): a token that stays adds its parts to what is left, and a sample's part ends where its walk says.
     while 0 < left {
-        if input.source.tags.len() <= from {
+        let Some((tag, value, next)) = grammar::token_at(&input.source, from) else {
             return from;
-        }
+        };
         if input.source.tags.len() < left {
             return from;
         }
-        let tag = input.source.tags[from];
         if layout::is_sample(tag) {
-            let next = check_expr(input, output, on, from);
-            if next <= from {
+            let end = check_expr(input, output, on, from);
+            if end <= from {
                 return from;
             }
-            from = next;
+            from = end;
             left -= 1;
         } else {
-            let value = input.source.values[from];
-            let behind = from + 1;
             enter(input, output, on, tag, value, from);
             let more = input.parts.follow(tag, value);
             left = left - 1 + (more as usize);
-            from = behind;
+            from = next;
         }
     }
     from
@@ -211,7 +204,7 @@ fn check_over(
     at: usize,
 ) -> usize
     ensures stays { Stays output.old output.new }
-    ensures traversed { (e : Expr) (q : ℕ) → tree input.now.source.names (tokens_of input.now.source) at ≡ got e q → Walked input.now output.old output.new (λ clocks. on_natural (natural_of over) (λ d. check clocks input.now.equation d e)) (λ later. (d : clocked.Clock) → natural_of over ≡ formed (some d) → Stands input.now later d e at q) at q result }
+    ensures traversed { (e : Expr) (q : ℕ) → tree input.now.source.names (tokens_of input.now.source) at ≡ got e q → Traversed input.now output.old output.new (λ clocks. on_natural (natural_of over) (λ d. check clocks input.now.equation d e)) (λ later. (d : clocked.Clock) → natural_of over ≡ formed (some d) → Stands input.now later d e at q) at q result }
 {
     match over {
         Ok(own) => check_expr(input, output, own.unwrap_or(Clock::base()), at),
@@ -233,7 +226,7 @@ fn check_sample(
     at: usize,
 ) -> usize
     ensures stays { Stays output.old output.new }
-    ensures traversed { (e : Expr) (q : ℕ) → k.name < input.now.source.names → tree input.now.source.names (tokens_of input.now.source) at ≡ got e q → Walked input.now output.old output.new (λ clocks. check clocks input.now.equation (value_of on) (Expr.when k e)) (λ later. Stands input.now later (parent (value_of on)) e at q) at q result }
+    ensures traversed { (e : Expr) (q : ℕ) → k.name < input.now.source.names → tree input.now.source.names (tokens_of input.now.source) at ≡ got e q → Traversed input.now output.old output.new (λ clocks. check clocks input.now.equation (value_of on) (Expr.when k e)) (λ later. Stands input.now later (parent (value_of on)) e at q) at q result }
 {
     if on.ends_in(k) {
         let above = on.parent();
@@ -260,7 +253,7 @@ fn check_branch(
     at: usize,
 ) -> usize
     ensures stays { Stays output.old output.new }
-    ensures traversed { (e : Expr) (q : ℕ) → tree input.now.source.names (tokens_of input.now.source) at ≡ got e q → Walked input.now output.old output.new (λ clocks. one_down (value_of on) k (λ d. check clocks input.now.equation d e)) (λ later. Stands input.now later (value_of on ↓ k) e at q) at q result }
+    ensures traversed { (e : Expr) (q : ℕ) → tree input.now.source.names (tokens_of input.now.source) at ≡ got e q → Traversed input.now output.old output.new (λ clocks. one_down (value_of on) k (λ d. check clocks input.now.equation d e)) (λ later. Stands input.now later (value_of on ↓ k) e at q) at q result }
 {
     let down = on.push(k).map(Some);
     check_over(input, output, down, at)
@@ -276,7 +269,7 @@ fn check_merge(
     at: usize,
 ) -> usize
     ensures stays { Stays output.old output.new }
-    ensures traversed { (a b : Expr) (m q : ℕ) → x < input.now.source.names → tree input.now.source.names (tokens_of input.now.source) at ≡ got a m → tree input.now.source.names (tokens_of input.now.source) m ≡ got b q → Walked input.now output.old output.new (λ clocks. check clocks input.now.equation (value_of on) (Expr.merge x a b)) (λ later. Stands input.now later (value_of on ↓ is_on x) a at m × Stands input.now later (value_of on ↓ is_not x) b m q) at q result }
+    ensures traversed { (a b : Expr) (m q : ℕ) → x < input.now.source.names → tree input.now.source.names (tokens_of input.now.source) at ≡ got a m → tree input.now.source.names (tokens_of input.now.source) m ≡ got b q → Traversed input.now output.old output.new (λ clocks. check clocks input.now.equation (value_of on) (Expr.merge x a b)) (λ later. Stands input.now later (value_of on ↓ is_on x) a at m × Stands input.now later (value_of on ↓ is_not x) b m q) at q result }
 {
     samples_on(input, output.findings, x, on);
     let is = Condition {
@@ -297,7 +290,7 @@ fn check_merge(
 // A left name must be on its equation's clock.
 fn left_on(input: &CheckInput<'_>, findings: &mut Findings<'_>, x: u32, on: Clock)
     ensures still_lent { StillLent findings.old findings.new }
-    ensures held { (clocks : Clocks) (fs : List rules.Finding) → env_at input.now.env.now x ≡ clock_of clocks x → FindingsHeld findings.old.words.now findings.old.count fs → FindingsHeld findings.new.words.now findings.new.count (fs ++ must_be_on clocks input.now.equation (value_of on) x (λ d. left_elsewhere x d (value_of on) (get_or input.now.ports.now x false))) }
+    ensures held { (clocks : Clocks) → env_at input.now.env.now x ≡ clock_of clocks x → Met (must_be_on clocks input.now.equation (value_of on) x (λ d. left_elsewhere x d (value_of on) (get_or input.now.ports.now x false))) findings.old findings.new }
 {
     let port = inference::is_port(input.ports, x);
     must_be_on(
@@ -312,7 +305,7 @@ fn left_on(input: &CheckInput<'_>, findings: &mut Findings<'_>, x: u32, on: Cloc
 // The left names of an equation on that clock.
 fn check_left(input: &CheckInput<'_>, findings: &mut Findings<'_>, on: Clock, names: &[u32])
     ensures still_lent { StillLent findings.old findings.new }
-    ensures held { (node : Node) (clocks : Clocks) (fs : List rules.Finding) → ReadsNode input.now node clocks → ((i : ℕ) → i < length names.now → get_or names.now i 0 < input.now.source.names) → FindingsHeld findings.old.words.now findings.old.count fs → FindingsHeld findings.new.words.now findings.new.count (fs ++ check_left clocks input.now.equation node (value_of on) names.now) }
+    ensures held { (node : Node) (clocks : Clocks) → ReadsNode input.now node clocks → ((i : ℕ) → i < length names.now → get_or names.now i 0 < input.now.source.names) → Met (check_left clocks input.now.equation node (value_of on) names.now) findings.old findings.new }
 {
     for &x in names {
         left_on(input, findings, x, on);
@@ -328,8 +321,8 @@ pub fn check_equation(
 ) -> usize
     ensures stays { Stays output.old output.new }
     ensures ends { (e : Equation) (q : ℕ) → grammar.equation input.now.source.names (tokens_of input.now.source) at ≡ got e q → result ≡ q }
-    ensures held { (node : Node) (clocks : Clocks) (e : Equation) (q : ℕ) (fs : List rules.Finding) → ReadsNode input.now node clocks → grammar.equation input.now.source.names (tokens_of input.now.source) at ≡ got e q → FindingsHeld output.old.findings.now.words.now output.old.findings.now.count fs → FindingsHeld output.new.findings.now.words.now output.new.findings.now.count (fs ++ check_equation node clocks input.now.equation (record { clock = value_of on; equation = e })) }
-    ensures stored { (e : Equation) (q : ℕ) → grammar.equation input.now.source.names (tokens_of input.now.source) at ≡ got e q → EquationStored input.now.source.names input.now.source.tags.now input.now.source.values.now output.old.sites.now output.new.sites.now input.now.equation (value_of on) e at q }
+    ensures held { (node : Node) (clocks : Clocks) (e : Equation) (q : ℕ) → ReadsNode input.now node clocks → grammar.equation input.now.source.names (tokens_of input.now.source) at ≡ got e q → Met (check_equation node clocks input.now.equation (record { clock = value_of on; equation = e })) output.old.findings.now output.new.findings.now }
+    ensures stored { (e : Equation) (q : ℕ) → grammar.equation input.now.source.names (tokens_of input.now.source) at ≡ got e q → EquationStored input.now.source output.old.sites.now output.new.sites.now input.now.equation (value_of on) e at q }
 {
     let left = layout::names_at(&input.source, at);
     output.put_site(at, on);

@@ -51,6 +51,7 @@ pub struct AnswerWithFaults<T, const N: usize> {
 fn no_records<const N: usize>() -> [FaultRecord; N]
     ensures { result ≡ replicate N blank }
 {
+    // Stays (no plainer): written out, as in `declock_project`, for the reason there.
     let none = FaultRecord {
         node: 0,
         fault: 0,

@@ -21,8 +21,9 @@ use borrow.Author.Tests.{ne_eqb, eqb-true, eq-eqb, lt-ltb}
 use Rattle.definitions.specs.declared.Test.{Test}
 use Rattle.definitions.specs.declared.Condition.{Condition}
 use Rattle.definitions.specs.contracts.ConditionPartialEq.TheImpl as derived
-use Rattle.definitions.specs.Clock.{Clock, base, ◌↓◌, depth, parent, same_test, same_condition, same_clock, is_base, ends_in}
+use Rattle.definitions.specs.Clock.{Clock, base, ◌↓◌, depth, parent, same_condition, same_clock, is_base, ends_in}
 use Rattle.definitions.specs.InferClocks.{formed, condition_over, parent_of}
+use Rattle.std.proofs.Math.Bool.{and-false}
 use Rattle.clock_tables.specs.declared.clock.Clock as struct
 use Rattle.clock_tables.specs.Value.{at, clock_at, capped, value_of}
 
@@ -108,55 +109,11 @@ value-push ks d k n l =
     rw (e, f, depth-at ks d, lt-ltb d 8 l, clock-push ks d k h)
 
 -- ---- the same clock
-&&-false : (a : Bool) → (a && false) ≡ false
-&&-false true = refl
-&&-false false = refl
-
 pub other-depth : (c d : Clock) → (depth c ≡ depth d → ⊥) → same_clock c d ≡ false
 other-depth base base h = absurd (h refl)
 other-depth base (d ↓ l) h = refl
 other-depth (c ↓ k) base h = refl
-other-depth (c ↓ k) (d ↓ l) h = rw (other-depth c d (λ e. h (ap suc e))) (&&-false (same_condition k l))
-
-pub same_test_lem : (s t : Test) → same_test s t ≡ true → s ≡ t
-same_test_lem Test.On Test.On h = refl
-same_test_lem Test.On Test.Not h = cc
-same_test_lem Test.Not Test.On h = cc
-same_test_lem Test.Not Test.Not h = refl
-
-pub test-same : (s : Test) → same_test s s ≡ true
-test-same Test.On = refl
-test-same Test.Not = refl
-
-both : (a b : Bool) → (a && b) ≡ true → (a ≡ true) × (b ≡ true)
-both true true h = (refl, refl)
-both true false h = (refl, h)
-both false b h = absurd (let z : ◌≡◌ {A = Bool} true false = sym h in let n : ◌≡◌ {A = ℕ} 0 1 = cc in omega arith)
-
-pub same-condition : (k l : Condition) → same_condition k l ≡ true → k ≡ l
-same-condition k l h =
-    let b = both (eqb k.name l.name) (same_test k.test l.test) h in
-    let e : k.name ≡ l.name = eqb-true _ _ b.0 in
-    let s : k.test ≡ l.test = same_test_lem k.test l.test b.1 in
-    ap (λ (x : ℕ). record { name = x; test = k.test }) e ∙ ap (λ (t : Test). record { name = l.name; test = t }) s
-
-pub condition-same : (k : Condition) → same_condition k k ≡ true
-condition-same k = rw (eq-eqb k.name k.name refl, test-same k.test)
-
--- clocks that compare the same are the same
-pub same-clock : (c d : Clock) → same_clock c d ≡ true → c ≡ d
-same-clock base base h = refl
-same-clock base (d ↓ l) h = cc
-same-clock (c ↓ k) base h = cc
-same-clock (c ↓ k) (d ↓ l) h =
-    let b = both (same_condition k l) (same_clock c d) h in
-    let e : c ≡ d = same-clock c d b.1 in
-    let i : k ≡ l = same-condition k l b.0 in
-    cc
-
-pub clock-same : (c : Clock) → same_clock c c ≡ true
-clock-same base = refl
-clock-same (c ↓ k) = rw (condition-same k) (clock-same c)
+other-depth (c ↓ k) (d ↓ l) h = rw (other-depth c d (λ e. h (ap suc e))) (and-false (same_condition k l))
 
 -- ---- comparing the conditions
 -- what `==` of two conditions answers
@@ -199,7 +156,7 @@ pointwise-other : (E : Condition → Condition → Bool) (ks ls : List Condition
 pointwise-other E [] [] h = absurd (h refl)
 pointwise-other E [] (b ∷ ls) h = refl
 pointwise-other E (a ∷ ks) [] h = refl
-pointwise-other E (a ∷ ks) (b ∷ ls) h = rw (pointwise-other E ks ls (λ e. h (ap suc e))) (&&-false (E a b))
+pointwise-other E (a ∷ ks) (b ∷ ls) h = rw (pointwise-other E ks ls (λ e. h (ap suc e))) (and-false (E a b))
 
 -- what `==` of all of each answers
 pub same_listed : (ks ls : List Condition) → pointwise derived.eq-value.it ks ls ≡ same_clock (clock_at ks (length ks)) (clock_at ls (length ls))
@@ -217,4 +174,4 @@ same_listed ks ls = go (eqb (length ks) (length ls)) refl
 -- ---- parents
 pub parent-none : (c : Clock) → is_base c ≡ true → parent_of (formed (some c)) ≡ formed none
 parent-none base h = refl
-parent-none (c ↓ k) h = absurd (let n : ◌≡◌ {A = ℕ} 0 1 = cc in omega arith)
+parent-none (c ↓ k) h = absurd cc

@@ -12,7 +12,7 @@ use borrow.Author.Tests.{ltb-true, ltb-false}
 use Rattle.definitions.specs.Lists.{choose, any, place_by}
 use Rattle.definitions.specs.Clock.{Clock, base, ◌↓◌, same_clock}
 use Rattle.definitions.specs.Declock.{clock_place, add, add_with_parents}
-use Rattle.clock_tables.proofs.ClockLaws.{clock-same}
+use Rattle.shapes.proofs.Facts.{clock-self}
 use Rattle.clock_tables.specs.Flat.{clock_in}
 use Rattle.clock_tables.specs.Rows.{clocks_in, RowsHold}
 use Rattle.std.specs.Prelude.{Some, position}
@@ -37,7 +37,7 @@ module _ (p : Clock → Bool) where
   place-back (a ∷ l) c h e = go (p a) (λ u. place-back l c u e) h
     where
       go : (b : Bool) → (any p l ≡ false → place_by p (l ++ (c ∷ [])) ≡ length l) → (b || any p l) ≡ false → choose b 0 (suc (place_by p (l ++ (c ∷ [])))) ≡ suc (length l)
-      go true r u = absurd (let n : ◌≡◌ {A = ℕ} 0 1 = cc in omega arith)
+      go true r u = absurd cc
       go false r u = ap suc (r u)
 
 -- the row of a clock that is added: where it is found, or behind the others
@@ -49,7 +49,7 @@ module _ (t : List ℕ) (n : ℕ) (c : Clock) (cs : List Clock) where
       → 17 * m ≤ length t' → RowsHold t' m cs → n ≡ clock_place c cs
   row-behind t' m room gone grown l h =
       let e : clocks_in t n ++ (c ∷ []) ≡ cs = sym (has_all t' m _ l (grown (has-own t n room))) ∙ has_all t' m cs l h in
-      sym (length_from t 0 n) ∙ sym (place-back (same_clock c) (clocks_in t n) c gone (clock-same c)) ∙ ap (clock_place c) e
+      sym (length_from t 0 n) ∙ sym (place-back (same_clock c) (clocks_in t n) c gone (clock-self c)) ∙ ap (clock_place c) e
 
 pub distinct_none : Distinct []
 distinct_none j h = absurd (omega arith)
@@ -65,7 +65,7 @@ distinct-last c cs gone d j h = go (ltb j (length cs)) refl
         rw (get_or-append cs (c ∷ []) base j l, place-front (same_clock (get_or cs j base)) cs (c ∷ []) m) e
     go false q =
         let e : j ≡ length cs = omega (arith, ltb-false j (length cs) q, length-append cs (c ∷ [])) in
-        rw (e, get_or-append_seam cs c [] base, place-back (same_clock c) cs c gone (clock-same c))
+        rw (e, get_or-append_seam cs c [] base, place-back (same_clock c) cs c gone (clock-self c))
 
 -- adding keeps them so
 pub distinct-add : (c : Clock) (cs : List Clock) → Distinct cs → Distinct (add c cs)

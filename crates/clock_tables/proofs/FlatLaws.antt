@@ -16,6 +16,7 @@ use Rattle.definitions.specs.declared.Test.{Test}
 use Rattle.definitions.specs.declared.Condition.{Condition}
 use Rattle.definitions.specs.Lists.{choose, over}
 use Rattle.definitions.specs.Clock.{Clock, base, ◌↓◌, depth}
+use Rattle.shapes.proofs.Facts.{over-long}
 use Rattle.clock_tables.specs.Value.{at, clock_at}
 use Rattle.clock_tables.proofs.ClockLaws.{depth-at, base-at, clock-push}
 use Rattle.clock_tables.specs.Flat.{word_of, test_of, condition_at, conditions_from, depth_in, clock_in, condition_words, words_of, clock_words, with_clock}
@@ -199,11 +200,6 @@ over-after [] s i h = refl
 over-after (a ∷ l) [] i h = refl
 over-after (a ∷ l) (b ∷ s) zero h = absurd (omega arith)
 over-after (a ∷ l) (b ∷ s) (suc i) h = over-after l s i (omega arith)
-
-pub over-long : (l s : List ℕ) → length (over l s) ≡ length s
-over-long [] s = refl
-over-long (a ∷ l) [] = refl
-over-long (a ∷ l) (b ∷ s) = ap suc (over-long l s)
 
 -- ---- a clock's seventeen words
 pub words_long : (c : Clock) → length (clock_words c) ≡ 17

@@ -5,3 +5,4 @@ pub mod EnvironmentLaws
 pub mod FrontLaws
 pub mod RowsLaws
 pub mod Distinct
+pub mod WordsLaws

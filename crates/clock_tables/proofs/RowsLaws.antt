@@ -18,8 +18,10 @@ use Rattle.std.proofs.lemmas.List.FromFn.{length-range_with_len}
 use lib.Dec.{ltb}
 use borrow.Author.Tests.{ltb-true, ltb-false}
 use Rattle.definitions.specs.Declock.{clock_place, add, add_with_parents}
+use Rattle.shapes.proofs.Facts.{condition-self, clock-eq}
+use Rattle.shapes.proofs.Added.{length-add}
 use Rattle.clock_tables.specs.Value.{clock_at}
-use Rattle.clock_tables.proofs.ClockLaws.{last-at, condition-same, same-clock}
+use Rattle.clock_tables.proofs.ClockLaws.{last-at}
 use Rattle.clock_tables.specs.Flat.{condition_at, conditions_from, depth_in, clock_in}
 use Rattle.clock_tables.proofs.FlatLaws.{at_from, Within, clock-same}
 use Rattle.clock_tables.specs.Rows.{clocks_from, clocks_in, RowsHold}
@@ -77,7 +79,7 @@ module _ (t : List ℕ) (b d : ℕ) where
     where
       go : (s : Bool) → same_clock c (clock_in t b) ≡ s → s ≡ false
       go false s = refl
-      go true s = absurd (true≢false (sym (condition-same k) ∙ (ap (λ (l : Condition). same_condition k l) i ∙ (ap (ends_in k) (sym (same-clock c (clock_in t b) s ∙ last-in e z)) ∙ h))))
+      go true s = absurd (true≢false (sym (condition-self k) ∙ (ap (λ (l : Condition). same_condition k l) i ∙ (ap (ends_in k) (sym (clock-eq c (clock_in t b) s ∙ last-in e z)) ∙ h))))
 
 -- ---- the place of a clock
 -- the first row that passes the test, by the rows' numbers
@@ -171,13 +173,6 @@ pub has_more : (t : List ℕ) (n : ℕ) (cs : List Clock) → length t < 17 * n 
 unfolding RowsHold
 has_more t n cs l (inl (a, e)) = absurd (omega arith)
 has_more t n cs l (inr (a, b)) = b
-
-length-add : (c : Clock) (cs : List Clock) → length cs ≤ length (add c cs)
-length-add c cs = go (any (same_clock c) cs)
-  where
-    go : (b : Bool) → length cs ≤ length (choose b cs (cs ++ (c ∷ [])))
-    go true = omega arith
-    go false = omega (arith, length-append cs (c ∷ []))
 
 module _ (t : List ℕ) (n : ℕ) (c : Clock) (cs : List Clock) where
   pub has-over : length t < 17 * n → RowsHold t n cs → RowsHold t n (add c cs)

@@ -4,3 +4,4 @@ pub mod Environment
 pub mod Rows
 pub mod Equality
 pub mod Grown
+pub mod Words

@@ -12,6 +12,7 @@ ghost use Rattle.clock_tables.specs.Environment.{env_at, Assigned, Cleared};
 ghost use Rattle.definitions.specs.Declock.{clock_place, add, add_with_parents};
 ghost use Rattle.clock_tables.specs.Rows.{RowsHold};
 ghost use Rattle.clock_tables.specs.Grown.{Grown};
+ghost use Rattle.clock_tables.specs.Words.{place_of};
 ghost use Rattle.definitions.specs.Clock as clocks;
 ghost use Rattle.std.specs.Cmp.{partial_equiv_from_equiv};
 ghost use Rattle.clock_tables.specs.Equality.{values};
@@ -169,6 +170,13 @@ pub fn word_past(i: usize) -> u32
     u32::try_from(i.saturating_add(1)).unwrap_or(0)
 }
 
+// The place or row that such a word says.
+pub fn place_in(word: u32) -> Option<usize>
+    ensures { result ≡ place_of word }
+{
+    Some(word.checked_sub(1)? as usize)
+}
+
 // Stays (no plainer): here and below, since a `From` stands in the crate of `Test`, where the words of tables have no meaning.
 pub fn test_of(w: u32) -> Test
     ensures { result ≡ test_of w }
@@ -292,7 +300,7 @@ pub fn clear(table: &mut [u32], m: u32)
 
 // Clocks in lent words, and how many; a count one past the rows says that there were more clocks than rows.
 // Stays (no plainer): who fills a table hands on its count alone, as `Counts` of a plan, and a flag beside it would say what it says.
-// Stays (fixed memory): words and no `Clock`s: the tables of a `Working` hold by turns clocks, findings, types and rows of a plan.
+// Stays (fixed memory): words and no `Clock`s, for the reason at `WORDS`.
 #[derive(Clone, Copy)]
 pub struct ClockList<'a> {
     pub words: &'a [u32],

@@ -61,6 +61,7 @@ fn print<const N: usize>(
 }
 
 // Prints a listing that mostly has at most N bytes.
+// Stays (no plainer): two streams, here and below: a struct of both would name both types still, and each use takes one of them.
 fn print_mostly<const N: usize>(
     output: &mut impl Write,
     errors: &mut impl Write,
@@ -92,6 +93,7 @@ fn answer(
     print_mostly::<MIDDLE>(output, errors, sheet, node)
 }
 
+// Stays (no plainer): `rewrite` has the same but for names and a default: one for both would take the runtime, two texts and what answers.
 fn main(rt: HostRuntime) -> io::Result<()> {
     let mut output = rt.stdout();
     let mut errors = rt.stderr();

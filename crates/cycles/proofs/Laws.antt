@@ -11,27 +11,30 @@ use lib.ListN.{length, get_or, set, take, drop, replicate}
 use lib.Seq.{drop-cons, drop-length, get_or-set_same, get_or-set_other}
 use lib.Dec.{eqb, ltb}
 use borrow.Author.Tests.{eq-eqb, eqb-true, eqb-false, lt-ltb, le-ltb, ltb-true, ltb-false}
-use Rattle.std.proofs.Math.Bool.{and-false, or-false}
+use Rattle.std.proofs.Math.Bool.{and-false, and-true, or-false}
 use Rattle.std.specs.Option.{option_eq}
 use Rattle.std.specs.List.{list_all, zip}
 use Rattle.std.proofs.Common.{inl, inr}
-use Rattle.std.proofs.lemmas.Bool.{true≢false, cases_Bool, cases_eq, cases_lt, or_cases}
+use Rattle.std.proofs.lemmas.Bool.{true≢false, cases_Bool, cases_eq, cases_lt, or_cases, and_parts, or_left, or_right}
 use Rattle.definitions.specs.Lists.{choose, all, any, among, keep, join}
 use Rattle.definitions.specs.Tokens.{TagValue}
 use Rattle.definitions.specs.Tree.{Ty, Declared, Body, TypeDef}
 use Rattle.definitions.specs.Reading.{got}
 use Rattle.definitions.specs.Grammar.{ty, declaration}
 use Rattle.definitions.specs.Types.{target, targets, definition_of, goes_on, one_step, reached, reaches_itself, first_cycle}
+use Rattle.shapes.proofs.Facts.{any-app}
 use Rattle.layout.specs.declared.Defined.{Defined}
 use Rattle.layout.specs.declared.Span.{Span}
 use Rattle.layout.specs.Spans.{Spans}
 use Rattle.layout.specs.Table.{nowhere, def_at, name_at, is_named, first_of, FoundFirst, Named, Described}
-use Rattle.layout.proofs.TypedefsLaws.{find_none, find-some, place-true, place-before}
+use Rattle.layout.proofs.TypedefsLaws.{named, find_none, find-some, place-true, place-before}
 use Rattle.layout.specs.declared.DeclarationLayout.{DeclarationLayout}
 use Rattle.layout.specs.Walk.{LaidAll}
 use Rattle.layout.proofs.Walks.{FirstLaid, first-laid, none-laid}
+use Rattle.cycles.specs.declared.TypeTable.{TypeTable}
 use Rattle.cycles.specs.declared.graph.Targets.{Targets}
 use Rattle.cycles.specs.declared.graph.Graph.{Graph}
+use Rattle.cycles.specs.Defines.{Defines, NamesTypes}
 use Rattle.cycles.specs.Edges.{NamesInSet, is_defined, TargetsAre, Marked, own_body, own_name, row_at, Edges, IsCycle, IsWithin, Joined, Acyclic}
 
 -- two truth values that follow from each other
@@ -53,16 +56,12 @@ implied-of : (x y : Bool) → (x ≡ true → y ≡ true) → implied (x, y) ≡
 implied-of true y f = f refl
 implied-of false y f = refl
 
-both : (a b : Bool) → (a && b) ≡ true → (a ≡ true) × (b ≡ true)
-both true b e = (refl, e)
-both false b e = absurd (true≢false (sym e))
-
 within-of : (n : ℕ) (a b : List Bool) → n ≤ length a → n ≤ length b → list_all implied (take n (zip a b)) ≡ true → IsWithin n a b
 within-of zero a b h k e j l t = absurd (omega arith)
 within-of (suc n) [] b h k e j l t = absurd (omega arith)
 within-of (suc n) (x ∷ a) [] h k e j l t = absurd (omega arith)
-within-of (suc n) (x ∷ a) (y ∷ b) h k e zero l t = implied-by x y (both _ _ e).0 t
-within-of (suc n) (x ∷ a) (y ∷ b) h k e (suc j) l t = within-of n a b (omega arith) (omega arith) (both _ _ e).1 j (omega arith) t
+within-of (suc n) (x ∷ a) (y ∷ b) h k e zero l t = implied-by x y (and_parts _ _ e).0 t
+within-of (suc n) (x ∷ a) (y ∷ b) h k e (suc j) l t = within-of n a b (omega arith) (omega arith) (and_parts _ _ e).1 j (omega arith) t
 
 of-within : (n : ℕ) (a b : List Bool) → n ≤ length a → n ≤ length b → IsWithin n a b → list_all implied (take n (zip a b)) ≡ true
 of-within zero a b h k f = refl
@@ -74,22 +73,6 @@ of-within (suc n) (x ∷ a) (y ∷ b) h k f =
 pub within-by : (n : ℕ) (a b : List Bool) (r : Bool) → n ≤ length a → n ≤ length b → r ≡ list_all implied (take n (zip a b)) → (r ≡ true → IsWithin n a b) × (IsWithin n a b → r ≡ true)
 within-by n a b r h k e = (λ t. within-of n a b h k (sym e ∙ t), λ f. e ∙ of-within n a b h k f)
 
-or_left : (a b : Bool) → a ≡ true → (a || b) ≡ true
-or_left a b e = rw e
-
-or_right : (a b : Bool) → b ≡ true → (a || b) ≡ true
-or_right true b e = refl
-or_right false b e = e
-
--- any
-pub any_append : {A : Type 0} (p : A → Bool) (l m : List A) → any p (l ++ m) ≡ (any p l || any p m)
-any_append p [] m = refl
-any_append p (a ∷ l) m = go (p a) (any_append p l m)
-  where
-    go : (b : Bool) → any p (l ++ m) ≡ (any p l || any p m) → (b || any p (l ++ m)) ≡ ((b || any p l) || any p m)
-    go true e = refl
-    go false e = e
-
 any-intro : (G : ℕ → Bool) (x : ℕ) (xs : List ℕ) → among x xs ≡ true → G x ≡ true → any G xs ≡ true
 any-intro G x [] e g = e
 any-intro G x (y ∷ xs) e g = go (eqb x y) refl e (λ f. any-intro G x xs f g)
@@ -99,7 +82,7 @@ any-intro G x (y ∷ xs) e g = go (eqb x y) refl e (λ f. any-intro G x xs f g)
     go false i e r = or_right (G y) (any G xs) (r e)
 
 any-elim : (G : ℕ → Bool) (xs : List ℕ) → any G xs ≡ true → (x : ℕ) × (among x xs ≡ true) × (G x ≡ true)
-any-elim G [] e = let z : ◌≡◌ {A = ℕ} 0 1 = cc in absurd (omega arith)
+any-elim G [] e = absurd cc
 any-elim G (y ∷ xs) e = go (G y) refl e (any-elim G xs)
   where
     go : (b : Bool) → G y ≡ b → (b || any G xs) ≡ true → (any G xs ≡ true → (x : ℕ) × (among x xs ≡ true) × (G x ≡ true)) → (x : ℕ) × ((eqb x y || among x xs) ≡ true) × (G x ≡ true)
@@ -111,12 +94,12 @@ keep-none f y [] e = refl
 keep-none f y (a ∷ l) e = go (eqb y a) (f a) refl refl (keep-none f y l e)
   where
     go : (b c : Bool) → eqb y a ≡ b → f a ≡ c → among y (keep f l) ≡ false → among y (choose c (a ∷ keep f l) (keep f l)) ≡ false
-    go true true i j r = let g : y ≡ a = eqb-true y a i in let k : f a ≡ false = rw g at e in let z : ◌≡◌ {A = ℕ} 0 1 = cc in absurd (omega arith)
+    go true true i j r = let g : y ≡ a = eqb-true y a i in let k : f a ≡ false = rw g at e in absurd cc
     go false true i j r = rw i r
     go b false i j r = r
 
 keep-among : (f : ℕ → Bool) (y : ℕ) (l : List ℕ) → among y l ≡ true → among y (keep f l) ≡ f y
-keep-among f y [] e = let z : ◌≡◌ {A = ℕ} 0 1 = cc in absurd (omega arith)
+keep-among f y [] e = absurd cc
 keep-among f y (a ∷ l) e = go (eqb y a) (f a) refl refl e (keep-among f y l) (keep-none f y l)
   where
     go : (b c : Bool) → eqb y a ≡ b → f a ≡ c → (b || among y l) ≡ true → (among y l ≡ true → among y (keep f l) ≡ f y) → (f y ≡ false → among y (keep f l) ≡ false) →
@@ -155,20 +138,10 @@ no-names types = record { says = λ j h. empty-at 32 j }
 
 module _ (vs places : List ℕ) (n : ℕ) (types : List TypeDef) (t : Named vs places n types) (marks : Targets) (xs : List ℕ) (m : Marked types marks xs) (x : ℕ) where
   joined-name : (j : ℕ) (b : Bool) → b ≡ (get_or marks.set j false || eqb (name_at types j) x) → j < length types → b ≡ among (name_at types j) (xs ++ (x ∷ []))
-  joined-name j b e l = e ∙ rw (m.holds.says j l, any_append (eqb (name_at types j)) xs (x ∷ [])) (pick (among (name_at types j) xs) (eqb (name_at types j) x))
-    where
-      pick : (a b : Bool) → (a || b) ≡ (a || (b || false))
-      pick true b = refl
-      pick false true = refl
-      pick false false = refl
+  joined-name j b e l = e ∙ rw (m.holds.says j l, any-app (eqb (name_at types j)) xs (x ∷ []), or-false (eqb (name_at types j) x))
 
   all-more : (b : Bool) → ltb (first_of types x) (length types) ≡ b → (all (is_defined types) xs && b) ≡ all (is_defined types) (xs ++ (x ∷ []))
-  all-more b e = sym (all_append (is_defined types) xs (x ∷ []) ∙ rw e (pick (all (is_defined types) xs) b))
-    where
-      pick : (a b : Bool) → (a && (b && true)) ≡ (a && b)
-      pick true true = refl
-      pick true false = refl
-      pick false b = refl
+  all-more b e = sym (all_append (is_defined types) xs (x ∷ []) ∙ rw (e, and-true b))
 
   -- no definition has the name
   pub name-unknown : first_of types x ≡ length types → Marked types (record { set = marks.set; own = false }) (xs ++ (x ∷ []))
@@ -188,13 +161,9 @@ module _ (vs places : List ℕ) (n : ℕ) (types : List TypeDef) (t : Named vs p
       let u : among x xs ≡ true = rw f at (sym (m.holds.says k h) ∙ e) in
       record {
         holds = record { says = λ j l. joined-name j (get_or marks.set j false) (within j (cases_Bool (eqb (name_at types j) x)) l u) l };
-        own = m.own ∙ with-true (all (is_defined types) xs) ∙ all-more true (lt-ltb (first_of types x) (length types) (omega arith));
+        own = m.own ∙ sym (and-true (all (is_defined types) xs)) ∙ all-more true (lt-ltb (first_of types x) (length types) (omega arith));
       }
     where
-      with-true : (a : Bool) → a ≡ (a && true)
-      with-true true = refl
-      with-true false = refl
-
       within : (j : ℕ) → (eqb (name_at types j) x ≡ true) ⊎ (eqb (name_at types j) x ≡ false) → j < length types → among x xs ≡ true → get_or marks.set j false ≡ (get_or marks.set j false || eqb (name_at types j) x)
       within j (inl d) l u = let g : name_at types j ≡ x = eqb-true (name_at types j) x d in let s : get_or marks.set j false ≡ true = m.holds.says j l ∙ rw g u in rw s
       within j (inr d) l u = rw d (sym (or-false (get_or marks.set j false)))
@@ -268,6 +237,10 @@ module _ (types : List TypeDef) (M : ℕ) (ts : List TagValue) (d : TypeDef) (q 
     pub targets-alias : (y p : ℕ) → D ≡ Defined.Alias y p → ((t : Ty) (s : ℕ) → ty M 8 ts p ≡ got t s → Marked types marks (target t)) → TargetsAre types marks (targets d.body) (own_body types d.body)
     unfolding Described targets own_body
     targets-alias y p e f = let h = rw e at g in rw h.2 (f h.0 q h.1)
+
+-- where the definitions stand, their names stand
+pub names-stand : (t : TypeTable) (types : List TypeDef) → Defines t types → NamesTypes t types
+names-stand t types = named t.source.names t.source.tags.now t.source.values.now t.source.same_length t.places.now.at t.places.now.count types
 
 -- the names that a name goes on to
 module _ (types : List TypeDef) (x : ℕ) where

@@ -43,7 +43,7 @@ use Rattle.stateless.specs.Whole.{no_needs, old_needs}
 use Rattle.stateless.specs.Locals.{ids_in, Agree}
 use Rattle.stateless.specs.Rewritten.{node_by}
 use Rattle.stateless.proofs.Condact.{same-condact, same-fault, same-needs, Below}
-use Rattle.stateless.proofs.Nodes.{clocked}
+use Rattle.shapes.proofs.Formed.{clocked}
 use Rattle.new_names.specs.Names.{ids_of}
 use Rattle.new_names.proofs.Ids.{declared-few}
 use Rattle.new_names.proofs.Added.{ids-filled, ids-agree}
@@ -85,27 +85,22 @@ module _ {spelling : Spelling} {t : Index} {p : NodePlan} {names : List Letters}
   pub shaped : Below (length names) n
   shaped = λ e m. (named-equations e m).1
 
--- a node that is to be written: the sheet's index, by which its new names are not there yet, and its plan
-abbrev pub index_before : ReadyNode → ℕ → Index
-index_before r k =
-    let t = r.written.index.now in
-    record { source = t.source; condact = k; whole = t.whole; nodes = t.nodes; types = t.types; has = t.has }
-
+-- the plan of a node that is to be written
 abbrev pub plan_in : ReadyNode → ℕ → Bool → Bor (List HeldOperand) → NodePlan
 plan_in r many gated table =
     record { layout = r.layout; needs = record { flags = r.flags.clocks; firsts = r.firsts.clocks; holds = many; condact = gated }; plan = r.written.plan; holds = table; types = r.written.types }
 
-module _ (spelling : Spelling) (r : ReadyNode) (k : ℕ) {many : ℕ} {gated : Bool} {table : Bor (List HeldOperand)} {names : List Letters} {sheet : Sheet} {n : ClockedNode} (h : PlannedNode spelling (index_before r k) (plan_in r many gated table) names sheet n)
+module _ (spelling : Spelling) (r : ReadyNode) {many : ℕ} {gated : Bool} {table : Bor (List HeldOperand)} {names : List Letters} {sheet : Sheet} {n : ClockedNode} (h : PlannedNode spelling r.written.index.now (plan_in r many gated table) names sheet n)
     (f : Filled names n.node (node_needs names sheet n) (plan_in r many gated table).needs r.names.now)
     {long : ℕ} (cut : r.written.holds.now ≡ take long table.now) (least : long ≡ min r.names.now.holds (length table.now))
     (f-flags : FlagsNamed names n.node ck r.flags.clocks.words.now r.flags.names.now (node_needs names sheet n).flags) (f-firsts : FlagsNamed names n.node first r.firsts.clocks.words.now r.firsts.names.now (node_needs names sheet n).firsts)
     {o : NameTable 1024 16384} {before all : List Letters} (held : NamesHeld o (names_with names before sheet n)) (kept : o.full ≡ false) (ahead : NamesAhead names before sheet n all)
-    (same-flags : r.flags.ids.now ≡ r.written.flag_ids.now) (same-firsts : r.firsts.ids.now ≡ r.written.first_ids.now)
+    (same-flags : r.flags.ids.now ≡ r.written.ids.flags.now) (same-firsts : r.firsts.ids.now ≡ r.written.ids.firsts.now)
     (flags₀ firsts₀ holds₀ : List ℕ) (a : length flags₀ ≡ 1024) (b : length firsts₀ ≡ 1024) (d : length holds₀ ≡ 1024)
     (x : r.flags.ids.now ≡ over_at 0 (ids_of (names_of o) ck r.flags.names.now.numbers r.flags.clocks.count) flags₀)
     (y : r.firsts.ids.now ≡ over_at 0 (ids_of (names_of o) first r.firsts.names.now.numbers r.firsts.clocks.count) firsts₀)
-    (z : r.written.hold_ids.now ≡ over_at 0 (ids_of (names_of o) hold r.names.now.hold_numbers r.names.now.holds) holds₀)
-    (gate : r.written.index.now.condact ≡ condact_id (names_of o)) where
+    (z : r.written.ids.holds.now ≡ over_at 0 (ids_of (names_of o) hold r.names.now.hold_numbers r.names.now.holds) holds₀)
+    (gate : r.written.ids.condact ≡ condact_id (names_of o)) where
   abbrev w : Needs
   w = node_needs names sheet n
 
@@ -113,7 +108,7 @@ module _ (spelling : Spelling) (r : ReadyNode) (k : ℕ) {many : ℕ} {gated : B
   sofar = names_with names before sheet n
 
   abbrev K : ℕ
-  K = r.written.index.now.condact
+  K = r.written.ids.condact
 
   gate-so-far : K ≡ condact_id sofar
   gate-so-far = gate ∙ ap condact_id (sym (held.kept kept))
@@ -161,17 +156,17 @@ module _ (spelling : Spelling) (r : ReadyNode) (k : ℕ) {many : ℕ} {gated : B
   alike g u = sym (same-condact names sofar ahead.input g u) ∙ ap (eqb g) (sym gate-so-far)
 
   abbrev ids : Ids
-  ids = ids_by w r.flags.ids.now r.firsts.ids.now r.written.hold_ids.now K
+  ids = ids_by w r.flags.ids.now r.firsts.ids.now r.written.ids.holds.now K
 
   -- the ids are those that the tables say
   same-ids : ids ≡ ready.ids_of r
-  same-ids = ap₂ (λ (u v : List Clock). ids_in u v r.flags.ids.now r.firsts.ids.now r.written.hold_ids.now K) (sym flagged) (sym first-flagged)
+  same-ids = ap₂ (λ (u v : List Clock). ids_in u v r.flags.ids.now r.firsts.ids.now r.written.ids.holds.now K) (sym flagged) (sym first-flagged)
 
   needs-same : w ≡ old_needs sheet.types sheet.nodes n.node K n.clocking.equations no_needs
   needs-same = same-needs sheet.types sheet.nodes n.node (length names) (condact_id names) K alike n.clocking.equations no_needs (shaped h)
 
   abbrev writer : Writer
-  writer = writer_of sheet n K r.flags.ids.now r.firsts.ids.now r.written.hold_ids.now
+  writer = writer_of sheet n K r.flags.ids.now r.firsts.ids.now r.written.ids.holds.now
 
   faultless : old_fault sheet.types sheet.nodes n.node K 0 n.clocking.equations ≡ none
   faultless = sym (same-fault sheet.types sheet.nodes n.node (length names) (condact_id names) K alike 0 n.clocking.equations (shaped h)) ∙ h.going
@@ -181,10 +176,10 @@ module _ (spelling : Spelling) (r : ReadyNode) (k : ℕ) {many : ℕ} {gated : B
   held-lent =
       let S = r.written.index.now.source in
       let made : length (old_yield sheet.types sheet.nodes n.node ids 0 n.clocking.equations).holds ≡ w.holds =
-      subst (λ (v : Needs). length (old_yield sheet.types sheet.nodes n.node (ids_by v r.flags.ids.now r.firsts.ids.now r.written.hold_ids.now K) 0 n.clocking.equations).holds ≡ v.holds) (sym needs-same)
-      (holds-made sheet.types sheet.nodes n.node K n.clocking.equations faultless r.flags.ids.now r.firsts.ids.now r.written.hold_ids.now).0 in
+      subst (λ (v : Needs). length (old_yield sheet.types sheet.nodes n.node (ids_by v r.flags.ids.now r.firsts.ids.now r.written.ids.holds.now K) 0 n.clocking.equations).holds ≡ v.holds) (sym needs-same)
+      (holds-made sheet.types sheet.nodes n.node K n.clocking.equations faultless r.flags.ids.now r.firsts.ids.now r.written.ids.holds.now).0 in
       subst (λ (l : List HeldOperand). HeldFrom S.names S.tags.now S.values.now writer r.written.plan.now l 0 (old_yield sheet.types sheet.nodes n.node ids 0 n.clocking.equations).holds) (sym cut)
-      (holds-cut S.names S.tags.now S.values.now writer r.written.plan.now table.now long 0 _ (omega (arith, made, lent-many)) (h.held K r.flags.ids.now r.firsts.ids.now r.written.hold_ids.now whole))
+      (holds-cut S.names S.tags.now S.values.now writer r.written.plan.now table.now long 0 _ (omega (arith, made, lent-many)) (h.held K r.flags.ids.now r.firsts.ids.now r.written.ids.holds.now whole))
 
   -- it can be written
   pub is-ready : NodeReady names r
@@ -206,19 +201,19 @@ module _ (spelling : Spelling) (r : ReadyNode) (k : ℕ) {many : ℕ} {gated : B
             (record { fit = firsts-fit; flagged = first-flagged; order = f-firsts.order; few = omega (arith, many-firsts, f.few.firsts) });
         held-many = f.held ∙ ap (λ (v : Needs). v.holds) needs-same;
         few-holds = omega (arith, f.held, few-holds);
-        planned = rw (← same-ids) (planned-alike S.names S.tags.now S.values.now writer r.written.plan.now (length names) (condact_id names) K alike ids n.clocking.equations 0 _ _ (shaped h) (h.planned K r.flags.ids.now r.firsts.ids.now r.written.hold_ids.now whole));
+        planned = rw (← same-ids) (planned-alike S.names S.tags.now S.values.now writer r.written.plan.now (length names) (condact_id names) K alike ids n.clocking.equations 0 _ _ (shaped h) (h.planned K r.flags.ids.now r.firsts.ids.now r.written.ids.holds.now whole));
         held-length = lent-length ∙ sym f.held;
         held = rw (← same-ids) held-lent;
       }
 
   agree : Agree w.flags w.firsts w.holds (new_id names sofar n.node) K ids
   agree =
-      ids-agree (new_id names sofar n.node) w.flags w.firsts w.holds r.flags.ids.now r.firsts.ids.now r.written.hold_ids.now K K
+      ids-agree (new_id names sofar n.node) w.flags w.firsts w.holds r.flags.ids.now r.firsts.ids.now r.written.ids.holds.now K K
       (ids-filled names sofar n.node held kept ck r.flags.names.now.numbers (length w.flags) flags₀ r.flags.ids.now f-flags.numbers (omega (arith, a, many-flags, f.few.flags))
       (x ∙ ap (λ (i : ℕ). over_at 0 (ids_of (names_of o) ck r.flags.names.now.numbers i) flags₀) (sym many-flags)))
       (ids-filled names sofar n.node held kept first r.firsts.names.now.numbers (length w.firsts) firsts₀ r.firsts.ids.now f-firsts.numbers (omega (arith, b, many-firsts, f.few.firsts))
       (y ∙ ap (λ (i : ℕ). over_at 0 (ids_of (names_of o) first r.firsts.names.now.numbers i) firsts₀) (sym many-firsts)))
-      (ids-filled names sofar n.node held kept hold r.names.now.hold_numbers w.holds holds₀ r.written.hold_ids.now f.hold-numbers (omega (arith, d, few-holds))
+      (ids-filled names sofar n.node held kept hold r.names.now.hold_numbers w.holds holds₀ r.written.ids.holds.now f.hold-numbers (omega (arith, d, few-holds))
       (z ∙ ap (λ (i : ℕ). over_at 0 (ids_of (names_of o) hold r.names.now.hold_numbers i) holds₀) f.held))
       refl
 

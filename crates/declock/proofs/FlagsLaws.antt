@@ -34,6 +34,7 @@ use Rattle.emit.proofs.Laws.{emits-append, emits_none}
 use Rattle.emit.proofs.NodePartsLaws.{after}
 use Rattle.declock.specs.declared.Flags.{Flags}
 use Rattle.declock.specs.Tabled.{FlagIds}
+use Rattle.declock.specs.Parts.{declaration_tokens, declarations}
 
 -- the id in a row of the order
 pub id-here : (f : Flags) (id : Clock → ℕ) (lent : List ℕ) (i x : ℕ) → FlagIds f id → lent ≡ take f.names.now.ordered f.names.now.order → i < f.names.now.ordered → x ≡ get_or f.ids.now (get_or lent i 0) 0
@@ -118,22 +119,12 @@ pub row-here : (f : ℕ → Clock) (chain lent : List ℕ) (m i : ℕ) (c : Cloc
 row-here f chain lent m i c e u q = q ∙ ap f (ap (λ (l : List ℕ). get_or l i 0) e ∙ get_or-take m chain i 0 u)
 
 -- ---- declarations
--- a flag's declaration
-abbrev pub declaration_tokens : (Clock → ℕ) → Clock → List Token
-declaration_tokens id c = Token.Name (id c) ∷ Token.Type (TypeToken.Basic Primitive.Bool) ∷ []
-
-abbrev pub declarations : (Clock → ℕ) → List Clock → List Token
-declarations id cs = join (map (declaration_tokens id) cs)
-
-declared-locals : (id : Clock → ℕ) (right : Clock → Expr) (cs : List Clock)
+-- they are those of locals, whatever these are equal to
+pub declared-locals : (id : Clock → ℕ) (right : Clock → Expr) (cs : List Clock)
     → declarations id cs ≡ join (map declared_tokens (map local_declared (map (λ (c : Clock). record { name = id c; type = Ty.primitive Primitive.Bool; right = right c }) cs)))
 unfolding declared_tokens ty_tokens
 declared-locals id right [] = refl
 declared-locals id right (c ∷ cs) = ap (λ (l : List Token). declaration_tokens id c ++ l) (declared-locals id right cs)
-
-pub declared-all : (f : ℕ → Clock) (chain : List ℕ) (m i : ℕ) (o o₁ : Output) (id : Clock → ℕ) (right : Clock → Expr) → m ≤ i → Left f chain (declarations id) m (emits o (declarations id (picked f chain 0 m))) o₁ i
-    → o₁ ≡ emits o (join (map declared_tokens (map local_declared (map (λ (c : Clock). record { name = id c; type = Ty.primitive Primitive.Bool; right = right c }) (picked f chain 0 m)))))
-declared-all f chain m i o o₁ id right h e = rows_all f chain (declarations id) m _ refl o₁ i h e ∙ ap (emits o) (declared-locals id right (picked f chain 0 m))
 
 pub declaration-line : (id : Clock → ℕ) (c : Clock) (x : ℕ) (o o₁ : Output) → x ≡ id c → o₁ ≡ emits o (Token.Name x ∷ Token.Type (TypeToken.Basic Primitive.Bool) ∷ []) → o₁ ≡ emits o (declaration_tokens id c)
 declaration-line id c x o o₁ e f = f ∙ rw e

@@ -6,6 +6,7 @@ use mathlib.Core.List.{List, [], ◌∷◌, ◌++◌, map, append_assoc}
 use mathlib.Core.Option.{none}
 use native.Mathlib.Omega.{arith}
 use lib.ListN.{length, get_or, length-append, length-map}
+use Rattle.std.proofs.lemmas.List.{map-append}
 use Rattle.definitions.specs.declared.Token.{Token}
 use Rattle.definitions.specs.Lists.{join, Letters}
 use Rattle.definitions.specs.Tree.{TypeDef, Equation, Node}
@@ -24,21 +25,17 @@ use Rattle.stateless.specs.Locals.{ids_in, Agree, Local, flag_locals, first_loca
 use Rattle.stateless.proofs.Stops.{old-outcome, meets-none}
 use Rattle.stateless.proofs.Growth.{leads-self}
 use Rattle.stateless.proofs.Yields.{old-yields, old-needs}
+use Rattle.stateless.proofs.Nodes.{append-joined}
 use Rattle.emit.proofs.NodePartsLaws.{after}
 use Rattle.declock.specs.Parts.{front_tokens, body_tokens}
 
 -- ---- the tokens, part by part
 -- items of three lists behind one another
 joined-three : {A B : Type 0} (f : A → B) (g : B → List Token) (a b c : List A) → join (map g (map f (a ++ (b ++ c)))) ≡ join (map g (map f a)) ++ (join (map g (map f b)) ++ join (map g (map f c)))
-joined-three f g a b c = joined-two a (b ++ c) ∙ ap (λ (l : List Token). join (map g (map f a)) ++ l) (joined-two b c)
+joined-three {A} f g a b c = joined-two a (b ++ c) ∙ ap (λ (l : List Token). join (map g (map f a)) ++ l) (joined-two b c)
   where
-    joined-two : (a b : List _) → join (map g (map f (a ++ b))) ≡ join (map g (map f a)) ++ join (map g (map f b))
-    joined-two [] b = refl
-    joined-two (x ∷ a) b = ap (λ (l : List Token). g (f x) ++ l) (joined-two a b) ∙ sym (append_assoc (g (f x)) (join (map g (map f a))) (join (map g (map f b))))
-
-joined-behind : {A : Type 0} (g : A → List Token) (a b : List A) → join (map g (a ++ b)) ≡ join (map g a) ++ join (map g b)
-joined-behind g [] b = refl
-joined-behind g (x ∷ a) b = ap (λ (l : List Token). g x ++ l) (joined-behind g a b) ∙ sym (append_assoc (g x) (join (map g a)) (join (map g b)))
+    joined-two : (a b : List A) → join (map g (map f (a ++ b))) ≡ join (map g (map f a)) ++ join (map g (map f b))
+    joined-two a b = ap (λ l. join (map g l)) (map-append f a b) ∙ append-joined g (map f a) (map f b)
 
 -- THE LAW: a node with new locals is its front, its body, its probes
 pub node-parts : (n : Node) (new : List Local) (old : List Equation) → node_tokens (with_locals n new old) ≡ front_tokens n new ++ (body_tokens new old ++ counted_tokens probe_tokens n.probes)
@@ -66,7 +63,7 @@ module _ (n : Node) (a b c : List Local) (o : Output) where
       let own = join (map declared_tokens n.locals) in
       let s : length n.locals + more ≡ length (n.locals ++ map local_declared new) = ap (λ (x : ℕ). length n.locals + x) (m ∙ sym (length-map new local_declared)) ∙ sym (length-append n.locals (map local_declared new)) in
       let t : own ++ (join (map declared_tokens (map local_declared a)) ++ (join (map declared_tokens (map local_declared b)) ++ join (map declared_tokens (map local_declared c)))) ≡ join (map declared_tokens (n.locals ++ map local_declared new)) =
-      ap (λ (l : List Token). own ++ l) (sym (joined-three local_declared declared_tokens a b c)) ∙ sym (joined-behind declared_tokens n.locals (map local_declared new)) in
+      ap (λ (l : List Token). own ++ l) (sym (joined-three local_declared declared_tokens a b c)) ∙ sym (append-joined declared_tokens n.locals (map local_declared new)) in
       after o o₁ o₅ _ _ e (after o₁ o₂ o₅ _ _ f (after o₂ o₃ o₅ _ _ g (after o₃ o₄ o₅ _ _ h k)))
       ∙ (ap₂ (λ (x : ℕ) (l : List Token). emits o (Token.Node n.name ∷ Token.Kind n.kind ∷ ((i ++ u) ++ (Token.Count x ∷ l)))) s t
       ∙ ap (λ (l : List Token). emits o (Token.Node n.name ∷ Token.Kind n.kind ∷ l)) (append_assoc i u (counted_tokens declared_tokens (n.locals ++ map local_declared new))))
@@ -85,7 +82,7 @@ module _ (n : Node) (a b c : List Local) (o : Output) where
       let s : total ≡ length (map local_equation new ++ old) = m ∙ (ap (λ (x : ℕ). x + length old) (sym (length-map new local_equation)) ∙ sym (length-append (map local_equation new) old)) in
       let t : A ++ (B ++ (C ++ O)) ≡ join (map equation_tokens (map local_equation new ++ old)) =
       ap (λ (l : List Token). A ++ l) (sym (append_assoc B C O)) ∙ (sym (append_assoc A (B ++ C) O)
-      ∙ (ap (λ (l : List Token). l ++ O) (sym (joined-three local_equation equation_tokens a b c)) ∙ sym (joined-behind equation_tokens (map local_equation new) old))) in
+      ∙ (ap (λ (l : List Token). l ++ O) (sym (joined-three local_equation equation_tokens a b c)) ∙ sym (append-joined equation_tokens (map local_equation new) old))) in
       after o o₁ o₅ _ _ e (after o₁ o₂ o₅ _ _ f (after o₂ o₃ o₅ _ _ g (after o₃ o₄ o₅ _ _ h k)))
       ∙ ap₂ (λ (x : ℕ) (l : List Token). emits o (Token.Count x ∷ l)) s t
 

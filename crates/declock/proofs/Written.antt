@@ -18,14 +18,15 @@ use Rattle.emit.specs.Out.{emits}
 use Rattle.stateless.specs.Need.{Needs}
 use Rattle.stateless.specs.Yield.{Ids, Yield}
 use Rattle.stateless.specs.Faults.{old_fault}
-use Rattle.stateless.specs.Locals.{ids_in, Local, flag_locals, first_locals, hold_locals, local_declared, local_equation}
+use Rattle.stateless.specs.Locals.{ids_in, Local, activation_by, first_tick_by, flag_locals, first_locals, hold_locals, local_equation}
 use Rattle.stateless.specs.Rewritten.{locals_by, node_by}
 use Rattle.planned.specs.Held.{HeldFrom}
 use Rattle.planned.specs.Planned.{EquationsPlanned}
 use Rattle.planned.specs.Shown.{hold_declarations, hold_equations}
 use Rattle.declock.specs.Tabled.{FlagIds, flagged_clocks, ordered_clocks}
 use Rattle.declock.specs.declared.Flags.{Flags}
-use Rattle.declock.specs.Parts.{front_tokens, body_tokens}
+use Rattle.declock.specs.Parts.{declarations, front_tokens, body_tokens}
+use Rattle.declock.proofs.FlagsLaws.{declared-locals}
 use Rattle.declock.specs.declared.ReadyNode.{ReadyNode}
 use Rattle.declock.specs.Ready.{ids_of, FlagsReady, NodeReady, needs_in, yield_in}
 use Rattle.declock.proofs.Laws.{front-written, body-written, node-written, ordered-count, new-count, yield-length, holds-made}
@@ -65,14 +66,14 @@ module _ (names : List Letters) {t : ReadyNode} (h : NodeReady names t) (ids : I
   -- as many holds as are needed
   made : (length y.holds ≡ w.holds) × (y.after ≡ w.holds)
   made =
-      let k = t.written.index.now.condact in
-      let e : ids_in w.flags w.firsts t.flags.ids.now t.firsts.ids.now t.written.hold_ids.now k ≡ ids =
-      ap₂ (λ (a b : List Clock). ids_in a b t.flags.ids.now t.firsts.ids.now t.written.hold_ids.now k) (sym h.flags.flagged) (sym h.firsts.flagged) ∙ sym q in
+      let k = t.written.ids.condact in
+      let e : ids_in w.flags w.firsts t.flags.ids.now t.firsts.ids.now t.written.ids.holds.now k ≡ ids =
+      ap₂ (λ (a b : List Clock). ids_in a b t.flags.ids.now t.firsts.ids.now t.written.ids.holds.now k) (sym h.flags.flagged) (sym h.firsts.flagged) ∙ sym q in
       subst (λ (i : Ids). (length (yield_in h i).holds ≡ w.holds) × ((yield_in h i).after ≡ w.holds)) e
-      (holds-made h.writer.types h.writer.nodes node k h.equations h.faultless t.flags.ids.now t.firsts.ids.now t.written.hold_ids.now)
+      (holds-made h.writer.types h.writer.nodes node k h.equations h.faultless t.flags.ids.now t.firsts.ids.now t.written.ids.holds.now)
 
   -- the ids of holds and of `condact`
-  pub hold-ids : (j : ℕ) → ids.hold j ≡ get_or t.written.hold_ids.now j 0
+  pub hold-ids : (j : ℕ) → ids.hold j ≡ get_or t.written.ids.holds.now j 0
   hold-ids j = ap (λ (i : Ids). i.hold j) q
 
   pub condact-id : ids.condact ≡ h.writer.condact
@@ -118,15 +119,14 @@ module _ (names : List Letters) {t : ReadyNode} (h : NodeReady names t) (ids : I
   pub ready-front : (o : Output) {o₁ o₂ o₃ o₄ o₅ : Output} {more : ℕ} → Counts 0 more
       → o₁ ≡ emits o (Token.Node node.name ∷ Token.Kind node.kind ∷ (counted_tokens declared_tokens node.inputs ++ counted_tokens declared_tokens node.outputs))
       → (length node.locals + more < 4294967296 → o₂ ≡ emits o₁ (Token.Count (length node.locals + more) ∷ join (map declared_tokens node.locals)))
-      → o₃ ≡ emits o₂ (join (map declared_tokens (map local_declared (flag_locals ids (ordered_clocks t.flags)))))
-      → o₄ ≡ emits o₃ (join (map declared_tokens (map local_declared (first_locals ids (ordered_clocks t.firsts)))))
+      → o₃ ≡ emits o₂ (declarations ids.flag (ordered_clocks t.flags)) → o₄ ≡ emits o₃ (declarations ids.first (ordered_clocks t.firsts))
       → o₅ ≡ emits o₄ (hold_declarations ids 0 y.holds) → o₅ ≡ emits o (front_tokens node new)
   ready-front o {o₁} {o₂} {o₃} {o₄} {o₅} {more} n a b c d s =
       let m : more ≡ length new = counted 0 more (omega arith) n ∙ omega arith in
       front-written node (flag_locals ids flagged) (first_locals ids firstly) (hold_locals ids 0 y.holds) o o₁ o₂ o₃ o₄ o₅ more m a
       (b (omega (arith, m, new-many, counts.3, counts.4, counts.5, few-locals)))
-      (c ∙ ap (λ (cs : List Clock). emits o₂ (join (map declared_tokens (map local_declared (flag_locals ids cs))))) h.flags.order.sorted)
-      (d ∙ ap (λ (cs : List Clock). emits o₃ (join (map declared_tokens (map local_declared (first_locals ids cs))))) h.firsts.order.sorted)
+      (c ∙ ap (emits o₂) (ap (declarations ids.flag) h.flags.order.sorted ∙ declared-locals ids.flag (activation_by ids) flagged))
+      (d ∙ ap (emits o₃) (ap (declarations ids.first) h.firsts.order.sorted ∙ declared-locals ids.first (first_tick_by ids) firstly))
       s
 
   -- the body
@@ -135,7 +135,7 @@ module _ (names : List Letters) {t : ReadyNode} (h : NodeReady names t) (ids : I
       → o₃ ≡ emits o₂ (join (map equation_tokens (map local_equation (first_locals ids (ordered_clocks t.firsts)))))
       → o₄ ≡ emits o₃ (hold_equations ids 0 y.holds) → o₅ ≡ emits o₄ (join (map equation_tokens y.value)) → o₅ ≡ emits o (body_tokens new y.value)
   ready-body o {o₁} {o₂} {o₃} {o₄} {o₅} {old} {total} u n a b c s s' =
-      let v : old ≡ length y.value = u ∙ sym (yield-length h.writer.types h.writer.nodes node t.written.index.now.condact ids 0 h.equations ∙ h.many) in
+      let v : old ≡ length y.value = u ∙ sym (yield-length h.writer.types h.writer.nodes node t.written.ids.condact ids 0 h.equations ∙ h.many) in
       let m : total ≡ length new + length y.value = counted old total (omega (arith, u, h.grounds.laid.equations.many, h.few-equations)) n ∙ ap (λ (x : ℕ). length new + x) v in
       body-written node (flag_locals ids flagged) (first_locals ids firstly) (hold_locals ids 0 y.holds) o o₁ o₂ o₃ o₄ o₅ y.value total m a
       (b ∙ ap (λ (cs : List Clock). emits o₁ (join (map equation_tokens (map local_equation (flag_locals ids cs))))) h.flags.order.sorted)

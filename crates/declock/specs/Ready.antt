@@ -23,7 +23,7 @@ use Rattle.declock.specs.Tabled.{flagged_clocks}
 
 -- the ids that the tables say
 abbrev pub ids_of : ReadyNode → Ids
-ids_of t = ids_in (flagged_clocks t.flags) (flagged_clocks t.firsts) t.flags.ids.now t.firsts.ids.now t.written.hold_ids.now t.written.index.now.condact
+ids_of t = ids_in (flagged_clocks t.flags) (flagged_clocks t.firsts) t.flags.ids.now t.firsts.ids.now t.written.ids.holds.now t.written.ids.condact
 
 -- these clocks have flags: each has its row, and the rows stand in chain order
 pub record FlagsReady (names : List Letters) (f : Flags) (clocks : List Clock) : Type 0 where
@@ -39,12 +39,12 @@ pub record NodeReady (names : List Letters) (t : ReadyNode) : Type 0 where
   pub grounds : Grounds t.written t.layout writer
   pub equations : List Clocked
   pub many : length equations ≡ t.layout.equations.count
-  pub faultless : old_fault writer.types writer.nodes writer.node t.written.index.now.condact 0 equations ≡ none
+  pub faultless : old_fault writer.types writer.nodes writer.node t.written.ids.condact 0 equations ≡ none
   pub few-declared : length (declared writer.node) ≤ 128
   pub few-equations : length writer.node.equations ≤ 64
-  pub flags : FlagsReady names t.flags (old_needs writer.types writer.nodes writer.node t.written.index.now.condact equations no_needs).flags
-  pub firsts : FlagsReady names t.firsts (old_needs writer.types writer.nodes writer.node t.written.index.now.condact equations no_needs).firsts
-  pub held-many : t.names.now.holds ≡ (old_needs writer.types writer.nodes writer.node t.written.index.now.condact equations no_needs).holds
+  pub flags : FlagsReady names t.flags (old_needs writer.types writer.nodes writer.node t.written.ids.condact equations no_needs).flags
+  pub firsts : FlagsReady names t.firsts (old_needs writer.types writer.nodes writer.node t.written.ids.condact equations no_needs).firsts
+  pub held-many : t.names.now.holds ≡ (old_needs writer.types writer.nodes writer.node t.written.ids.condact equations no_needs).holds
   pub few-holds : t.names.now.holds ≤ 1024
   pub held-length : length t.written.holds.now ≡ t.names.now.holds
   pub planned : EquationsPlanned t.written.index.now.source.names t.written.index.now.source.tags.now t.written.index.now.source.values.now writer t.written.plan.now writer.condact (ids_of t) 0 equations t.layout.equations.at t.layout.equations.end
@@ -53,7 +53,7 @@ pub record NodeReady (names : List Letters) (t : ReadyNode) : Type 0 where
 module _ {names : List Letters} {t : ReadyNode} (h : NodeReady names t) where
   -- what rewriting it needs
   abbrev pub needs_in : Needs
-  needs_in = old_needs h.writer.types h.writer.nodes h.writer.node t.written.index.now.condact h.equations no_needs
+  needs_in = old_needs h.writer.types h.writer.nodes h.writer.node t.written.ids.condact h.equations no_needs
 
   -- what its equations yield
   abbrev pub yield_in : Ids → Yield (List Equation)

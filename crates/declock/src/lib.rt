@@ -13,7 +13,7 @@ ghost use Rattle.stateless.specs.Locals.{activation_by, first_tick_by, flag_loca
 ghost use Rattle.emit.specs.Out.{emits};
 ghost use Rattle.declock.specs.Tabled.{FlagIds, ordered_clocks};
 ghost use Rattle.stateless.specs.Rewritten.{locals_by, node_by};
-ghost use Rattle.declock.specs.Parts.{front_tokens, body_tokens};
+ghost use Rattle.declock.specs.Parts.{declarations, front_tokens, body_tokens};
 ghost use Rattle.declock.specs.Ready.{ids_of, NodeReady, needs_in, yield_in};
 ghost use Rattle.definitions.specs.Tree.{Sheet};
 ghost use Rattle.spelling.specs.Table.{NamesHeld};
@@ -29,10 +29,10 @@ use emit::Output;
 use index::Index;
 use layout::NodeLayout;
 use new_names::{FlagNames, NewIds, NodeNames, NodeNeeds};
-use planned::{HeldOperand, WriteInput};
+use planned::{HeldOperand, LentIds, WriteInput};
 use spelling::{NamedSource, OutputNames, Spelling};
 
-// ---- The flags of clocks: their declarations and equations written into the output's arrays.
+// ---- The flags of clocks: their declarations and equations as tokens of the output.
 
 // The flags of clocks: the clocks, which of their rows stand in chain order, and the id of each row's flag.
 #[derive(Clone, Copy)]
@@ -77,8 +77,7 @@ fn put_declaration(output: &mut Output, x: u32)
 
 // The declarations of activation flags or of first-tick flags.
 fn put_declarations(output: &mut Output, flags: &Flags<'_>)
-    ensures result_after { (i : Ids) → FlagIds flags.now i.flag → output.new ≡ emits output.old (join (map declared_tokens (map local_declared (flag_locals i (ordered_clocks flags.now))))) }
-    ensures result_after_2 { (i : Ids) → FlagIds flags.now i.first → output.new ≡ emits output.old (join (map declared_tokens (map local_declared (first_locals i (ordered_clocks flags.now))))) }
+    ensures { (id : clocks.Clock → ℕ) → FlagIds flags.now id → output.new ≡ emits output.old (declarations id (ordered_clocks flags.now)) }
 {
     for &row in flags.names.order() {
         put_declaration(output, flags.id_in(row));
@@ -164,7 +163,7 @@ fn put_first_equations(output: &mut Output, firsts: &Flags<'_>, flags: &Flags<'_
     }
 }
 
-// ---- A rewritten node written into the output's arrays, part by part.
+// ---- A rewritten node as tokens of the output, part by part.
 
 // A node that is to be written: what its equations are written with, its new names, its activation flags and its first-tick flags, and its
 // layout.
@@ -266,17 +265,18 @@ fn put_filled(
     };
     names.put_ids(&node.needs, table, &mut ids);
     let held = names.holds.min(node.holds.len());
-    let index = Index {
+    let lent = LentIds {
+        flags: &ids.flags,
+        firsts: &ids.firsts,
+        holds: &ids.holds,
         condact: ids.condact,
-        ..*index
     };
     let written = WriteInput {
-        index: &index,
+        // Lent again, for as long as the ids are.
+        index: &*index,
         plan: node.plan,
         parts: &layout::parts_table(),
-        flag_ids: &ids.flags,
-        first_ids: &ids.firsts,
-        hold_ids: &ids.holds,
+        ids: lent,
         holds: &node.holds[..held],
         types: node.types,
     };

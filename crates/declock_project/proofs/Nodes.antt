@@ -11,6 +11,7 @@ use lib.Dec.{leb}
 use borrow.Author.Tests.{le-leb, leb-true}
 use lib.ListN.{length, get_or, get_elem?, take, drop, length-append}
 use lib.ListN.{take-append-drop}
+use Rattle.std.proofs.lemmas.Bool.{and_parts}
 use Rattle.definitions.specs.declared.Token.{Token}
 use Rattle.definitions.specs.Lists.{join, Letters}
 use Rattle.grammar.specs.Read.{tokens_of}
@@ -68,7 +69,7 @@ module _ {spelling : Spelling} {t : Index} {r : Input} {n : ClockedNode} {p : No
       record {
         named = u.clean.named;
         standing = h.nodes;
-        table = h.types;
+        table = h.types.table;
         uses = u.uses;
         place = u.place;
         end = u.end;
@@ -178,15 +179,11 @@ module _ (spelling : Spelling) (t : Index) (k : ℕ) (l : NodeLayout) (L : (n : 
 -- ---- names for which there is no place have none with more
 room-before : (l all : List Letters) → Goes l all → within 1024 16384 all ≡ true → within 1024 16384 l ≡ true
 room-before l all g w =
-    let x = both (leb (length all) 1024) (leb (length (join all)) 16384) w in
+    let x = and_parts (leb (length all) 1024) (leb (length (join all)) 16384) w in
     let m : length l + length g.0 ≡ length all = sym (length-append l g.0) ∙ ap length g.1 in
     let j : length (join l) ≤ length (join all) = subst (λ (y : List Letters). length (join l) ≤ length (join y)) g.1 (joined l g.0) in
     ap₂ ◌&&◌ (le-leb (length l) 1024 (omega (arith, leb-true (length all) 1024 x.0, m))) (le-leb (length (join l)) 16384 (omega (arith, leb-true (length (join all)) 16384 x.1, j)))
   where
-    both : (a b : Bool) → a && b ≡ true → (a ≡ true) × (b ≡ true)
-    both true b e = (refl, e)
-    both false b e = absurd (true≢false (sym e))
-
     joined : (l m : List Letters) → length (join l) ≤ length (join (l ++ m))
     joined [] m = omega arith
     joined (x ∷ l) m = let i = joined l m in omega (arith, i, length-append x (join l), length-append x (join (l ++ m)))

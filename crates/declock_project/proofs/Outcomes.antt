@@ -16,6 +16,7 @@ use Rattle.definitions.specs.Bytes.{tokens}
 use Rattle.definitions.specs.Refusals.{Answer, accepted, refused, faulty}
 use Rattle.definitions.specs.Output.{ClockedNode, sheet_tokens, sheet_bytes, within_limits, written}
 use Rattle.definitions.specs.Answer.{Input, input, clockings, rewrite_answer}
+use Rattle.shapes.proofs.Facts.{over-long}
 use Rattle.spelling.specs.declared.names.Spelling.{Spelling}
 use Rattle.spelling.specs.declared.name_table.NameTable.{NameTable}
 use Rattle.grammar.specs.declared.source.Source.{Source}
@@ -29,7 +30,6 @@ use Rattle.stateless.proofs.Nodes.{many-tokens}
 use Rattle.stateless.proofs.Answers.{all_names, out_sheet, rewrite-deep, rewrite-faulty, rewrite-large, rewrite-lent, rewrite-accepted}
 use Rattle.query.specs.declared.fault_list.FaultList.{FaultList}
 use Rattle.first_faults.specs.Faults.{Recorded}
-use Rattle.first_faults.proofs.Records.{over-long}
 use Rattle.parts.specs.Bytes.{written_answer, written_bytes}
 use Rattle.declock_project.specs.Walk.{Faultless, Walks}
 use Rattle.declock_project.specs.Given.{RewriteGiven, Read}
@@ -71,7 +71,7 @@ none_deep r lent l u h = h
 pub recorded-long : {lent fs now : List FaultRecord} {m : ℕ} → Recorded lent fs m now → length now ≡ length lent
 recorded-long {lent} {fs} h = ap length h.written ∙ over-long fs lent
 
--- where none is counted there is none
+-- of a walk that counted none, no node has a fault
 pub none-recorded : (r : Input) (lent : List FaultRecord) (l : FaultList) (u : Unit) → Walks r lent l (Ok u) → l.count ≤ 0 → (ns : List ClockedNode) × (clockings 0 r.sheet.nodes ≡ accepted ns) × (first_faults_from r 0 ns ≡ [])
 none-recorded r lent l u h z =
     let n = none_deep r lent l u h in

@@ -1,7 +1,7 @@
 -- Node after node up to the first in which too deep a clock is formed, with the first faults recorded in a list.
 -- Assumes nothing.
 use Prim.Native.Nat.{ℕ, ◌≤◌, ◌<◌}
-use mathlib.Core.Path.{◌≡◌, sym, ◌∙◌, subst}
+use mathlib.Core.Path.{◌≡◌, ◌∙◌}
 use mathlib.Core.List.{List}
 use mathlib.Core.Bool.{Bool, true}
 use mathlib.Core.Option.{some}
@@ -18,13 +18,12 @@ use Rattle.definitions.specs.Answer.{Input, clockings}
 use Rattle.infer_clocks.specs.Clocked.{is_deep}
 use Rattle.infer_clocks.proofs.Laws.{Ahead}
 use Rattle.stateless.specs.Sheets.{first_faults_from}
-use Rattle.grammar.specs.declared.source.Source.{Source}
 use Rattle.query.specs.declared.fault_list.FaultList.{FaultList}
 use Rattle.first_faults.specs.Faults.{Recorded}
 use Rattle.first_faults.proofs.Records.{first-end, nodes-deep, nodes-end}
 use Rattle.index.specs.declared.Index.{Index}
 use Rattle.workspace.specs.declared.Working.{Working}
-use Rattle.workspace.specs.Room.{SameRoom, RoomToPlan}
+use Rattle.workspace.specs.Room.{SameRoom}
 use Rattle.workspace.proofs.Kept.{plan-kept}
 use Rattle.declock_project.specs.Walk.{Walks, RoomToWrite}
 
@@ -42,7 +41,3 @@ module _ (r : Input) (k : ℕ) (ahead : Ahead k (drop k r.sheet.nodes) (clocking
 -- ---- the working tables keep their room
 pub room-still : {t : Index} {w w' : Working} {holds holds' : List HeldOperand} → SameRoom w w' → length holds' ≡ length holds → RoomToWrite t w holds → RoomToWrite t w' holds'
 room-still x y r = record { plans = plan-kept x r.plans; hold-room = y ∙ r.hold-room }
-
--- at first, by the source that the index has
-pub room-first : {t : Index} {s : Source} {w : Working} {holds : List HeldOperand} → t.source ≡ s → RoomToPlan s.names (length s.tags.now) w → length holds ≡ 1024 → RoomToWrite t w holds
-room-first {w} e r d = record { plans = subst (λ (s : Source). RoomToPlan s.names (length s.tags.now) w) (sym e) r; hold-room = d }

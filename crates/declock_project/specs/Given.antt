@@ -24,7 +24,7 @@ pub record RewriteGiven (v : Answer (List ℕ)) (lent : List ℕ) (list : List F
   pub bytes : lent' ≡ bytes_after v lent
   pub faults : list' ≡ faults_after v list
 
--- the sheet r, which these bytes say, stands in the working tables, with the lengths of its names
+-- the sheet r, which these bytes say, has these tokens, and names of these lengths, which the letters that are spelled give
 pub record Read (given : List ℕ) (spelling : Spelling) (source : Source) (bytes : List ℕ) (r : Input) : Type 0 where
   pub are-bytes : Bytes bytes
   pub reading : input bytes ≡ accepted r

@@ -31,16 +31,15 @@ use Rattle.node_plan.specs.Outcomes.{NodePlanned}
 use Rattle.index.specs.declared.Index.{Index}
 use Rattle.index.specs.Indexed.{Indexed}
 use Rattle.query.specs.declared.fault_list.FaultList.{FaultList}
-use Rattle.first_faults.specs.Faults.{Recorded}
+use Rattle.first_faults.specs.Faults.{RoomIn, Recorded}
 use Rattle.new_names.specs.Filled.{counts_of}
 use Rattle.declock.specs.declared.NodePlan.{NodePlan}
 use Rattle.declock.specs.Planned.{names_with, NamesAhead}
 use Rattle.workspace.specs.declared.Working.{Working}
-use Rattle.workspace.specs.Room.{RoomToPlan}
 
 -- the working tables have room to plan a node, and that of holds is as large as an output may need
 pub record RoomToWrite (t : Index) (w : Working) (holds : List HeldOperand) : Type 0 where
-  pub plans : RoomToPlan t.source.names (length t.source.tags.now) w
+  pub plans : RoomIn t w
   pub hold-room : length holds ≡ 1024
 
 -- a sheet that these bytes say, the letters of whose names start there: its nodes have these clocks, and none has a fault

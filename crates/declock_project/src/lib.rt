@@ -1,11 +1,9 @@
-// Rewriting an accepted sheet that stands in the working tables: one walk over its nodes, each clocked, planned and written, then the
-// output's bytes; or refusals 9 to 12 in checking order.
+// Rewriting an accepted sheet, whose tokens stand in the working arrays: one walk over its nodes, each clocked, planned and written, then
+// the output's bytes; or refusals 9 to 12 in checking order.
 #![tactic(auto)]
 
 ghost use Rattle.definitions.specs.declared.FaultRecord.{FaultRecord};
-ghost use Rattle.grammar.specs.Read.{tokens_of};
-ghost use Rattle.std.specs.Prelude.{◌≡◌, List, true, false, ℕ, ◌*◌, ◌≤◌, ◌<◌, length, IfOk, IfErr};
-ghost use Rattle.std.specs.Result.{is_err};
+ghost use Rattle.std.specs.Prelude.{◌≡◌, List, true, false, ℕ, ◌*◌, ◌≤◌, ◌<◌, length, IfOk};
 ghost use Rattle.std.proofs.Math.ListN.{get_elem?};
 ghost use Rattle.definitions.specs.Tree.{Node};
 ghost use Rattle.definitions.specs.InferClocks.{Clocking, formed, clocking, uses_clocks};
@@ -13,11 +11,9 @@ ghost use Rattle.definitions.specs.Output.{ClockedNode, node_faults, sheet_token
 ghost use Rattle.definitions.specs.Answer.{Input, rewrite_answer};
 ghost use Rattle.emit.specs.Out.{emits};
 ghost use Rattle.spelling.specs.Table.{NamesHeld};
-ghost use Rattle.layout.specs.Laid.{LaidNode};
-ghost use Rattle.infer_clocks.specs.Clocked.{is_deep};
 ghost use Rattle.index.specs.Indexed.{Indexed};
 ghost use Rattle.workspace.specs.Room.{SameRoom, RoomToPlan};
-ghost use Rattle.first_faults.specs.Faults.{NodeMet, fault_found};
+ghost use Rattle.first_faults.specs.Faults.{LaidIn, DeepAt, NodeMet, fault_found};
 ghost use Rattle.declock_project.specs.Walk.{RoomToWrite, LeftIn, SitedIn, Faultless, NodePut, LaidPut, Walks, AllPut};
 ghost use Rattle.declock_project.specs.Given.{RewriteGiven, Read, Clean};
 ghost use Rattle.emit.specs.declared.output.Output.{Output};
@@ -129,9 +125,8 @@ fn walk_clocked(
     sheet: &mut OutputSheet,
 ) -> Result<Option<Found>, Refusal>
     ensures same_room { SameRoom working.old working.new }
-    ensures refused_at { IfErr result (λ r. r ≡ Refusal.Deep k) }
-    ensures deep_value { (node : Node) (q : ℕ) → LaidNode named.entry.index.now.source.names (tokens_of named.entry.index.now.source) node q layout → RoomToWrite named.entry.index.now working.old holds.old → is_err result ≡ is_deep (clocking node) }
-    ensures fault_value { (i : Input) (node : Node) (q : ℕ) (k : Clocking) → Indexed named.entry.index.now i → LaidNode named.entry.index.now.source.names (tokens_of named.entry.index.now.source) node q layout → uses_clocks node ≡ true → clocking node ≡ formed k → RoomToWrite named.entry.index.now working.old holds.old → fault_found result ≡ get_elem? (node_faults i.names i.sheet (record { node = node; clocking = k })) 0 }
+    ensures deepness { DeepAt named.entry.index.now k layout working.old result }
+    ensures fault_value { (i : Input) (node : Node) (q : ℕ) (k : Clocking) → Indexed named.entry.index.now i → LaidIn named.entry.index.now layout node q → uses_clocks node ≡ true → clocking node ≡ formed k → RoomToWrite named.entry.index.now working.old holds.old → fault_found result ≡ get_elem? (node_faults i.names i.sheet (record { node = node; clocking = k })) 0 }
     ensures laid_put { RoomToWrite named.entry.index.now working.old holds.old → LaidPut named.entry.spelling named.entry.index.now layout sheet.old.names sheet.new.names sheet.old.tokens sheet.new.tokens }
 {
     let counts = match first_faults::laid_found(named.index, k, layout, working, holds)? {
@@ -167,9 +162,8 @@ fn walk_node(
     ensures node_met { RoomToWrite named.entry.index.now working.old holds.old → NodeMet named.entry.index.now k result }
     ensures node_put { RoomToWrite named.entry.index.now working.old holds.old → NodePut named.entry.spelling named.entry.index.now k sheet.old.names sheet.new.names sheet.old.tokens sheet.new.tokens }
 {
-    let index = named.index;
-    let source = &index.source;
-    let layout = layout::node_at(source, index.nodes.at[k]);
+    let source = &named.index.source;
+    let layout = named.index.node(k);
     if layout.uses_clocks(source) {
         return walk_clocked(named, k, layout, working, holds, sheet);
     }
@@ -226,7 +220,7 @@ pub fn rewrite_in(
     faults: &mut [FaultRecord],
 ) -> Result<usize, Refusal>
     ensures same_room { SameRoom working.old working.new }
-    ensures given { (bytes : List ℕ) (r : Input) → Read names.entry.lengths.now names.entry.spelling source.now bytes r → RoomToPlan source.now.names (length source.now.tags.now) working.old → RewriteGiven (rewrite_answer bytes (length out.old)) out.old faults.old out.new faults.new result }
+    ensures given { (bytes : List ℕ) (r : Input) → Read names.entry.lengths.now names.entry.spelling source.now bytes r → RoomToPlan source.now working.old → RewriteGiven (rewrite_answer bytes (length out.old)) out.old faults.old out.new faults.new result }
 {
     let index = index::index_of(source, names.condact());
     let mut sheet = OutputSheet {
@@ -247,6 +241,7 @@ pub fn rewrite_in(
     sheet.names.fill(names.lengths, names.spelling.letters);
     emit::put_types(&mut sheet.tokens, &index.source, index.whole);
     let mut holds = [HeldOperand::default(); MOST_NAMES];
+    // Stays (no plainer): written out, as in `clock_pass`: a `Default` would stand in `definitions`, which every crate reads, for two uses.
     let mut records = [FaultRecord {
         node: 0,
         fault: 0,

@@ -37,7 +37,7 @@ under false true f = sym (f refl)
 under false false f = refl
 
 all-elim : (p : ℕ → Bool) (x : ℕ) (xs : List ℕ) → all p xs ≡ true → among x xs ≡ true → p x ≡ true
-all-elim p x [] e m = let z : ◌≡◌ {A = ℕ} 0 1 = cc in absurd (omega arith)
+all-elim p x [] e m = absurd cc
 all-elim p x (y ∷ xs) e m = go (eqb x y) refl m (all-elim p x xs ((and_parts (p y) (all p xs) e).1))
   where
     go : (b : Bool) → eqb x y ≡ b → (b || among x xs) ≡ true → (among x xs ≡ true → p x ≡ true) → p x ≡ true

@@ -38,15 +38,6 @@ use Rattle.defaults.proofs.Laws.{unnamed, named_by}
 pub then : (o o₁ o₂ : Output) (a b c : List Token) → o₁ ≡ emits o a → o₂ ≡ emits o₁ b → a ++ b ≡ c → o₂ ≡ emits o c
 then o o₁ o₂ a b c e f g = f ∙ rw (e, emits-append o a b, g)
 
--- a constant
-module _ (o o₁ : Output) (l : Literal) (e : o₁ ≡ emits o (Token.Expression (ExprToken.Const l) ∷ [])) where
-  module _ (o₂ : Output) (f : o₂ ≡ emits o₁ (Token.High 0 ∷ [])) where
-    pub wide_int : (v : ℕ) → l ≡ Literal.Int v → o₂ ≡ emits o (literal_tokens l 0)
-    wide_int v j = then o o₁ o₂ _ _ _ e f (rw j)
-
-    pub wide-float : (v : ℕ) → l ≡ Literal.Float v → o₂ ≡ emits o (literal_tokens l 0)
-    wide-float v j = then o o₁ o₂ _ _ _ e f (rw j)
-
 -- a type's default by its first token
 module _ (G : ℕ → Option Expr) (t : Ty) (e : Expr) (d : default_by G t ≡ some e) where
   pub wrote-basic : (o : Output) (b : Primitive) (l : Literal) (o₁ : Output) → t ≡ Ty.primitive b → l ≡ primitive_default b → o₁ ≡ emits o (literal_tokens l 0) → o₁ ≡ emits o (expr_tokens e)
@@ -57,7 +48,7 @@ module _ (G : ℕ → Option Expr) (t : Ty) (e : Expr) (d : default_by G t ≡ s
       f ∙ rw (k, i)
 
   array-some : (x : Option Expr) (m : ℕ) → elim x [ none ↦ none | some y ↦ some (Expr.op Head.array (copies m y)) ] ≡ some e → (y : Expr) × (x ≡ some y) × (e ≡ Expr.op Head.array (copies m y))
-  array-some none m h = let z : ◌≡◌ {A = ℕ} 0 1 = cc in absurd (omega arith)
+  array-some none m h = absurd cc
   array-some (some y) m h = (y, refl, cc)
 
   pub element-default : (b : Ty) (m : ℕ) → t ≡ Ty.array m b → (y : Expr) × (default_by G b ≡ some y) × (e ≡ Expr.op Head.array (copies m y))
@@ -100,11 +91,8 @@ unfolding operand_tokens copies expr_tokens
 short-many l e zero = refl
 short-many l e (suc m) = ap₂ (λ (a b : List Token). a ++ b) (sym e) (short-many l e m)
 
-pub many-bool : (o o₁ : Output) (l : Literal) (v m : ℕ) → l ≡ Literal.Bool v → o₁ ≡ emits o (replicate m (Token.Expression (ExprToken.Const l))) → o₁ ≡ emits o (join (operand_tokens (copies m (Expr.const l 0))))
-many-bool o o₁ l v m j f = f ∙ ap (emits o) (short-many l (rw j) m)
-
-pub many-char : (o o₁ : Output) (l : Literal) (v m : ℕ) → l ≡ Literal.Char v → o₁ ≡ emits o (replicate m (Token.Expression (ExprToken.Const l))) → o₁ ≡ emits o (join (operand_tokens (copies m (Expr.const l 0))))
-many-char o o₁ l v m j f = f ∙ ap (emits o) (short-many l (rw j) m)
+pub many-short : (o o₁ : Output) (l : Literal) (m : ℕ) → literal_tokens l 0 ≡ Token.Expression (ExprToken.Const l) ∷ [] → o₁ ≡ emits o (replicate m (Token.Expression (ExprToken.Const l))) → o₁ ≡ emits o (join (operand_tokens (copies m (Expr.const l 0))))
+many-short o o₁ l m e f = f ∙ ap (emits o) (short-many l e m)
 
 pub wrote-array : (y : Expr) (m : ℕ) (o o₁ o₂ : Output) → o₁ ≡ emits o (Token.Expression ExprToken.Array ∷ Token.Count m ∷ []) → o₂ ≡ emits o₁ (join (operand_tokens (copies m y))) → o₂ ≡ emits o (expr_tokens (Expr.op Head.array (copies m y)))
 unfolding expr_tokens form_tokens
@@ -123,7 +111,7 @@ named-default G t e x d j = rw j at d
 
 module _ (M : ℕ) (ts : List TagValue) (places : List ℕ) (n : ℕ) (types : List TypeDef) (t : Table M ts places n types) (x fuel : ℕ) (e : Expr) (d : default_named types fuel x ≡ some e) where
   pub not-unnamed : first_of types x ≡ length types → ⊥
-  not-unnamed h = let i = unnamed types x fuel (omega arith) in let u : ◌≡◌ {A = ℕ} 0 1 = cc in omega arith
+  not-unnamed h = let i = unnamed types x fuel (omega arith) in cc
 
   -- one definition further down, where a field or a target and 8 elements are enough
   pub definition-default : (k : ℕ) → k ≡ first_of types x → k < length types → (depth : ℕ) → Enough depth fuel 0 → (below q : ℕ) × Enough depth below 9 × (type_def M ts (get_or places k 0) ≡ got (def_at types k) q) × (default_of (default_named types below) (def_at types k) (def_at types k).body ≡ some e)
@@ -131,7 +119,7 @@ module _ (M : ℕ) (ts : List TagValue) (places : List ℕ) (n : ℕ) (types : L
   definition-default k first h depth l = go fuel d l
     where
       go : (m : ℕ) → default_named types m x ≡ some e → Enough depth m 0 → (below q : ℕ) × Enough depth below 9 × (type_def M ts (get_or places k 0) ≡ got (def_at types k) q) × (default_of (default_named types below) (def_at types k) (def_at types k).body ≡ some e)
-      go zero i j = let u : ◌≡◌ {A = ℕ} 0 1 = cc in absurd (omega arith)
+      go zero i j = absurd cc
       go (suc m) i j = let s = t.stands k (omega (arith, t.count)) in (m, s.0, omega arith, s.1, sym (named_by types x m k first h) ∙ i)
 
 -- a definition's default, by its parts
@@ -143,7 +131,7 @@ module _ (M : ℕ) (tags vs : List ℕ) (same_length : length vs ≡ length tags
       go h.0 h.1.items (ap (λ (b : TypeDef). default_of G b b.body) (sym h.3) ∙ f)
     where
       go : (l : List ℕ) → times s.count (name M) (tokens tags vs) s.at ≡ got l s.end → default_of G (record { name = y; body = Body.enum l }) (Body.enum l) ≡ some e → o₁ ≡ emits o (expr_tokens e)
-      go [] t k = let u : ◌≡◌ {A = ℕ} 0 1 = cc in absurd (omega arith)
+      go [] t k = absurd cc
       go (u ∷ l) t k =
           let n = times-length (name M) (tokens tags vs) s.count s.at (u ∷ l) s.end t in
           let a = times-cons (name M) (tokens tags vs) s.count s.at (u ∷ l) s.end (λ z. omega arith) t in
@@ -153,7 +141,7 @@ module _ (M : ℕ) (tags vs : List ℕ) (same_length : length vs ≡ length tags
           w ∙ rw r
 
   fields-some : (x : Option Exprs) (H : Head) → elim x [ none ↦ none | some es ↦ some (Expr.op H es) ] ≡ some e → (es : Exprs) × (x ≡ some es) × (e ≡ Expr.op H es)
-  fields-some none H h = let z : ◌≡◌ {A = ℕ} 0 1 = cc in absurd (omega arith)
+  fields-some none H h = absurd cc
   fields-some (some es) H h = (es, refl, cc)
 
   pub fields-default : (y : ℕ) (s : Span) → D ≡ Defined.Record y s → (fs : List Declared) × (es : Exprs) × Spans (declaration M) (tokens tags vs) fs s × (defaults_by G fs ≡ some es) × (e ≡ Expr.op (Head.struct y (map (λ k. k.name) fs)) es)
@@ -170,8 +158,8 @@ module _ (M : ℕ) (tags vs : List ℕ) (same_length : length vs ≡ length tags
 -- the defaults of fields
 module _ (G : ℕ → Option Expr) where
   more-some : (x : Option Expr) (y : Option Exprs) (es : Exprs) → elim x [ none ↦ none | some a ↦ elim y [ none ↦ none | some b ↦ some (Exprs.and a b) ] ] ≡ some es → (a : Expr) × (b : Exprs) × (x ≡ some a) × (y ≡ some b) × (es ≡ Exprs.and a b)
-  more-some none y es h = let z : ◌≡◌ {A = ℕ} 0 1 = cc in absurd (omega arith)
-  more-some (some a) none es h = let z : ◌≡◌ {A = ℕ} 0 1 = cc in absurd (omega arith)
+  more-some none y es h = absurd cc
+  more-some (some a) none es h = absurd cc
   more-some (some a) (some b) es h = (a, b, refl, refl, cc)
 
   pub field-default : (fs : List Declared) (f : Declared) (rest : List Declared) (es : Exprs) → fs ≡ f ∷ rest → defaults_by G fs ≡ some es →

@@ -1,5 +1,5 @@
 // Defaults of types: document 01, "A default is built by going down the type." Whether a type has one is found once for each definition;
-// then it is written. `places` are those of a sheet's definitions; `has` says of each definition whether it has a default.
+// then it is written. `has` says of each definition of a table whether it has a default.
 #![tactic(auto)]
 
 ghost use Rattle.std.specs.Prelude.{◌≡◌, List, map, ℕ, suc, ◌<◌, ◌↔◌, true, false, get_or, IfSome};
@@ -34,7 +34,7 @@ fn has_round(graph: &Graph, has: &[bool; MOST_TYPES]) -> [bool; MOST_TYPES]
     ensures { (i : ℕ) → i < graph.now.count → (get_or result i false ≡ true) ↔ (((row_at graph.now i).own ≡ true) × IsWithin graph.now.count (row_at graph.now i).set has.now) }
 {
     let mut more = [false; MOST_TYPES];
-    // Stays (proof): a place in both: behind a loop over `iter_mut().zip(..)` nothing was known of `more`, tried at `cycles` `with_name`.
+    // Stays (proof): a place in both: behind a loop over `more.iter_mut().zip(rows)`, tried, nothing was known of `more` (goal `returns`).
     for (i, row) in graph.rows[..graph.count].iter().enumerate() {
         more[i] = row.own && graph.is_within(&row.set, has);
     }

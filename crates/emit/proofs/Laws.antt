@@ -11,6 +11,7 @@ use lib.ListN.{length, get_or, set, take, drop, replicate}
 use lib.Seq.{sets, sets-eq, take-nil, take_all, take-append_seam}
 use Rattle.std.proofs.lemmas.List.{map-append, length-map, length-replicate, take-replicate, take_min, drop_more, drop_all}
 use lib.Dec.{ltb}
+use lib.LanesLaws.{map-replicate}
 use borrow.Rule.Slice.PartMut.{mid_of, post_of, put_mid, mid_len, Post-is}
 use borrow.Author.Tests.{lt-ltb, le-ltb, ltb-true, ltb-false}
 use Rattle.definitions.specs.declared.Token.{Token}
@@ -207,10 +208,6 @@ unfolding emits
 emit-one o t tag value e f = rw (e, f)
 
 -- ---- so many times a tag and a value
-map-replicate : {A B : Type 0} (f : A → B) (n : ℕ) (x : A) → map f (replicate n x) ≡ replicate n (f x)
-map-replicate f zero x = refl
-map-replicate f (suc n) x = ap (λ (l : List _). f x ∷ l) (map-replicate f n x)
-
 -- items that are filled in are written one after the other, and none before or behind
 filled-sets : (xs ys : List ℕ) (at from to many x : ℕ) → length xs ≡ 8192 → many ≤ 8192 - at → from ≡ min at 8192 → to ≡ from + many → ys ≡ replicate (length (mid_of from (to - from) xs)) x
     → put_mid from (to - from) xs ys ≡ sets xs at (replicate many x)

@@ -67,7 +67,7 @@ module _ (tags vs : List ℕ) (l : List Token) (p q : ℕ) (c : Copies (tokens t
 -- ---- what was read stands there
 -- what holds of what a reading yields
 given : {A : Type 0} {Q : A → ℕ → Type 0} {g : Got A} → Gives Q g → (a : A) (q : ℕ) → g ≡ got a q → Q a q
-given refuses a q e = let z : ◌≡◌ {A = ℕ} 0 1 = cc in absurd (omega arith)
+given refuses a q e = absurd cc
 given {A} {Q} (gives {a = b} {p = r} u) a q e =
     let x : b ≡ a = cc in
     let y : r ≡ q = cc in

@@ -28,6 +28,7 @@ fn put_items(output: &mut Output, source: &Source<'_>, head: Token, s: Span)
     if tags.len() < s.end {
         return;
     }
+    // Stays (no plainer): by place: slices cut out of the two would ask for a test more, as nothing says that `s.at` is at most `s.end`.
     for i in s.at..s.end {
         output.put(tags[i], values[i]);
     }

@@ -9,10 +9,10 @@ use Rattle.std.proofs.Common.{Result, Ok, Err}
 use Rattle.definitions.specs.declared.Refusal.{Refusal}
 use Rattle.definitions.specs.Lists.{Letters}
 use Rattle.definitions.specs.InferClocks.{NodeFault}
-use Rattle.definitions.specs.Refusals.{accepted, refused, down, told}
+use Rattle.definitions.specs.Refusals.{accepted, refused}
 use Rattle.definitions.specs.Output.{letters_of, ClockedNode, node_faults}
 use Rattle.definitions.specs.Texts.{fault_line}
-use Rattle.definitions.specs.Answer.{Input, input, clockings, first_line, first_lines, fault_lines_answer}
+use Rattle.definitions.specs.Answer.{Input, clockings, first_line, first_lines}
 use Rattle.findings.specs.declared.Fault as struct
 use Rattle.findings.specs.Value.{fault_of}
 use Rattle.spelling.specs.Places.{letters_at}
@@ -25,12 +25,10 @@ use Rattle.infer_clocks.proofs.Laws.{Ahead}
 use Rattle.lines.proofs.Listing.{put-numbered}
 use Rattle.lines.proofs.TextsLengths.{name-length, line-length, shallow-of}
 use Rattle.stateless.proofs.Nodes.{clockings-form, node-here, all-before}
-use Rattle.stateless.proofs.Answers.{input-refused}
 use Rattle.first_faults.specs.Faults.{fault_in}
 use Rattle.first_faults.proofs.Records.{nodes-end}
 use Rattle.query.specs.Listed.{TextStands}
-use Rattle.listings.specs.Answers.{ListingGiven}
-use Rattle.fault_text.specs.Lines.{fault_lines_of, lines_text, line_of, LinesStand}
+use Rattle.fault_text.specs.Lines.{lines_text, line_of, LinesStand}
 
 -- ---- the line of a fault that was found is no longer than names let it be
 pub line-short : (starts letters : List ℕ) (i e : ℕ) (f : struct.Fault) (at : ℕ) {w w₁ : TextWriter} → length letters ≤ 16384
@@ -81,12 +79,3 @@ pub lines-text : (r : Input) (lent now : List ℕ) (a : Result ℕ Refusal) → 
 unfolding LinesStand TextStands
 lines-text r lent now (Err e) h = rw h refl
 lines-text r lent now (Ok n) h = (first_lines r h.0, rw h.1 refl, record { long = put-measure h.3 h.2; bytes = put-over h.2 ∙ sym (over-front (first_lines r h.0) lent) })
-
--- ---- refusals 1 to 7, and a sheet that was read
-pub lines-down : (b : List ℕ) (lent : List ℕ) (x : Refusal) → told (input b) ≡ down x → ListingGiven (fault_lines_answer b (length lent)) lent lent (Err x)
-unfolding fault_lines_answer
-lines-down b lent x h = rw (input-refused b x h) (record { answer = refl; bytes = refl })
-
-pub lines-read : (b : List ℕ) (i : Input) → input b ≡ accepted i → (lent : ℕ) → fault_lines_answer b lent ≡ fault_lines_of i lent
-unfolding fault_lines_answer
-lines-read b i h lent = rw h

@@ -1,24 +1,21 @@
 -- The text of a fault, refusal by refusal. Assumes nothing.
 use Prim.Native.Nat.{ℕ, zero, suc, ◌+◌}
-use mathlib.Core.Path.{◌≡◌, refl, sym, ap, ◌∙◌, subst}
+use mathlib.Core.Path.{◌≡◌, refl, sym, ap, ◌∙◌}
 use mathlib.Core.List.{List, [], ◌∷◌}
 use mathlib.Core.Bool.{Bool, true, false}
 use mathlib.Core.Option.{Option, none}
-use native.Mathlib.Omega.{arith}
 use lib.ListN.{length, get_elem?}
 use Rattle.std.proofs.Common.{Result, Ok, Err}
 use Rattle.definitions.specs.declared.Refusal.{Refusal}
 use Rattle.definitions.specs.Lists.{Letters}
 use Rattle.definitions.specs.Tree.{Node}
 use Rattle.definitions.specs.InferClocks.{Formed, deep, formed, Clocking, clocking, NodeFault}
-use Rattle.definitions.specs.Refusals.{Answer, accepted, refused, down, told, ◌>>=◌}
+use Rattle.definitions.specs.Refusals.{Answer, accepted, refused, ◌>>=◌}
 use Rattle.definitions.specs.Output.{letters_of, ClockedNode, node_faults}
 use Rattle.definitions.specs.Texts.{fault_text}
-use Rattle.definitions.specs.Answer.{Input, input, clockings, item_at, text_answer}
-use Rattle.grammar.specs.declared.source.Source.{Source}
+use Rattle.definitions.specs.Answer.{Input, clockings, item_at}
 use Rattle.findings.specs.Value.{fault_of, found_of}
 use Rattle.infer_clocks.specs.Clocked.{is_deep, Deeply}
-use Rattle.stateless.proofs.Answers.{text-refused}
 use Rattle.lines.specs.Lending.{lent_text, Gives}
 use Rattle.query.specs.declared.FoundNode.{FoundNode}
 use Rattle.query.specs.Standing.{first_from, FoundAt, NodeFound}
@@ -29,22 +26,13 @@ use Rattle.findings.specs.declared.Found as value
 use Rattle.std.specs.Prelude as rust
 use Rattle.std.specs.Prelude.{None, Some, ok_or}
 use Rattle.workspace.specs.declared.Working.{Working}
-use Rattle.workspace.specs.Room.{RoomToPlan}
+use Rattle.first_faults.specs.Faults.{RoomIn}
 use Rattle.listings.specs.Answers.{ListingGiven}
 use Rattle.listings.proofs.Given.{given}
-use Rattle.fault_text.specs.Texts.{text_in, text_from, text_of}
+use Rattle.fault_text.specs.Texts.{text_in, text_from}
 
 given-refused : (v : Answer Letters) (lent : List ℕ) (x : Refusal) → v ≡ refused x → ListingGiven v lent lent (Err x)
 given-refused v lent x e = rw e (record { answer = refl; bytes = refl })
-
--- refusals 1 to 7
-pub text-down : (b : List ℕ) (k j : ℕ) (lent : List ℕ) (x : Refusal) → told (input b) ≡ down x → ListingGiven (text_answer b k j (length lent)) lent lent (Err x)
-text-down b k j lent x h = given-refused (text_answer b k j (length lent)) lent x (text-refused b k j (length lent) x h)
-
--- a sheet that was read
-pub text-read : (b : List ℕ) (i : Input) → input b ≡ accepted i → (k j lent : ℕ) → text_answer b k j lent ≡ text_of i k j lent
-unfolding text_answer
-text-read b i h k j lent = rw h
 
 -- the text of item j of some faults
 text-item : (names : List Letters) (l : List NodeFault) (j lent : ℕ) → (item_at l j >>= λ f. lent_text (fault_text (letters_of names) f.fault) lent) ≡ text_in names (get_elem? l j) lent
@@ -76,14 +64,14 @@ module _ (r : Input) (k j : ℕ) (lent : List ℕ) (n : Node) (ns : List Node) (
     where
       go : (v : Formed Clocking) → clocking n ≡ v → is_deep v ≡ true → first_from k (n ∷ ns) ≡ refused (Refusal.Deep k)
       go deep h t = first-deep k n ns h
-      go (formed c) h t = let z : ◌≡◌ {A = ℕ} 0 1 = cc in absurd (omega arith)
+      go (formed c) h t = absurd cc
 
   module _ (f : b ≡ false) (q : ℕ) (d : Result ℕ Refusal) (D : Deeply q d (clockings (k + 1) ns)) where
     this : (c : Clocking) × (clocking n ≡ formed c)
     this = go (clocking n) refl (sym e ∙ f)
       where
         go : (v : Formed Clocking) → clocking n ≡ v → is_deep v ≡ false → (c : Clocking) × (clocking n ≡ formed c)
-        go deep h t = let z : ◌≡◌ {A = ℕ} 0 1 = cc in absurd (omega arith)
+        go deep h t = absurd cc
         go (formed c) h t = (c, h)
 
     -- 9 behind it
@@ -114,18 +102,14 @@ module _ (names : List Letters) (letters : ℕ → Letters) (e : letters ≡ let
   -- what is refused where there is none
   pub text-missing : (o : rust.Option value.Found) (x : Refusal) (r : Result ℕ Refusal) → o ≡ None → ◌≡◌ {A = Result value.Found Refusal} (Err x) (ok_or o Refusal.Missing) → r ≡ Err x → ListingGiven (text_in names (found_of o) (length lent)) lent lent r
   text-missing None x r h v g = let y : x ≡ Refusal.Missing = cc in rw (g, y) text-none
-  text-missing (Some f) x r h v g = let z : ◌≡◌ {A = ℕ} 0 1 = cc in absurd (omega arith)
+  text-missing (Some f) x r h v g = absurd cc
 
 -- ---- what is known behind the search for node k: the sheet is indexed, what was found, and the tables keep their room
 pub record Sought (index : Index) (i : Input) (k : ℕ) (r : Result FoundNode Refusal) (w : Working) : Type 0 where
   pub indexed : Indexed index i
   pub found : NodeFound index.source i k r
-  pub room : RoomToPlan index.source.names (length index.source.tags.now) w
+  pub room : RoomIn index w
 
 -- the node, where it was found
 pub node-of : {index : Index} {i : Input} {k : ℕ} {r : Result FoundNode Refusal} {w : Working} (f : FoundNode) → Sought index i k r w → r ≡ Ok f → FoundAt index.source i k f
 node-of {index} {i} {k} f z e = found-at index.source i k f (rw e at z.found)
-
--- ---- room to plan, by the source that the index has
-pub room-of : {s s' : Source} {w : Working} → s' ≡ s → RoomToPlan s.names (length s.tags.now) w → RoomToPlan s'.names (length s'.tags.now) w
-room-of {w} e r = subst (λ (s : Source). RoomToPlan s.names (length s.tags.now) w) (sym e) r

@@ -1,5 +1,5 @@
-// The text of a fault, and the lines of all nodes' first faults, of a sheet that stands in the working tables: `names` has the sheet's
-// names, `source` its tokens.
+// The text of a fault, and the lines of all nodes' first faults, of an accepted sheet: `names` has its names, `source` its tokens, which
+// stand in the working arrays.
 #![tactic(auto)]
 
 ghost use Rattle.std.specs.Prelude.{◌≡◌, List, ◌≤◌, ◌+◌, ◌<◌, length};
@@ -12,7 +12,7 @@ ghost use Rattle.query.specs.Listed.{TextStands};
 ghost use Rattle.query.specs.Standing.{Standing};
 ghost use Rattle.findings.specs.Value.{found_of};
 ghost use Rattle.workspace.specs.Room.{SameRoom, RoomToPlan};
-ghost use Rattle.first_faults.specs.Faults.{NodeMet};
+ghost use Rattle.first_faults.specs.Faults.{NodeMet, RoomIn};
 ghost use Rattle.listings.specs.Answers.{ListingGiven};
 ghost use Rattle.fault_text.specs.Texts.{text_in, text_of};
 ghost use Rattle.spelling.specs.Written.{Wrote};
@@ -49,7 +49,7 @@ pub fn text_in(
     working: &mut Working<'_>,
 ) -> Result<usize, Refusal>
     ensures same_room { SameRoom working.old working.new }
-    ensures given { (i : Input) → Standing names.entry.spelling source.now i → i.names ≡ cut names.entry.lengths.now names.entry.spelling.letters.now → RoomToPlan source.now.names (length source.now.tags.now) working.old → ListingGiven (text_of i k j (length out.old)) out.old out.new result }
+    ensures given { (i : Input) → Standing names.entry.spelling source.now i → i.names ≡ cut names.entry.lengths.now names.entry.spelling.letters.now → RoomToPlan source.now working.old → ListingGiven (text_of i k j (length out.old)) out.old out.new result }
 {
     let index = index::index_of(source, names.condact());
     let nodes = index.whole.nodes;
@@ -66,6 +66,7 @@ pub fn text_in(
 const LINES: usize = 16384;
 
 // Node k: its first fault; or refusal 9 at it.
+// Stays (no plainer): `working` and `holds` apart, here and below: in one struct, each function would promise that two `&mut` stay.
 fn first_at(
     index: &Index<'_>,
     k: usize,
@@ -74,10 +75,9 @@ fn first_at(
 ) -> Result<Option<Found>, Refusal>
     requires { k < index.now.nodes.count }
     ensures same_room { SameRoom working.old working.new }
-    ensures node_met { RoomToPlan index.now.source.names (length index.now.source.tags.now) working.old → NodeMet index.now k result }
+    ensures node_met { RoomIn index.now working.old → NodeMet index.now k result }
 {
-    let l = layout::node_at(&index.source, index.nodes.at[k]);
-    first_faults::fault_in(index, k, l, 0, working, holds)
+    first_faults::fault_in(index, k, index.node(k), 0, working, holds)
 }
 
 // The line of a fault of a node, if one was found. With the lengths of names a line is no longer than said here.
@@ -104,7 +104,7 @@ fn write_lines(
     requires at_value { text.old.at ≡ 0 }
     ensures same_reference { text.new.out.ghost_name ≡ text.old.out.ghost_name }
     ensures same_room { SameRoom working.old working.new }
-    ensures lines_stand { (i : Input) → Indexed index.now i → letters_in names.entry.spelling ≡ letters_of i.names → RoomToPlan index.now.source.names (length index.now.source.tags.now) working.old → LinesStand i text.old.out.now text.new.out.now result }
+    ensures lines_stand { (i : Input) → Indexed index.now i → letters_in names.entry.spelling ≡ letters_of i.names → RoomIn index.now working.old → LinesStand i text.old.out.now text.new.out.now result }
 {
     for k in 0..index.nodes.count {
         let fault = first_at(index, k, working, holds)?;
@@ -121,7 +121,7 @@ fn put_lines(
     working: &mut Working<'_>,
 ) -> Result<usize, Refusal>
     ensures same_room { SameRoom working.old working.new }
-    ensures text_stands { (i : Input) → Indexed index.now i → letters_in names.entry.spelling ≡ letters_of i.names → RoomToPlan index.now.source.names (length index.now.source.tags.now) working.old → TextStands (lines_text i) out.old out.new result }
+    ensures text_stands { (i : Input) → Indexed index.now i → letters_in names.entry.spelling ≡ letters_of i.names → RoomIn index.now working.old → TextStands (lines_text i) out.old out.new result }
 {
     let mut holds = [HeldOperand::default(); MOST_NAMES];
     let mut text = TextWriter { out, at: 0 };
@@ -136,7 +136,7 @@ pub fn lines_in(
     working: &mut Working<'_>,
 ) -> Result<usize, Refusal>
     ensures same_room { SameRoom working.old working.new }
-    ensures given { (i : Input) → Standing names.entry.spelling source.now i → i.names ≡ cut names.entry.lengths.now names.entry.spelling.letters.now → RoomToPlan source.now.names (length source.now.tags.now) working.old → ListingGiven (fault_lines_of i (length out.old)) out.old out.new result }
+    ensures given { (i : Input) → Standing names.entry.spelling source.now i → i.names ≡ cut names.entry.lengths.now names.entry.spelling.letters.now → RoomToPlan source.now working.old → ListingGiven (fault_lines_of i (length out.old)) out.old out.new result }
 {
     let index = index::index_of(source, names.condact());
     let put = |bytes: &mut [u8], tables: &mut Working<'_>| put_lines(bytes, names, &index, tables);

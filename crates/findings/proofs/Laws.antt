@@ -1,45 +1,36 @@
 -- Laws of tables of findings.
 use mathlib.Core.Path.{◌≡◌, refl, sym, ◌∙◌, ap}
-use mathlib.Core.List.{List, [], ◌∷◌, ◌++◌, map, append_assoc, append-nil}
-use mathlib.Core.Bool.{Bool, true, false, ◌||◌, cond}
+use mathlib.Core.List.{List, [], ◌∷◌, ◌++◌, append_assoc, append-nil}
+use mathlib.Core.Bool.{Bool, true, false, ◌||◌, true≢false}
 use mathlib.Core.Logic.{◌⊎◌, inl, inr}
 use Prim.Native.Nat.{ℕ, zero, suc, ◌+◌, ◌-◌, ◌*◌, ◌≤◌, ◌<◌}
 use native.Mathlib.Omega.{arith}
-use native.Mathlib.Numerals.{add-one, sub-one}
+use native.Mathlib.Numerals.{add-one}
 use lib.ListN.{length, get_or, set, length-set, length-append}
 use lib.Seq.{get_or-set_same, get_or-set_other}
 use Rattle.definitions.specs.Lists.{choose, any}
 use Rattle.definitions.specs.Clock.{Clock, is_base}
-use Rattle.std.proofs.Math.Option.{none, some}
 use Rattle.std.proofs.Math.ListN.{get_elem?}
 use lib.Dec.{eqb, ltb}
-use borrow.Author.Tests.{ltb-true, ltb-false, ne_eqb}
+use borrow.Author.Tests.{ne_eqb}
 use Rattle.std.proofs.lemmas.Bool.{le-ltb}
-use Rattle.std.specs.Prelude.{Some, None}
-use Rattle.std.specs.List.{range_with_len, list_any, filter, slice_get}
-use Rattle.std.proofs.lemmas.Option.{slice_get-get_or, slice_get_within, get_or_from_slice_get}
+use Rattle.std.specs.Prelude.{Option, Some, None, Result, Ok, Err, is_ok}
+use Rattle.std.specs.Result.{MatchResult}
+use Rattle.std.specs.List.{range_with_len, list_any, slice_get}
+use Rattle.std.specs.Option.{option_map}
 use Rattle.definitions.specs.InferClocks.{NodeFault, Finding, found, site, too_deep, is_too_deep, clock_faults, sites}
 use Rattle.clock_tables.specs.Flat.{clock_in}
 use Rattle.clock_tables.proofs.FlatLaws.{Within, clock-same}
 use Rattle.clock_tables.specs.declared.clock.Clock as clock
-use Rattle.findings.specs.declared.ClockFault.{ClockFault}
 use Rattle.findings.specs.declared.Finding as value
-use Rattle.findings.specs.Value.{finding_of}
+use Rattle.findings.specs.declared.Found.{Found}
+use Rattle.findings.specs.Value.{node_fault_of, found_of, finding_of}
 use Rattle.clock_tables.specs.declared.ClockTable.{ClockTable}
 use Rattle.clock_tables.specs.Grown.{Grown}
 use Rattle.findings.specs.Findings.{fault_in, finding_as, finding_in, is_fault, findings_from, findings_in, FindingsHeld}
 
 -- ---- the findings of rows
 module _ (t : List ℕ) where
-  pub from-none : (i n : ℕ) → n ≡ 0 → findings_from t i n ≡ []
-  unfolding findings_from
-  from-none i n z = rw z
-
-  pub from_more : (i n : ℕ) → 0 < n → findings_from t i n ≡ finding_in t (38 * i) ∷ findings_from t (i + 1) (n - 1)
-  unfolding findings_from
-  from_more i zero z = absurd (omega arith)
-  from_more i (suc n) z = rw (sub-one (suc n))
-
   pub length_from : (i n : ℕ) → length (findings_from t i n) ≡ n
   unfolding findings_from
   length_from i zero = refl
@@ -93,19 +84,14 @@ module _ (t : List ℕ) (b k x w e : ℕ) where
   abbrev pub words_put : List ℕ
   words_put = set (set (set (set t b k) (b + 1) x) (b + 2) w) (b + 3) e
 
+  outside : (i : ℕ) → (i ≡ b → ⊥) → (i ≡ b + 1 → ⊥) → (i ≡ b + 2 → ⊥) → (i ≡ b + 3 → ⊥) → get_or words_put i 0 ≡ get_or t i 0
+  outside i p q r s =
+      get_or-set_other (set (set (set t b k) (b + 1) x) (b + 2) w) (b + 3) i e 0 s
+      ∙ (get_or-set_other (set (set t b k) (b + 1) x) (b + 2) i w 0 r ∙ (get_or-set_other (set t b k) (b + 1) i x 0 q ∙ get_or-set_other t b i k 0 p))
+
   put-at : (i : ℕ) → (i < b) ⊎ (b + 4 ≤ i) → get_or words_put i 0 ≡ get_or t i 0
-  put-at i (inl u) = outside (omega arith) (omega arith) (omega arith) (omega arith)
-    where
-      outside : (i ≡ b → ⊥) → (i ≡ b + 1 → ⊥) → (i ≡ b + 2 → ⊥) → (i ≡ b + 3 → ⊥) → get_or words_put i 0 ≡ get_or t i 0
-      outside p q r s =
-          get_or-set_other (set (set (set t b k) (b + 1) x) (b + 2) w) (b + 3) i e 0 s
-          ∙ (get_or-set_other (set (set t b k) (b + 1) x) (b + 2) i w 0 r ∙ (get_or-set_other (set t b k) (b + 1) i x 0 q ∙ get_or-set_other t b i k 0 p))
-  put-at i (inr u) = outside (omega arith) (omega arith) (omega arith) (omega arith)
-    where
-      outside : (i ≡ b → ⊥) → (i ≡ b + 1 → ⊥) → (i ≡ b + 2 → ⊥) → (i ≡ b + 3 → ⊥) → get_or words_put i 0 ≡ get_or t i 0
-      outside p q r s =
-          get_or-set_other (set (set (set t b k) (b + 1) x) (b + 2) w) (b + 3) i e 0 s
-          ∙ (get_or-set_other (set (set t b k) (b + 1) x) (b + 2) i w 0 r ∙ (get_or-set_other (set t b k) (b + 1) i x 0 q ∙ get_or-set_other t b i k 0 p))
+  put-at i (inl u) = outside i (omega arith) (omega arith) (omega arith) (omega arith)
+  put-at i (inr u) = outside i (omega arith) (omega arith) (omega arith) (omega arith)
 
   put-words : b + 38 ≤ length t → (get_or words_put b 0 ≡ k) × (get_or words_put (b + 1) 0 ≡ x) × (get_or words_put (b + 2) 0 ≡ w) × (get_or words_put (b + 3) 0 ≡ e)
   put-words l =
@@ -169,13 +155,6 @@ module _ (t : List ℕ) (n : ℕ) (f : Finding) (fs : List Finding) where
   holds_more t' room len row same (inr (a, b)) = absurd (omega arith)
 
 -- ---- lists of findings, one after another
-pub faults-append : (k l : List Finding) → clock_faults (k ++ l) ≡ clock_faults k ++ clock_faults l
-unfolding clock_faults
-faults-append [] l = refl
-faults-append (found f ∷ k) l = ap (λ (m : List NodeFault). f ∷ m) (faults-append k l)
-faults-append (site c ∷ k) l = faults-append k l
-faults-append (too_deep ∷ k) l = faults-append k l
-
 pub sites-append : (k l : List Finding) → sites (k ++ l) ≡ sites k ++ sites l
 unfolding sites
 sites-append [] l = refl
@@ -194,13 +173,7 @@ module _ (t : List ℕ) where
   any-row i zero = refl
   any-row i (suc n) = ap (λ (b : Bool). is_too_deep (finding_in t (38 * i)) || b) (any-row (i + 1) n)
 
--- ---- a finding by value that is no fault, or no site
-pub not-fault : (x : value.Finding) → ((i : ℕ) (f : ClockFault) → x ≡ value.Finding.Fault i f → ⊥) → clock_faults (finding_of x ∷ []) ≡ []
-unfolding clock_faults
-not-fault (value.Finding.Fault i f) h = absurd (h i f refl)
-not-fault (value.Finding.Site c) h = refl
-not-fault value.Finding.Deep h = refl
-
+-- ---- a finding by value that is no site
 pub not-site : (x : value.Finding) → ((c : clock.Clock) → x ≡ value.Finding.Site c → ⊥) → sites (finding_of x ∷ []) ≡ []
 unfolding sites
 not-site (value.Finding.Fault i f) h = refl
@@ -209,20 +182,10 @@ not-site value.Finding.Deep h = refl
 
 -- ---- one row more
 module _ (t : List ℕ) (i : ℕ) where
-  faults-last : clock_faults (findings_in t (i + 1)) ≡ clock_faults (findings_in t i) ++ clock_faults (finding_in t (38 * i) ∷ [])
-  faults-last = ap clock_faults (in-last t i) ∙ faults-append (findings_in t i) (finding_in t (38 * i) ∷ [])
-
   sites-last : sites (findings_in t (i + 1)) ≡ sites (findings_in t i) ++ sites (finding_in t (38 * i) ∷ [])
   sites-last = ap sites (in-last t i) ∙ sites-append (findings_in t i) (finding_in t (38 * i) ∷ [])
 
   module _ (f : Finding) (e : f ≡ finding_in t (38 * i)) where
-    pub faults-one : {g : NodeFault} → f ≡ found g → clock_faults (findings_in t (i + 1)) ≡ clock_faults (findings_in t i) ++ (g ∷ [])
-    unfolding clock_faults
-    faults-one h = faults-last ∙ ap (λ (x : Finding). clock_faults (findings_in t i) ++ clock_faults (x ∷ [])) (sym e ∙ h)
-
-    pub faults-no : clock_faults (f ∷ []) ≡ [] → clock_faults (findings_in t (i + 1)) ≡ clock_faults (findings_in t i)
-    faults-no h = faults-last ∙ (ap (λ (l : List NodeFault). clock_faults (findings_in t i) ++ l) (ap (λ (x : Finding). clock_faults (x ∷ [])) (sym e) ∙ h) ∙ append-nil _)
-
     pub sites-no : sites (f ∷ []) ≡ [] → sites (findings_in t (i + 1)) ≡ sites (findings_in t i)
     sites-no h = sites-last ∙ (ap (λ (l : List Clock). sites (findings_in t i) ++ l) (ap (λ (x : Finding). sites (x ∷ [])) (sym e) ∙ h) ∙ append-nil _)
 
@@ -236,73 +199,71 @@ module _ (t : List ℕ) (i : ℕ) where
         sites-last ∙ (ap (λ (x : Finding). sites (findings_in t i) ++ sites (x ∷ [])) (sym e ∙ h)
         ∙ ap (λ (x : Bool). sites (findings_in t i) ++ choose x [] (c ∷ [])) b)
 
--- ---- fault j of rows
-faults-listed : (t : List ℕ) (i n : ℕ) → clock_faults (findings_from t i n) ≡ map (λ j. fault_in t (38 * j)) (filter (λ j. is_fault (finding_in t (38 * j))) (range_with_len i n))
-unfolding findings_from clock_faults
-faults-listed t i zero = refl
-faults-listed t i (suc n) = go (ltb (get_or t (38 * i) 0) 5) (eqb (get_or t (38 * i) 0) 5) (faults-listed t (i + 1) n)
-  where
-    others : List ℕ
-    others = filter (λ j. is_fault (finding_in t (38 * j))) (range_with_len (i + 1) n)
-
-    go : (a b : Bool) → clock_faults (findings_from t (i + 1) n) ≡ map (λ j. fault_in t (38 * j)) others
-        → clock_faults (choose a (found (fault_in t (38 * i))) (choose b (site (clock_in t (38 * i + 21))) too_deep) ∷ findings_from t (i + 1) n)
-        ≡ map (λ j. fault_in t (38 * j)) (cond (is_fault (choose a (found (fault_in t (38 * i))) (choose b (site (clock_in t (38 * i + 21))) too_deep))) (i ∷ others) others)
-    go true b e = ap (λ (l : List NodeFault). fault_in t (38 * i) ∷ l) e
-    go false true e = e
-    go false false e = e
-
-module _ {A : Type 0} (f : ℕ → A) where
-  elem-past : (l : List ℕ) (j : ℕ) → length l ≤ j → get_elem? (map f l) j ≡ none
-  elem-past [] j h = refl
-  elem-past (x ∷ l) zero h = absurd (omega arith)
-  elem-past (x ∷ l) (suc j) h = elem-past l j (omega arith)
-
-  elem-at : (l : List ℕ) (j : ℕ) → j < length l → get_elem? (map f l) j ≡ some (f (get_or l j 0))
-  elem-at [] j h = absurd (omega arith)
-  elem-at (x ∷ l) zero h = refl
-  elem-at (x ∷ l) (suc j) h = elem-at l j (omega arith)
-
-  place-none : (l : List ℕ) (j : ℕ) → None ≡ slice_get l j → get_elem? (map f l) j ≡ none
-  place-none l j e = go (ltb j (length l)) refl
+-- ---- the faults in rows, one after another
+module _ (t : List ℕ) where
+  -- the first row has none
+  faults-skip : (i n : ℕ) → is_fault (finding_in t (38 * i)) ≡ false → clock_faults (findings_from t i (suc n)) ≡ clock_faults (findings_from t (i + 1) n)
+  unfolding findings_from clock_faults
+  faults-skip i n = go (ltb (get_or t (38 * i) 0) 5) (eqb (get_or t (38 * i) 0) 5)
     where
-      go : (b : Bool) → ltb j (length l) ≡ b → get_elem? (map f l) j ≡ none
-      go true q = let z : None ≡ Some (get_or l j 0) = e ∙ slice_get-get_or l j 0 (ltb-true _ _ q) in cc
-      go false q = elem-past l j (ltb-false _ _ q)
+      go : (a b : Bool) → is_fault (choose a (found (fault_in t (38 * i))) (choose b (site (clock_in t (38 * i + 21))) too_deep)) ≡ false
+          → clock_faults (choose a (found (fault_in t (38 * i))) (choose b (site (clock_in t (38 * i + 21))) too_deep) ∷ findings_from t (i + 1) n) ≡ clock_faults (findings_from t (i + 1) n)
+      go true b e = absurd (true≢false e)
+      go false true e = refl
+      go false false e = refl
 
-  place-some : (l : List ℕ) (j i : ℕ) → Some i ≡ slice_get l j → get_elem? (map f l) j ≡ some (f i)
-  place-some l j i e = elem-at l j (slice_get_within l j i (sym e)) ∙ ap (λ k. some (f k)) (get_or_from_slice_get l j i 0 (sym e))
+  -- it has one
+  faults-first : (i n : ℕ) → is_fault (finding_in t (38 * i)) ≡ true → clock_faults (findings_from t i (suc n)) ≡ fault_in t (38 * i) ∷ clock_faults (findings_from t (i + 1) n)
+  unfolding findings_from clock_faults
+  faults-first i n = go (ltb (get_or t (38 * i) 0) 5) (eqb (get_or t (38 * i) 0) 5)
+    where
+      go : (a b : Bool) → is_fault (choose a (found (fault_in t (38 * i))) (choose b (site (clock_in t (38 * i + 21))) too_deep)) ≡ true
+          → clock_faults (choose a (found (fault_in t (38 * i))) (choose b (site (clock_in t (38 * i + 21))) too_deep) ∷ findings_from t (i + 1) n) ≡ fault_in t (38 * i) ∷ clock_faults (findings_from t (i + 1) n)
+      go true b e = refl
+      go false true e = absurd (true≢false (sym e))
+      go false false e = absurd (true≢false (sym e))
 
--- by the rows that have one
-module _ (t : List ℕ) (n j : ℕ) where
-  abbrev pub rows-with : List ℕ
-  rows-with = filter (λ k. is_fault (finding_in t (38 * k))) (range_with_len 0 n)
+  -- m rows that have none
+  faults-past : (i m n k : ℕ) → k ≡ m + n → ((j : ℕ) → i ≤ j → j < i + m → is_fault (finding_in t (38 * j)) ≡ false) → clock_faults (findings_from t i k) ≡ clock_faults (findings_from t (i + m) n)
+  faults-past i zero n k e h =
+      let a : k ≡ n = omega (arith, e) in
+      let b : i + 0 ≡ i = omega arith in
+      rw (a, b) refl
+  faults-past i (suc m) n zero e h = absurd (omega (arith, e))
+  faults-past i (suc m) n (suc k) e h =
+      let b : i + 1 + m ≡ i + suc m = omega arith in
+      faults-skip i k (h i (omega arith) (omega arith))
+      ∙ (faults-past (i + 1) m n k (omega (arith, e)) (λ j u v. h j (omega arith) (omega arith)) ∙ ap (λ (j : ℕ). clock_faults (findings_from t j n)) b)
 
-  pub nth-none : None ≡ slice_get rows-with j → none ≡ get_elem? (clock_faults (findings_in t n)) j
-  nth-none e = sym (ap (λ (l : List NodeFault). get_elem? l j) (faults-listed t 0 n) ∙ place-none (λ k. fault_in t (38 * k)) rows-with j e)
+  -- none in the rows from a on, up to row n
+  pub faults-end : (a n : ℕ) → ((j : ℕ) → a ≤ j → j < n → is_fault (finding_in t (38 * j)) ≡ false) → clock_faults (findings_from t a (n - a)) ≡ []
+  unfolding findings_from clock_faults
+  faults-end a n h = faults-past a (n - a) 0 (n - a) (omega arith) (λ j u v. h j u (omega arith))
 
-  pub nth-some : (i : ℕ) → Some i ≡ slice_get rows-with j → some (fault_in t (38 * i)) ≡ get_elem? (clock_faults (findings_in t n)) j
-  nth-some i e = sym (ap (λ (l : List NodeFault). get_elem? l j) (faults-listed t 0 n) ∙ place-some (λ k. fault_in t (38 * k)) rows-with j i e)
+  -- the first is in row i
+  pub faults-step : (a n i : ℕ) → a ≤ i → i < n → is_fault (finding_in t (38 * i)) ≡ true → ((j : ℕ) → a ≤ j → j < i → is_fault (finding_in t (38 * j)) ≡ false)
+      → clock_faults (findings_from t a (n - a)) ≡ fault_in t (38 * i) ∷ clock_faults (findings_from t (i + 1) (n - (i + 1)))
+  faults-step a n i u v f h =
+      let b : a + (i - a) ≡ i = omega arith in
+      faults-past a (i - a) (suc (n - (i + 1))) (n - a) (omega arith) (λ j x y. h j x (omega arith))
+      ∙ (ap (λ (j : ℕ). clock_faults (findings_from t j (suc (n - (i + 1))))) b ∙ faults-first i (n - (i + 1)) f)
 
--- none yet
-pub none_yet : (t : List ℕ) → (clock_faults (findings_in t 0) ≡ []) × (sites (findings_in t 0) ≡ [])
-unfolding findings_from clock_faults sites
-none_yet t = (refl, refl)
-
-pub count-more : (fs : List NodeFault) (f : NodeFault) (m : ℕ) → m ≡ length fs → m + 1 ≡ length (fs ++ (f ∷ []))
-count-more fs f m e = e₁ ∙ sym (length-append fs (f ∷ []))
-  where
-    e₁ : m + 1 ≡ length fs + 1
-    e₁ = ap (λ (x : ℕ). x + 1) e
-
--- ---- what is known of the first i rows, when all are passed
-pub counted : {A : Type 0} (t : List ℕ) (n i : ℕ) (g : List Finding → A) {a : A} → i ≤ n → n ≤ i → a ≡ g (findings_in t i) → a ≡ g (findings_in t n)
-counted t n i g l h e = let q : i ≡ n = omega arith in rw (sym q) e
+-- item j of faults by value
+pub nth-told : (o : Option Found) (fs : List NodeFault) (j : ℕ) → option_map node_fault_of o ≡ slice_get fs j → found_of o ≡ get_elem? fs j
+nth-told None [] j e = refl
+nth-told (Some f) [] j e = let z : ◌≡◌ {A = Option NodeFault} (Some (node_fault_of f)) None = e in cc
+nth-told None (g ∷ fs) zero e = let z : ◌≡◌ {A = Option NodeFault} None (Some g) = e in cc
+nth-told (Some f) (g ∷ fs) zero e = let z : ◌≡◌ {A = Option NodeFault} (Some (node_fault_of f)) (Some g) = e in cc
+nth-told o (g ∷ fs) (suc j) e = nth-told o fs j e
 
 -- ---- the sites of the first i rows, behind those of a table of clocks
 module _ (t : List ℕ) where
+  none_yet : sites (findings_in t 0) ≡ []
+  unfolding findings_from sites
+  none_yet = refl
+
   pub listed-none : (r : ClockTable) → Grown (λ cs. cs ++ sites (findings_in t 0)) r r
-  listed-none r = record { same_reference = refl; same_length = refl; held = λ cs h. rw ((none_yet t).1, append-nil cs) h }
+  listed-none r = record { same_reference = refl; same_length = refl; held = λ cs h. rw (none_yet, append-nil cs) h }
 
   module _ (i : ℕ) (r r' : ClockTable) where
     pub listed_same : sites (findings_in t (i + 1)) ≡ sites (findings_in t i) → Grown (λ cs. cs ++ sites (findings_in t i)) r r' → Grown (λ cs. cs ++ sites (findings_in t (i + 1))) r r'
@@ -316,3 +277,8 @@ module _ (t : List ℕ) where
           same_length = h.same_length ∙ g.same_length;
           held = λ cs k. rw (e, ← append_assoc cs (sites (findings_in t i)) (c ∷ [])) (h.held _ (g.held cs k));
         }
+
+-- ---- what is answered in the place of what was met: a value stays
+pub ok-told : {A D : Type 0} (E : Type 0) (a : Result A D) (b : A) (Q : D → Type 0) → true ≡ is_ok a → MatchResult a (λ x. ◌≡◌ {A = Result A E} (Ok b) (Ok x)) Q → a ≡ Ok b
+ok-told E (Ok x) b Q v m = let y : b ≡ x = cc in ap Ok (sym y)
+ok-told E (Err d) b Q v m = absurd (true≢false v)

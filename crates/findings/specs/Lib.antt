@@ -1,3 +1,4 @@
 pub mod Value
 pub mod Findings
 pub mod Met
+pub mod Walk

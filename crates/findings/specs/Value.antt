@@ -9,6 +9,8 @@ use Rattle.findings.specs.declared.ClockFault.{ClockFault}
 use Rattle.findings.specs.declared.Fault.{Fault}
 use Rattle.findings.specs.declared.Found.{Found}
 use Rattle.findings.specs.declared.Finding.{Finding}
+use Rattle.findings.specs.declared.Row.{Row}
+use Rattle.findings.specs.Findings.{fault_as, finding_as}
 
 -- a clock fault
 abbrev pub clock_fault_of : ClockFault → rules.Fault
@@ -40,3 +42,11 @@ abbrev pub finding_of : Finding → rules.Finding
 finding_of (Finding.Fault i f) = found (record { equation = i; fault = clock_fault_of f })
 finding_of (Finding.Site c) = site (value_of c)
 finding_of Finding.Deep = too_deep
+
+-- the fault that a row says, if it says one
+abbrev pub row_fault : Row → rules.Fault
+row_fault r = fault_as r.kind r.elsewhere.name r.flag (value_of r.elsewhere.on) (value_of r.elsewhere.expected)
+
+-- the finding that a row says
+abbrev pub row_finding : Row → rules.Finding
+row_finding r = finding_as r.kind r.elsewhere.name r.flag r.equation (value_of r.elsewhere.on) (value_of r.elsewhere.expected)

@@ -6,15 +6,20 @@ ghost use Rattle.std.proofs.Math.ListN.{get_elem?};
 ghost use Rattle.definitions.specs.InferClocks as rules;
 ghost use Rattle.definitions.specs.InferClocks.{fault_number, is_too_deep, clock_faults, sites};
 ghost use Rattle.clock_tables.specs.Value.{value_of};
-ghost use Rattle.findings.specs.Value.{clock_fault_of, fault_of, finding_of, found_of};
+ghost use Rattle.findings.specs.Value.{clock_fault_of, fault_of, node_fault_of, finding_of, found_of, row_fault, row_finding};
 ghost use Rattle.definitions.specs.Lists.{any};
 ghost use Rattle.clock_tables.specs.Flat.{clock_in};
 ghost use Rattle.clock_tables.specs.Grown.{Grown};
-ghost use Rattle.findings.specs.Findings.{fault_as, fault_in, finding_as, finding_in, is_fault, findings_in};
+ghost use Rattle.findings.specs.Findings.{fault_in, finding_in, is_fault, findings_in};
 ghost use Rattle.findings.specs.Met.{Met};
+ghost use Rattle.findings.specs.Walk.{faults_left};
 
 use clock_tables::{Clock, ClockTable};
 use definitions::Condition;
+
+mod clock_faults;
+
+pub use clock_faults::ClockFaults;
 
 // ---- A fault by value: which of the nine it is, and what its text says.
 
@@ -69,14 +74,24 @@ pub struct Found {
     pub equation: u32,
 }
 
+// The numbers of the first four, which are the kinds of their rows too.
+const LEFT_ELSEWHERE: u32 = 1;
+
+const USED_ELSEWHERE: u32 = 2;
+
+const WHEN_ELSEWHERE: u32 = 3;
+
+const CLOCK_NAME_ELSEWHERE: u32 = 4;
+
+// Stays (no plainer): no `From`: a fault's number is one thing that a record or a line says of it, and is no other form of it.
 pub fn fault_number(fault: Fault) -> u32
     ensures { result ≡ fault_number (fault_of fault) }
 {
     match fault {
-        Fault::Clock(ClockFault::LeftElsewhere { .. }) => 1,
-        Fault::Clock(ClockFault::UsedElsewhere(_)) => 2,
-        Fault::Clock(ClockFault::WhenElsewhere { .. }) => 3,
-        Fault::Clock(ClockFault::ClockNameElsewhere(_)) => 4,
+        Fault::Clock(ClockFault::LeftElsewhere { .. }) => LEFT_ELSEWHERE,
+        Fault::Clock(ClockFault::UsedElsewhere(_)) => USED_ELSEWHERE,
+        Fault::Clock(ClockFault::WhenElsewhere { .. }) => WHEN_ELSEWHERE,
+        Fault::Clock(ClockFault::ClockNameElsewhere(_)) => CLOCK_NAME_ELSEWHERE,
         Fault::Undeclared(_) => 5,
         Fault::NoDefault(_) => 6,
         Fault::NoOutputDefault { .. } => 7,
@@ -104,7 +119,7 @@ const EXPECTED: usize = ON + clock_tables::WORDS;
 
 const ROW: usize = EXPECTED + clock_tables::WORDS;
 
-// The kinds of a row behind those of clock faults, which are 1 to 4.
+// The kinds of a row behind those of clock faults.
 const SITE: u32 = 5;
 
 const DEEP: u32 = 6;
@@ -139,11 +154,13 @@ fn clock_row(kind: u32, clock: Clock) -> Row
 
 // The row of a clock fault.
 fn fault_row(equation: u32, fault: ClockFault) -> Row
-    ensures { finding_as result.kind result.elsewhere.name result.flag result.equation (value_of result.elsewhere.on) (value_of result.elsewhere.expected) ≡ rules.found (record { equation = equation; fault = clock_fault_of fault }) }
+    ensures { row_finding result ≡ rules.found (record { equation = equation; fault = clock_fault_of fault }) }
 {
     let (kind, flag, elsewhere) = match fault {
-        ClockFault::LeftElsewhere { elsewhere, port } => (1, u32::from(port), elsewhere),
-        ClockFault::UsedElsewhere(elsewhere) => (2, 0, elsewhere),
+        ClockFault::LeftElsewhere { elsewhere, port } => {
+            (LEFT_ELSEWHERE, u32::from(port), elsewhere)
+        }
+        ClockFault::UsedElsewhere(elsewhere) => (USED_ELSEWHERE, 0, elsewhere),
         ClockFault::WhenElsewhere {
             condition,
             expected,
@@ -153,9 +170,10 @@ fn fault_row(equation: u32, fault: ClockFault) -> Row
                 on: expected,
                 expected,
             };
-            (3, clock_tables::word_of(condition.test), elsewhere)
+            let flag = clock_tables::word_of(condition.test);
+            (WHEN_ELSEWHERE, flag, elsewhere)
         }
-        ClockFault::ClockNameElsewhere(elsewhere) => (4, 0, elsewhere),
+        ClockFault::ClockNameElsewhere(elsewhere) => (CLOCK_NAME_ELSEWHERE, 0, elsewhere),
     };
     Row {
         kind,
@@ -167,7 +185,7 @@ fn fault_row(equation: u32, fault: ClockFault) -> Row
 
 impl From<Finding> for Row {
     fn from(finding: Finding) -> Row
-        ensures { finding_as result.kind result.elsewhere.name result.flag result.equation (value_of result.elsewhere.on) (value_of result.elsewhere.expected) ≡ finding_of finding }
+        ensures { row_finding result ≡ finding_of finding }
     {
         match finding {
             Finding::Fault { equation, fault } => fault_row(equation, fault),
@@ -181,7 +199,7 @@ impl From<Finding> for Row {
 fn store_row(t: &mut [u32], b: usize, row: Row)
     requires { b + 38 ≤ length t.old }
     ensures t_len_unchanged { length t.new ≡ length t.old }
-    ensures b_after { finding_in t.new b ≡ finding_as row.kind row.elsewhere.name row.flag row.equation (value_of row.elsewhere.on) (value_of row.elsewhere.expected) }
+    ensures b_after { finding_in t.new b ≡ row_finding row }
     ensures by_index { (i : ℕ) → (i < b) ⊎ (b + 38 ≤ i) → get_or t.new i 0 ≡ get_or t.old i 0 }
 {
     t[b] = row.kind;
@@ -209,16 +227,16 @@ fn clock_at(t: &[u32], i: usize, j: usize) -> Clock
 // The fault of a row that has one.
 impl From<Row> for ClockFault {
     fn from(row: Row) -> ClockFault
-        ensures { clock_fault_of result ≡ fault_as row.kind row.elsewhere.name row.flag (value_of row.elsewhere.on) (value_of row.elsewhere.expected) }
+        ensures { clock_fault_of result ≡ row_fault row }
     {
         let elsewhere = row.elsewhere;
         match row.kind {
-            1 => {
+            LEFT_ELSEWHERE => {
                 let port = row.flag == 1;
                 ClockFault::LeftElsewhere { elsewhere, port }
             }
-            2 => ClockFault::UsedElsewhere(elsewhere),
-            3 => {
+            USED_ELSEWHERE => ClockFault::UsedElsewhere(elsewhere),
+            WHEN_ELSEWHERE => {
                 let test = clock_tables::test_of(row.flag);
                 let condition = Condition {
                     name: elsewhere.name,
@@ -236,7 +254,7 @@ impl From<Row> for ClockFault {
 
 // Row i.
 fn row_in(table: &[u32], i: usize) -> Row
-    ensures { record { equation = result.equation; fault = fault_as result.kind result.elsewhere.name result.flag (value_of result.elsewhere.on) (value_of result.elsewhere.expected) } ≡ fault_in table.now (38 * i) }
+    ensures { record { equation = result.equation; fault = row_fault result } ≡ fault_in table.now (38 * i) }
 {
     let elsewhere = Elsewhere {
         name: word_at(table, i, 1),
@@ -248,6 +266,17 @@ fn row_in(table: &[u32], i: usize) -> Row
         flag: word_at(table, i, 2),
         equation: word_at(table, i, 3),
         elsewhere,
+    }
+}
+
+// The fault in row i, which has one.
+fn fault_in(table: &[u32], i: usize) -> Found
+    ensures { node_fault_of result ≡ fault_in table.now (38 * i) }
+{
+    let row = row_in(table, i);
+    Found {
+        fault: Fault::Clock(ClockFault::from(row)),
+        equation: row.equation,
     }
 }
 
@@ -292,7 +321,7 @@ pub struct FindingList<'a> {
 }
 
 // The same to build.
-// Stays (no plainer): beside `ClockTable`: one table for both would ask for a trait of rows, with laws, and save `list` and `push` alone.
+// Stays (no plainer): one table with `ClockTable` would save two structs, a record and `push`, and ask for a trait of rows with its laws.
 #[derive(Drop)]
 pub struct Findings<'a> {
     pub words: &'a mut [u32],
@@ -325,9 +354,9 @@ impl Findings<'_> {
     }
 }
 
-impl FindingList<'_> {
+impl<'a> FindingList<'a> {
     // The finding in row i.
-    pub fn finding_at(&self, i: usize) -> Finding
+    fn finding_at(&self, i: usize) -> Finding
         ensures { finding_of result ≡ finding_in self.now.words.now (38 * i) }
     {
         finding_in(self.words, i)
@@ -341,23 +370,30 @@ impl FindingList<'_> {
         (0..self.count).any(|i| is_deep(words, i))
     }
 
+    // Its clock faults, one after another.
+    pub fn faults(self) -> ClockFaults<'a>
+        ensures { faults_left result ≡ clock_faults (findings_in self.entry.words.now self.entry.count) }
+    {
+        let FindingList { words, count } = self;
+        ClockFaults {
+            words,
+            at: 0,
+            count,
+        }
+    }
+
     // Clock fault j, from 0, if there are so many.
     pub fn nth_fault(&self, j: usize) -> Option<Found>
         ensures { found_of result ≡ get_elem? (clock_faults (findings_in self.now.words.now self.now.count)) j }
     {
-        let words = self.words;
-        let i = (0..self.count).filter(|&i| is_fault(words, i)).nth(j)?;
-        let row = row_in(words, i);
-        Some(Found {
-            fault: Fault::Clock(ClockFault::from(row)),
-            equation: row.equation,
-        })
+        self.faults().nth(j)
     }
 
     // All the clocks of `pre` and `->` other than base, in order, behind those of a table of clocks.
     pub fn list_sites(&self, clocks: &mut ClockTable<'_>)
         ensures { Grown (λ cs. cs ++ sites (findings_in self.now.words.now self.now.count)) clocks.old clocks.new }
     {
+        // Stays (proof): two `if`s: at the end of one `if let .. && ..` (tried) no name says that the finding is no site.
         for i in 0..self.count {
             if let Finding::Site(clock) = self.finding_at(i) {
                 if !clock.is_base() {

@@ -8,6 +8,7 @@ use mathlib.Core.Option.{Option, none, some, none-ne-some}
 use native.Mathlib.Omega.{arith}
 use lib.ListN.{length, get_or, get_elem?, length-map}
 use Rattle.definitions.specs.Tokens.{TagValue}
+use Rattle.grammar.specs.declared.source.Source.{Source}
 use Rattle.grammar.specs.Read.{tokens_of}
 use Rattle.definitions.specs.Tree.{TypeDef, Node}
 use Rattle.definitions.specs.Reading.{got}
@@ -17,6 +18,7 @@ use Rattle.definitions.specs.InferClocks.{formed, NodeFault, Clocked, Clocking, 
 use Rattle.definitions.specs.Output.{condact_id, ClockedNode, node_faults}
 use Rattle.definitions.specs.Answer.{Input, clockings}
 use Rattle.shapes.proofs.Clockless.{no-node-faults}
+use Rattle.shapes.proofs.Formed.{node-checks, same-clocking, clocked}
 use Rattle.layout.specs.declared.NodeLayout.{NodeLayout}
 use Rattle.layout.specs.Laid.{LaidNode}
 use Rattle.lines.proofs.Laws.{clocked-many}
@@ -28,7 +30,7 @@ use Rattle.query.specs.Standing.{ClockedAs}
 use Rattle.checking.proofs.Only.{sites-alone}
 use Rattle.skeleton.specs.Sites.{EquationsSited}
 use Rattle.stateless.specs.Sheets.{one_of, faults_by}
-use Rattle.stateless.proofs.Nodes.{clockings-form, node-here, node-checks, same-clocking, clocked, node-faults, rewriting-faulty}
+use Rattle.stateless.proofs.Nodes.{clockings-form, node-here, node-faults, rewriting-faulty}
 use Rattle.stateless.proofs.Stops as stops
 use Rattle.index.specs.declared.Index.{Index}
 use Rattle.index.specs.Indexed.{Indexed}
@@ -41,7 +43,7 @@ use Rattle.std.specs.Result.{result_err, is_err}
 use Rattle.definitions.specs.declared.Refusal.{Refusal}
 use Rattle.findings.specs.declared.Found.{Found}
 use Rattle.workspace.specs.declared.Working.{Working}
-use Rattle.first_faults.specs.Faults.{fault_in, fault_found, FoundIn, NodeMet}
+use Rattle.first_faults.specs.Faults.{fault_in, fault_found, LaidIn, RoomIn, DeepAt, FoundIn, NodeMet}
 
 -- ---- which fault is fault j
 none-first : {A : Type 0} (l : List A) (j : ℕ) → j ≡ 0 → get_elem? l j ≡ none → l ≡ []
@@ -74,19 +76,23 @@ pub none-unclocked : (r : Input) (n : Node) (k : Clocking) (j : ℕ) (found : Op
 none-unclocked r n k j found u f e = e ∙ sym (ap (λ (x : List NodeFault). get_elem? x j) (no-node-faults r.names r.sheet (record { node = n; clocking = k }) u f))
 
 -- ---- a node clocked
-module _ (M : ℕ) (gs vs t sites : List ℕ) (j : ℕ) (n : Node) where
-  pub deep-as : (r : Refusal) → ClockedAs M gs vs t sites j n (Err r) → true ≡ is_deep (clocking n)
+module _ (t : Index) (k : ℕ) (l : NodeLayout) (w : Working) (table sites : List ℕ) where
+  -- node k, which has this layout, is told so, if the working tables have room
+  abbrev pub ToldAs : Result ToldNode Refusal → Type 0
+  ToldAs r = (n : Node) (q : ℕ) → LaidIn t l n q → RoomIn t w → ClockedAs t.source table sites k n r
+
+  pub deep-at : {A : Type 0} (r : Refusal) → r ≡ Refusal.Deep k → ToldAs (Err r) → DeepAt {A = A} t k l w (Err r)
   unfolding ClockedAs
-  deep-as r h = sym (ap is_deep h.0)
+  deep-at r e h = record { refused_at = e; deep = λ n q d room. sym (ap is_deep (h n q d room).0) }
 
-  module _ (told : ToldNode) (h : ClockedAs M gs vs t sites j n (Ok told)) where
-    pub formed-as : false ≡ is_deep (clocking n)
-    unfolding ClockedAs
-    formed-as = sym (ap is_deep h.1)
+  pub formed-at : {A : Type 0} (told : ToldNode) (a : A) → ToldAs (Ok told) → DeepAt t k l w (Ok a)
+  unfolding ClockedAs
+  formed-at told a h = record { refused_at = tt; deep = λ n q d room. sym (ap is_deep (h n q d room).1) }
 
-    pub all-told : (k : Clocking) → clocking n ≡ formed k → findings_in t told.clocked.findings ≡ k.findings
-    unfolding ClockedAs
-    all-told k f = subst (λ (x : Clocking). findings_in t told.clocked.findings ≡ x.findings) (same-clocking n h.0 k h.1 f) h.2.tells.all
+module _ (s : Source) (table sites : List ℕ) (k : ℕ) (n : Node) where
+  pub all-told : (told : ToldNode) → ClockedAs s table sites k n (Ok told) → (c : Clocking) → clocking n ≡ formed c → findings_in table told.clocked.findings ≡ c.findings
+  unfolding ClockedAs
+  all-told told h c f = subst (λ (x : Clocking). findings_in table told.clocked.findings ≡ x.findings) (same-clocking n h.0 c h.1 f) h.2.tells.all
 
 -- where too deep a clock is formed, a node has none
 pub deep-unformed : (n : Node) (k : Clocking) → true ≡ is_deep (clocking n) → clocking n ≡ formed k → ⊥
@@ -104,8 +110,8 @@ as_many M ts n q l k d f =
     omega (arith, b, length-map k.equations (λ (x : Clocked). x.clock), d.equations.many)
 
 -- every site has its clock, where there is no clock fault
-pub all-sited : (M : ℕ) (gs vs sites : List ℕ) (n : Node) (k : Clocking) (p q : ℕ) → clocking n ≡ formed k → clock_faults k.findings ≡ [] → SitesTold M gs vs sites k.findings k.equations p q → EquationsSited M gs vs sites k.equations p q
-all-sited M gs vs sites n k p q f z s = s.sited (sites-alone k.findings z (node-checks n k f).shallow)
+pub all-sited : (t : Source) (sites : List ℕ) (n : Node) (k : Clocking) (p q : ℕ) → clocking n ≡ formed k → clock_faults k.findings ≡ [] → SitesTold t sites k.findings k.equations p q → EquationsSited t.names t.tags.now t.values.now sites k.equations p q
+all-sited t sites n k p q f z s = s.sited (sites-alone k.findings z (node-checks n k f).shallow)
 
 -- ---- what is found in a clocked node
 module _ (r : Input) (n : Node) (k : Clocking) (t : List ℕ) (m : ℕ) (all : findings_in t m ≡ k.findings) where

@@ -4,7 +4,7 @@ use Prim.Native.Nat.{ℕ, zero, suc, ◌+◌, ◌≤◌, ◌<◌, min}
 use mathlib.Core.Path.{◌≡◌, refl, sym, ap, ◌∙◌, subst}
 use mathlib.Core.List.{List, [], ◌∷◌, ◌++◌}
 use mathlib.Core.Bool.{Bool, true, false}
-use mathlib.Core.Option.{Option, none, some, none-ne-some, some-injective}
+use mathlib.Core.Option.{Option, some, none-ne-some, some-injective}
 use native.Mathlib.Omega.{arith}
 use native.Mathlib.Numerals.{add-one}
 use lib.ListN.{length, take, drop, get_elem?, length-append, drop_of_length-le}
@@ -16,6 +16,7 @@ use Rattle.definitions.specs.Refusals.{accepted, refused}
 use Rattle.definitions.specs.InferClocks.{NodeFault, fault_number, clocking}
 use Rattle.definitions.specs.Output.{ClockedNode, node_faults}
 use Rattle.definitions.specs.Answer.{Input, clockings, fault_record, first_of}
+use Rattle.shapes.proofs.Facts.{over-long}
 use Rattle.infer_clocks.specs.Clocked.{is_deep}
 use Rattle.infer_clocks.proofs.Laws.{Ahead, ahead-end, ahead_step, ahead-deep}
 use Rattle.stateless.specs.Sheets.{first_faults_from}
@@ -25,12 +26,6 @@ use Rattle.query.specs.Faults.{Pushed}
 use Rattle.query.specs.declared.fault_list.FaultList.{FaultList}
 use Rattle.query.proofs.Entries.{set-behind}
 use Rattle.first_faults.specs.Faults.{fault_in, Recorded}
-
--- ---- records over a list
-pub over-long : (l lent : List FaultRecord) → length (over l lent) ≡ length lent
-over-long [] lent = refl
-over-long (f ∷ l) [] = refl
-over-long (f ∷ l) (g ∷ lent) = ap suc (over-long l lent)
 
 -- ---- the first of a node's faults behind others: its record
 module _ (lent l : List FaultRecord) (m : ℕ) (now : List FaultRecord) (h : Recorded lent l m now) (node : ℕ) (fs : List NodeFault) (f : NodeFault) (told : some f ≡ get_elem? fs 0) where

@@ -47,11 +47,16 @@ SitedAt t sites cs l = EquationsSited t.source.names t.source.tags.now t.source.
 
 -- the working tables have room to plan a node of the sheet with this index
 abbrev pub RoomIn : Index → Working → Type 0
-RoomIn t w = RoomToPlan t.source.names (length t.source.tags.now) w
+RoomIn t w = RoomToPlan t.source w
 
 -- the sites of a node with this layout are told in the working tables, by its clocks
 abbrev pub SitesIn : Index → Working → Clocking → NodeLayout → Type 0
-SitesIn t w k l = SitesTold t.source.names t.source.tags.now t.source.values.now w.sites.now k.findings k.equations l.equations.at l.equations.end
+SitesIn t w k l = SitesTold t.source w.sites.now k.findings k.equations l.equations.at l.equations.end
+
+-- node k, which has this layout in its index: whether too deep a clock is formed in it, as refusal 9
+pub record DeepAt {A : Type 0} (t : Index) (k : ℕ) (l : NodeLayout) (w : Working) (a : Result A Refusal) : Type 0 where
+  pub refused_at : IfErr a (λ r. r ≡ Refusal.Deep k)
+  pub deep : (n : Node) (q : ℕ) → LaidIn t l n q → RoomIn t w → is_err a ≡ is_deep (clocking n)
 
 -- the node n of the sheet r, which has this layout in its index: its first fault was found; or it has none, and it is planned in the
 -- working tables, where every site has its clock

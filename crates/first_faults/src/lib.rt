@@ -3,8 +3,7 @@
 // them.
 #![tactic(auto)]
 
-ghost use Rattle.std.specs.Prelude.{◌≡◌, List, ◌++◌, true, ℕ, ◌+◌, ◌≤◌, ◌<◌, length, IfOk, IfErr};
-ghost use Rattle.std.specs.Result.{is_err};
+ghost use Rattle.std.specs.Prelude.{◌≡◌, List, ◌++◌, true, ℕ, ◌+◌, ◌≤◌, ◌<◌, length, IfOk};
 ghost use Rattle.std.proofs.Math.ListN.{get_elem?};
 ghost use Rattle.definitions.specs.declared.FaultRecord.{FaultRecord};
 ghost use Rattle.definitions.specs.Tree.{Node};
@@ -14,14 +13,13 @@ ghost use Rattle.definitions.specs.Answer.{Input, first_of};
 ghost use Rattle.findings.specs.Value.{found_of};
 ghost use Rattle.spelling.specs.Writing.{last_place};
 ghost use Rattle.findings.specs.Findings.{findings_in};
-ghost use Rattle.infer_clocks.specs.Clocked.{is_deep};
 ghost use Rattle.index.specs.Indexed.{Indexed};
 ghost use Rattle.node_plan.specs.Outcomes.{PlansNode};
 ghost use Rattle.workspace.specs.Room.{SameRoom};
-ghost use Rattle.first_faults.specs.Faults.{fault_found, LaidIn, SitedAt, RoomIn, SitesIn, FoundIn, Recorded};
+ghost use Rattle.first_faults.specs.Faults.{fault_found, LaidIn, SitedAt, RoomIn, SitesIn, DeepAt, FoundIn, Recorded};
 
 use definitions::{FaultRecord, Refusal};
-use findings::{FindingList, Found};
+use findings::Found;
 use index::Index;
 use layout::NodeLayout;
 use lines::ToldNode;
@@ -48,17 +46,6 @@ pub fn plan_of(
     node_plan::plan_laid(index, &parts, sites, types, plan, flags, firsts, holds, l)
 }
 
-// What was found in a node that was clocked in these tables.
-fn findings_of<'a>(told: &ToldNode, working: &'a Working<'_>) -> FindingList<'a>
-    ensures words_value { result.words.now ≡ working.now.table.now }
-    ensures count_value { result.count ≡ told.now.clocked.findings }
-{
-    FindingList {
-        words: working.table,
-        count: told.clocked.findings,
-    }
-}
-
 // A node that uses clocks and was clocked: its first clock fault, else the first that planning meets, else its plan.
 // Stays (no plainer): `holds` beside `working`, here and below: a node is found and clocked with `working` alone, and has no holds then.
 fn plan_clocked(
@@ -70,7 +57,7 @@ fn plan_clocked(
     ensures same_room { SameRoom working.old working.new }
     ensures found_in { (i : Input) (node : Node) (q : ℕ) (k : Clocking) → Indexed index.now i → LaidIn index.now told.now.layout node q → uses_clocks node ≡ true → clocking node ≡ formed k → findings_in working.old.table.now told.now.clocked.findings ≡ k.findings → SitesIn index.now working.old k told.now.layout → RoomIn index.now working.old → FoundIn index.now working.new holds.new i (record { node = node; clocking = k }) told.now.layout result }
 {
-    if let Some(found) = findings_of(told, working).nth_fault(0) {
+    if let Some(found) = told.findings(working.table).nth_fault(0) {
         return Err(found);
     }
     let table = &mut *working.table;
@@ -93,7 +80,7 @@ fn fault_clocked(
     ensures fault_value { (i : Input) (node : Node) (q : ℕ) (k : Clocking) → Indexed index.now i → LaidIn index.now told.now.layout node q → uses_clocks node ≡ true → clocking node ≡ formed k → findings_in working.old.table.now told.now.clocked.findings ≡ k.findings → SitesIn index.now working.old k told.now.layout → RoomIn index.now working.old → found_of result ≡ get_elem? (node_faults i.names i.sheet (record { node = node; clocking = k })) j }
 {
     if 0 < j {
-        return findings_of(told, working).nth_fault(j);
+        return told.findings(working.table).nth_fault(j);
     }
     plan_clocked(index, told, working, holds).err()
 }
@@ -107,8 +94,7 @@ pub fn laid_found(
     holds: &mut [HeldOperand],
 ) -> Result<Result<Counts, Found>, Refusal>
     ensures same_room { SameRoom working.old working.new }
-    ensures refused_at { IfErr result (λ r. r ≡ Refusal.Deep k) }
-    ensures deep_value { (node : Node) (q : ℕ) → LaidIn index.now l node q → RoomIn index.now working.old → is_err result ≡ is_deep (clocking node) }
+    ensures deepness { DeepAt index.now k l working.old result }
     ensures found_in { IfOk result (λ a. (i : Input) (node : Node) (q : ℕ) (k : Clocking) → Indexed index.now i → LaidIn index.now l node q → uses_clocks node ≡ true → clocking node ≡ formed k → RoomIn index.now working.old → FoundIn index.now working.new holds.new i (record { node = node; clocking = k }) l a) }
 {
     let told = query::clock_laid(&index.source, l, k, working)?;
@@ -125,8 +111,7 @@ pub fn fault_in(
     holds: &mut [HeldOperand],
 ) -> Result<Option<Found>, Refusal>
     ensures same_room { SameRoom working.old working.new }
-    ensures refused_at { IfErr result (λ r. r ≡ Refusal.Deep k) }
-    ensures deep_value { (node : Node) (q : ℕ) → LaidIn index.now l node q → RoomIn index.now working.old → is_err result ≡ is_deep (clocking node) }
+    ensures deepness { DeepAt index.now k l working.old result }
     ensures fault_value { (i : Input) (node : Node) (q : ℕ) (k : Clocking) → Indexed index.now i → LaidIn index.now l node q → clocking node ≡ formed k → RoomIn index.now working.old → fault_found result ≡ get_elem? (node_faults i.names i.sheet (record { node = node; clocking = k })) j }
 {
     if !l.uses_clocks(&index.source) {

@@ -33,7 +33,7 @@ use Rattle.grammar.proofs.Longer.{token-got}
 
 -- what was read was not refused
 pub no : {A : Type 0} (x : Got A) (a : A) (q : ℕ) (r : Result ℕ Refusal) (t : Refusal) → x ≡ got a q → r ≡ outcome x → r ≡ Err t → ⊥
-no x a q r t g e b = let f : Ok q ≡ Err t = sym (e ∙ ap outcome g) ∙ b in let z : ◌≡◌ {A = ℕ} 0 1 = cc in omega arith
+no x a q r t g e b = let f : Ok q ≡ Err t = sym (e ∙ ap outcome g) ∙ b in cc
 
 -- the place after what was read is the one that the code finds
 pub same : {A : Type 0} (x : Got A) (a : A) (q : ℕ) (r : Result ℕ Refusal) (s : ℕ) → x ≡ got a q → r ≡ outcome x → r ≡ Ok s → q ≡ s
@@ -46,7 +46,7 @@ limited-got test r ts p a q g = let m = after-got (r ts p) _ a q g in go m.0 m.1
   where
     go : (b : _) (s : ℕ) (t : Bool) → test b ≡ t → r ts p ≡ got b s → choose t (got b s) (rejected (Refusal.Limit p)) ≡ got a q → (r ts p ≡ got a q) × (test a ≡ true)
     go b s true x y e = let i : b ≡ a = cc in (y ∙ e, ap test (sym i) ∙ x)
-    go b s false x y e = let z : ◌≡◌ {A = ℕ} 0 1 = cc in absurd (omega arith)
+    go b s false x y e = absurd cc
 
 -- over the two arrays: what a token says of its tag and value
 module _ (ts vs : List ℕ) (same_length : length vs ≡ length ts) (p : ℕ) where
@@ -54,7 +54,7 @@ module _ (ts vs : List ℕ) (same_length : length vs ≡ length ts) (p : ℕ) wh
   token-value f a q h g = go (f (get_or ts p 0) (get_or vs p 0)) (sym (there f ts vs p same_length h) ∙ g)
     where
       go : (x : Option _) → allowed x p ≡ got a q → (x ≡ some a) × (q ≡ p + 1)
-      go none e = let z : ◌≡◌ {A = ℕ} 0 1 = cc in absurd (omega arith)
+      go none e = absurd cc
       go (some b) e = let i : b ≡ a = cc in (ap some i, cc)
 
   -- a value below a bound, under its tag
@@ -66,8 +66,8 @@ module _ (ts vs : List ℕ) (same_length : length vs ≡ length ts) (p : ℕ) wh
     where
       go : (a b : Bool) → eqb (get_or ts p 0) tag ≡ a → ltb (get_or vs p 0) bound ≡ b → choose a (given b (get_or vs p 0)) none ≡ some x → q ≡ p + 1 →
           (x ≡ get_or vs p 0) × (get_or ts p 0 ≡ tag) × (x < bound) × (q ≡ p + 1)
-      go false b i j e k = let z : ◌≡◌ {A = ℕ} 0 1 = cc in absurd (omega arith)
-      go true false i j e k = let z : ◌≡◌ {A = ℕ} 0 1 = cc in absurd (omega arith)
+      go false b i j e k = absurd cc
+      go true false i j e k = absurd cc
       go true true i j e k = let y : x ≡ get_or vs p 0 = cc in (y, eqb-true _ _ i, omega (arith, ltb-true (get_or vs p 0) bound j), k)
 
   pub counted-value : (tag low most n q : ℕ) → p < length ts → counted tag low most (tokens ts vs) p ≡ got n q → (n ≡ get_or vs p 0) × (get_or ts p 0 ≡ tag) × (q ≡ p + 1)
@@ -110,8 +110,7 @@ module _ (M : ℕ) (ts : List TagValue) (p : ℕ) where
   expr-got zero e q g =
       let a = after-got (limited (λ h. false) (token (expr_token_of M)) ts p) _ e q g in
       let l = limited-got (λ h. false) (token (expr_token_of M)) ts p a.0 a.1 a.2 in
-      let z : ◌≡◌ {A = ℕ} 0 1 = cc in
-      absurd (omega arith)
+      absurd cc
   expr-got (suc d) e q g =
       let a = after-got (token (expr_token_of M) ts p) _ e q g in
       let t = token-got (expr_token_of M) ts p a.0 a.1 a.2 in
@@ -273,7 +272,7 @@ module _ (M : ℕ) (ts : List TagValue) (p : ℕ) where
 
   pub element-got : (n d : ℕ) (a : Ty) (q s : ℕ) → typed (TypeToken.Array n) (element d) ts s ≡ got a q → allows d (TypeToken.Array n) ≡ true →
       (b : Ty) × (d ≡ 0 → ⊥) × (n ≤ 256) × (ty M (d - 1) ts s ≡ got b q) × (a ≡ Ty.array n b)
-  element-got n zero a q s g t = let z : ◌≡◌ {A = ℕ} 0 1 = cc in absurd (omega arith)
+  element-got n zero a q s g t = absurd cc
   element-got n (suc d) a q s g t =
       let x = wrap-got (ty M d ts s) _ a q g in
       (x.0, (λ z. omega arith), leb-true n 256 t, rw (sub-one (suc d)) x.1, x.2)
@@ -396,5 +395,5 @@ sheet-got M ts p x q g =
   where
     go : (types : List TypeDef) (nodes : List Node) (s : ℕ) (b : Bool) → eqb s (length ts) ≡ b → choose b (got (record { types = types; nodes = nodes }) s) (rejected (Refusal.Token s)) ≡ got x q →
         (record { types = types; nodes = nodes } ≡ x) × (s ≡ q) × (q ≡ length ts)
-    go types nodes s false i e = let z : ◌≡◌ {A = ℕ} 0 1 = cc in absurd (omega arith)
+    go types nodes s false i e = absurd cc
     go types nodes s true i e = let y : s ≡ q = cc in (cc, y, omega (arith, eqb-true s (length ts) i))

@@ -47,7 +47,7 @@ module _ {A : Type 0} (f : ℕ → ℕ → Option A) (ts : List TagValue) (p : �
     step-got a h = go (get_elem? ts p) (sym e ∙ g)
       where
         go : (x : Option TagValue) → step_of x p ≡ Some (tag, v, q) → at_token f x p ≡ got a q
-        go none i = let z : ◌≡◌ {A = ℕ} 0 1 = cc in absurd (omega arith)
+        go none i = absurd cc
         go (some t) i =
             let m : ◌≡◌ {A = ℕ × ℕ × ℕ} (t.tag, t.value, p + 1) (tag, v, q) = cc in
             let j : t.tag ≡ tag = ap (λ (y : ℕ × ℕ × ℕ). y.0) m in
@@ -73,15 +73,15 @@ module _ {A : Type 0} (f : ℕ → ℕ → Option A) (ts : List TagValue) (p : �
     where
       go : (x : Option TagValue) → step_of x p ≡ None → at_token f x p ≡ rejected (Refusal.Token p)
       go none i = refl
-      go (some t) i = let z : ◌≡◌ {A = ℕ} 0 1 = cc in absurd (omega arith)
+      go (some t) i = absurd cc
 
 -- what a reading was, by the code's answer
 pub next-got : {A : Type 0} (x : Got A) (r : Result ℕ Refusal) (q : ℕ) → r ≡ outcome x → r ≡ Ok q → (a : A) × (x ≡ got a q)
 next-got (got a s) r q e g = (a, cc)
-next-got (rejected t) r q e g = let z : ◌≡◌ {A = ℕ} 0 1 = cc in absurd (omega arith)
+next-got (rejected t) r q e g = absurd cc
 
 pub refused : {A : Type 0} (x : Got A) (r : Result ℕ Refusal) (t : Refusal) → r ≡ outcome x → r ≡ Err t → x ≡ rejected t
-refused (got a s) r t e g = let z : ◌≡◌ {A = ℕ} 0 1 = cc in absurd (omega arith)
+refused (got a s) r t e g = absurd cc
 refused (rejected u) r t e g = cc
 
 pub told-got : {A : Type 0} (x : Got A) (r : Result (A × ℕ) Refusal) (a : A) (q : ℕ) → r ≡ told x → r ≡ Ok (a, q) → x ≡ got a q
@@ -90,10 +90,10 @@ told-got {A} (got b s) r a q e g =
     let i : b ≡ a = ap (λ (y : A × ℕ). y.0) h in
     let j : s ≡ q = ap (λ (y : A × ℕ). y.1) h in
     cc
-told-got (rejected t) r a q e g = let z : ◌≡◌ {A = ℕ} 0 1 = cc in absurd (omega arith)
+told-got (rejected t) r a q e g = absurd cc
 
 pub told-refused : {A : Type 0} (x : Got A) (r : Result (A × ℕ) Refusal) (t : Refusal) → r ≡ told x → r ≡ Err t → x ≡ rejected t
-told-refused (got a s) r t e g = let z : ◌≡◌ {A = ℕ} 0 1 = cc in absurd (omega arith)
+told-refused (got a s) r t e g = absurd cc
 told-refused (rejected u) r t e g = cc
 
 pub list-got : {A : Type 0} (x : Got (List A)) (r : Result (ℕ × ℕ) Refusal) (n q : ℕ) → r ≡ listed x → r ≡ Ok (n, q) → (l : List A) × (x ≡ got l q) × (length l ≡ n)
@@ -101,7 +101,7 @@ list-got (got l s) r n q e g =
     let h : ◌≡◌ {A = ℕ × ℕ} (length l, s) (n, q) = cc in
     let i : s ≡ q = ap (λ (y : ℕ × ℕ). y.1) h in
     (l, cc, ap (λ (y : ℕ × ℕ). y.0) h)
-list-got (rejected t) r n q e g = let z : ◌≡◌ {A = ℕ} 0 1 = cc in absurd (omega arith)
+list-got (rejected t) r n q e g = absurd cc
 
 -- what a `?` passes on
 pub passes : {A : Type 0} (r w : Result A Refusal) (t : Refusal) → IsErr r × IsErrAnd r (λ y. y ≡ t) → Err t ≡ w → r ≡ w
@@ -186,11 +186,11 @@ module _ (R : Reader Expr) (ts : List TagValue) where
 -- a reading that gave something: its parts gave something too
 pub after-got : {A B : Type 0} (x : Got A) (f : A → ℕ → Got B) (b : B) (q : ℕ) → after x f ≡ got b q → (a : A) × (s : ℕ) × (x ≡ got a s) × (f a s ≡ got b q)
 after-got (got a s) f b q e = (a, s, refl, e)
-after-got (rejected t) f b q e = let z : ◌≡◌ {A = ℕ} 0 1 = cc in absurd (omega arith)
+after-got (rejected t) f b q e = absurd cc
 
 pub wrap-got : {A B : Type 0} (x : Got A) (f : A → B) (b : B) (q : ℕ) → after x (λ a s. got (f a) s) ≡ got b q → (a : A) × (x ≡ got a q) × (b ≡ f a)
 wrap-got (got a s) f b q e = let i : s ≡ q = cc in let j : b ≡ f a = cc in (a, ap (got a) i, j)
-wrap-got (rejected t) f b q e = let z : ◌≡◌ {A = ℕ} 0 1 = cc in absurd (omega arith)
+wrap-got (rejected t) f b q e = absurd cc
 
 -- a list has as many items as were asked for
 pub times-length : {A : Type 0} (R : Reader A) (ts : List TagValue) (k p : ℕ) (l : List A) (q : ℕ) → times k R ts p ≡ got l q → length l ≡ k

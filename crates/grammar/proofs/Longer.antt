@@ -37,7 +37,7 @@ keeps-return a ts p b q g = let e : p ≡ q = cc in (omega arith, omega arith)
 
 -- the wrong tokens, at which nothing is read
 keeps-rejected : {A : Type 0} (t : ℕ → Refusal) → Keeps {A = A} (λ ts p. rejected (t p))
-keeps-rejected t ts p b q g = let z : ◌≡◌ {A = ℕ} 0 1 = cc in absurd (omega arith)
+keeps-rejected t ts p b q g = absurd cc
 
 keeps_then : {A B : Type 0} (r : Reader A) (f : A → Reader B) → Keeps r → ((a : A) → Keeps (f a)) → Keeps (r >>= f)
 keeps_then r f h k ts p b q g =
@@ -54,7 +54,7 @@ grows_then r f h k ts p b q g =
     (omega arith, omega arith)
 
 inside : {A : Type 0} (l : List A) (p : ℕ) (a : A) → get_elem? l p ≡ some a → p < length l
-inside [] p a e = let z : ◌≡◌ {A = ℕ} 0 1 = cc in absurd (omega arith)
+inside [] p a e = absurd cc
 inside (b ∷ l) zero a e = omega arith
 inside (b ∷ l) (suc p) a e = let h = inside l p a e in omega arith
 
@@ -64,11 +64,11 @@ unfolding token
 token-got f ts p a q g = go (get_elem? ts p) refl g
   where
     last : (x : Option _) → allowed x p ≡ got a q → q ≡ p + 1
-    last none g = let z : ◌≡◌ {A = ℕ} 0 1 = cc in absurd (omega arith)
+    last none g = absurd cc
     last (some b) g = cc
 
     go : (t : Option TagValue) → get_elem? ts p ≡ t → at_token f t p ≡ got a q → (q ≡ p + 1) × (p < length ts)
-    go none e g = let z : ◌≡◌ {A = ℕ} 0 1 = cc in absurd (omega arith)
+    go none e g = absurd cc
     go (some t) e g = (last (f t.tag t.value) g, inside ts p t e)
 
 pub token-grows : {A : Type 0} (f : ℕ → ℕ → Option A) → Grows (token f)
@@ -82,7 +82,7 @@ limited-grows test r h ts p a q g =
   where
     go : (b : _) (s : ℕ) (t : Bool) → (p < s) × (s ≤ length ts) → choose t (got b s) (rejected (Refusal.Limit p)) ≡ got a q → (p < q) × (q ≤ length ts)
     go b s true x e = let i : s ≡ q = cc in (omega arith, omega arith)
-    go b s false x e = let z : ◌≡◌ {A = ℕ} 0 1 = cc in absurd (omega arith)
+    go b s false x e = absurd cc
 
 pub tagged-grows : (tag bound : ℕ) → Grows (tagged tag bound)
 unfolding tagged

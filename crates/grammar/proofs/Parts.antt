@@ -29,8 +29,8 @@ counted-within tag low most ts p n q g =
     go m.0 m.1 (leb low m.0) (leb m.0 most) refl refl m.3
   where
     go : (k s : ℕ) (a b : Bool) → leb low k ≡ a → leb k most ≡ b → choose (a && b) (got k s) (rejected (Refusal.Limit p)) ≡ got n q → (low ≤ n) × (n ≤ most)
-    go k s false b x y e = let z : ◌≡◌ {A = ℕ} 0 1 = cc in absurd (omega arith)
-    go k s true false x y e = let z : ◌≡◌ {A = ℕ} 0 1 = cc in absurd (omega arith)
+    go k s false b x y e = absurd cc
+    go k s true false x y e = absurd cc
     go k s true true x y e = let i : k ≡ n = cc in (omega (arith, leb-true low k x), omega (arith, leb-true k most y))
 
 -- a definition by its first token

@@ -29,7 +29,7 @@ use tokens::{find_definition, find_expr, find_type};
 // ---- The tokens of a sheet, one at a place.
 
 // What stands at a place: a token's tag and value, and the next place; nothing, where the tokens have ended.
-fn token_at(source: &Source<'_>, at: usize) -> Option<(u8, u32, usize)>
+pub fn token_at(source: &Source<'_>, at: usize) -> Option<(u8, u32, usize)>
     ensures token { result ≡ step_at (tokens_of source.now) at }
     ensures word { IfSome result (λ t. t.1 < 2 ^ 32) }
 {

@@ -12,6 +12,7 @@ pub struct Source<'a> {
 }
 
 // "A reader borrows the sheet's tags and values": both, and a place in them.
+// Stays (no plainer): document 01 has a reader beside the sheet; a method of `Source` that takes a place would leave its words without one.
 #[derive(Clone, Copy)]
 pub struct Reader<'a, 'b> {
     pub tags: &'a [u8],

@@ -32,8 +32,8 @@ use Rattle.cycles.specs.declared.TypeTable.{TypeTable}
 use Rattle.defaults.specs.Has as defaulted
 use Rattle.defaults.specs.Has.{DefaultsKnown}
 use Rattle.index.specs.declared.Index.{Index}
-use Rattle.index.specs.Callees.{first_named, operator_in, is_there, OutputsStand}
-use Rattle.index.specs.Indexed.{NodesIn, OperatorStands}
+use Rattle.index.specs.Callees.{first_named, operator_in, OutputsStand}
+use Rattle.index.specs.Indexed.{NodesIn, TypesIn, OperatorStands}
 
 -- ---- lists
 get_at : (l : List Node) (i : ℕ) → i < length l → get_elem? l i ≡ some (get_or l i nowhere)
@@ -41,6 +41,7 @@ get_at [] i h = absurd (omega arith)
 get_at (n ∷ l) zero h = refl
 get_at (n ∷ l) (suc i) h = get_at l i (omega arith)
 
+-- Stays (no plainer): mathlib's `get_elem?-eq-none` counts in another ℕ.
 get-past : (l : List Node) (i : ℕ) → length l ≤ i → get_elem? l i ≡ none
 get-past [] i h = refl
 get-past (n ∷ l) zero h = absurd (omega arith)
@@ -120,7 +121,7 @@ module _ (t : Index) (l : List Node) (s : NodesIn t l) where
       told-by false r j k = rw k (other-named (sym j))
 
   -- whether the name is an operator's, and what its outputs are
-  pub operator-there : (f : ℕ) (r : Option ℕ) → OperatorStands t f l r → is_some r ≡ is_there (operator_outputs l f)
+  pub operator-there : (f : ℕ) (r : Option ℕ) → OperatorStands t f l r → is_some r ≡ defaulted.is_some (operator_outputs l f)
   operator-there f None h = rw h
   operator-there f (Some p) h = rw (operator-named f h.0 h.2 h.1 p h.3 h.4)
 
@@ -137,7 +138,7 @@ module _ (t : Index) (l : List Node) (s : NodesIn t l) where
       rw (operator-named f k.0 k.2 k.1 p k.3 k.4) ((at_place k.0 k.1).2 p b s o k.3 eb ei eo)
 
 -- whether a type has a default, by the table that the index lends
-pub lent-has : (t : TypeTable) (d : Index) → (t.source ≡ d.source) × (t.places.now ≡ d.types) → (at : ℕ) (has : List Bool) (b : Bool) →
-    ((types : List TypeDef) (a : Ty) (q : ℕ) → Table t.source.names (tokens_of t.source) t.places.now.at t.places.now.count types → DefaultsKnown types t.places.now.count t.places.now.count has → ty t.source.names 8 (tokens_of t.source) at ≡ got a q → b ≡ defaulted.is_some (default types a)) →
-    (types : List TypeDef) (a : Ty) (q : ℕ) → Table d.source.names (tokens_of d.source) d.types.at d.types.count types → DefaultsKnown types d.types.count d.types.count has → ty d.source.names 8 (tokens_of d.source) at ≡ got a q → b ≡ defaulted.is_some (default types a)
-lent-has t d e at has b f = rw (e.0, e.1) at f
+pub lent-has : (t : TypeTable) (d : Index) → (t.source ≡ d.source) × (t.places.now ≡ d.types) → (at : ℕ) (b : Bool) →
+    ((types : List TypeDef) (a : Ty) (q : ℕ) → Table t.source.names (tokens_of t.source) t.places.now.at t.places.now.count types → DefaultsKnown types t.places.now.count t.places.now.count d.has → ty t.source.names 8 (tokens_of t.source) at ≡ got a q → b ≡ defaulted.is_some (default types a)) →
+    (types : List TypeDef) (a : Ty) (q : ℕ) → TypesIn d types → ty d.source.names 8 (tokens_of d.source) at ≡ got a q → b ≡ defaulted.is_some (default types a)
+lent-has t d e at b f types a q s = (rw (e.0, e.1) at f) types a q s.table s.defaulted

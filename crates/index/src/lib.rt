@@ -1,24 +1,24 @@
 // The index of an accepted sheet, and what a called name is by it.
 #![tactic(auto)]
 
-ghost use Rattle.std.specs.Prelude.{◌≡◌, List, ℕ};
+ghost use Rattle.std.specs.Prelude.{◌≡◌, List, ℕ, ◌<◌, get_or};
 ghost use Rattle.grammar.specs.Read.{tokens_of};
 ghost use Rattle.definitions.specs.Tree.{Ty, TypeDef, Node};
 ghost use Rattle.definitions.specs.Declock.{operator_outputs};
 ghost use Rattle.definitions.specs.Reading.{got};
-ghost use Rattle.definitions.specs.Grammar.{sheet, ty};
+ghost use Rattle.definitions.specs.Grammar.{node, sheet, ty};
 ghost use Rattle.definitions.specs.Types.{default};
-ghost use Rattle.layout.specs.Table.{Table};
-ghost use Rattle.defaults.specs.Has.{is_some, DefaultsKnown};
+ghost use Rattle.layout.specs.Laid.{LaidNode};
+ghost use Rattle.defaults.specs.Has.{is_some};
 ghost use Rattle.definitions.specs.Output.{condact_id};
 ghost use Rattle.definitions.specs.Answer.{Input};
-ghost use Rattle.index.specs.Callees.{operator_in, is_there, OutputsStand};
-ghost use Rattle.index.specs.Indexed.{NodesIn, OperatorStands, Indexed};
+ghost use Rattle.index.specs.Callees.{operator_in, OutputsStand};
+ghost use Rattle.index.specs.Indexed.{NodesIn, TypesIn, OperatorStands, Indexed};
 
 use cycles::TypeTable;
 use definitions::{MOST_NODES, MOST_TYPES, NodeKind};
 use grammar::Source;
-use layout::{PlaceTable, SheetLayout, Span};
+use layout::{NodeLayout, PlaceTable, SheetLayout, Span};
 
 // ---- The index of an accepted sheet, made once a question, and what a called name is by it: whether it is an operator, and where that
 // operator's outputs stand.
@@ -78,9 +78,17 @@ impl<'a> Index<'a> {
         }
     }
 
+    // The parts of node k.
+    pub fn node(&self, k: usize) -> NodeLayout
+        requires { k < self.now.nodes.count }
+        ensures { (n : Node) (q : ℕ) → node self.now.source.names (tokens_of self.now.source) (get_or self.now.nodes.at k 0) ≡ got n q → LaidNode self.now.source.names (tokens_of self.now.source) n q result }
+    {
+        layout::node_at(&self.source, self.nodes.at[k])
+    }
+
     // Has the type at a place a default?
     pub fn has_default(&self, at: usize) -> bool
-        ensures { (types : List TypeDef) (t : Ty) (q : ℕ) → Table self.now.source.names (tokens_of self.now.source) self.now.types.at self.now.types.count types → DefaultsKnown types self.now.types.count self.now.types.count self.now.has → ty self.now.source.names 8 (tokens_of self.now.source) at ≡ got t q → result ≡ is_some (default types t) }
+        ensures { (types : List TypeDef) (t : Ty) (q : ℕ) → TypesIn self.now types → ty self.now.source.names 8 (tokens_of self.now.source) at ≡ got t q → result ≡ is_some (default types t) }
     {
         defaults::type_has_default(&self.type_table(), &self.has, at)
     }
@@ -97,7 +105,7 @@ impl<'a> Index<'a> {
 
     // Is the first node of this name an operator?
     pub fn is_operator(&self, f: u32) -> bool
-        ensures { (l : List Node) → NodesIn self.now l → result ≡ is_there (operator_outputs l f) }
+        ensures { (l : List Node) → NodesIn self.now l → result ≡ is_some (operator_outputs l f) }
     {
         self.operator_named(f).is_some()
     }

@@ -11,22 +11,22 @@ use lib.ListN.{length}
 use Rattle.definitions.specs.declared.Refusal.{Refusal}
 use Rattle.definitions.specs.Lists.{choose, any, join, numbered, Letters}
 use Rattle.definitions.specs.Tokens.{TagValue}
-use Rattle.definitions.specs.Bytes.{tokens}
 use Rattle.definitions.specs.Tree.{Equation, Node}
 use Rattle.definitions.specs.Reading.{got, times}
 use Rattle.definitions.specs.Grammar.{equation, node}
-use Rattle.definitions.specs.Clock.{Clock, base, is_base, in_chain_order}
+use Rattle.definitions.specs.Clock.{Clock, is_base, in_chain_order}
 use Rattle.std.specs.Prelude.{Result, Ok, Err, is_err}
 use Rattle.std.specs.Prelude as maybe
-use Rattle.std.specs.Option.{unwrap_or}
 use Rattle.clock_tables.specs.declared.clock.Clock as struct
 use Rattle.clock_tables.specs.declared.TooDeep.{TooDeep}
-use Rattle.clock_tables.specs.Value.{value_of, option_of, natural_of}
+use Rattle.clock_tables.specs.Value.{option_of, natural_of}
 use Rattle.definitions.specs.Refusals.{Answer, accepted, refused}
 use Rattle.definitions.specs.InferClocks.{Formed, deep, formed, ◌>>=◌, Natural, Clocks, Finding, found, site, too_deep, Inferred, Clocking, Clocked, is_too_deep, ports, natural, or_base, clocked_by, check_equation, inferred, clocking, sites, chains, uses_clocks}
 use Rattle.definitions.specs.Output.{ClockedNode}
 use Rattle.definitions.specs.Answer.{clockings}
 use Rattle.shapes.proofs.Clockless.{clockless}
+use Rattle.grammar.specs.Read.{tokens_of}
+use Rattle.grammar.specs.declared.source.Source.{Source}
 use Rattle.grammar.proofs.Laws.{tokens-length}
 use Rattle.grammar.proofs.Got.{times-nil, times-cons}
 use Rattle.grammar.proofs.Longer.{times-keeps, keeps, equation-grows}
@@ -38,6 +38,7 @@ use Rattle.findings.proofs.Laws.{holds-none, holds_fits, length_from}
 use Rattle.clock_tables.specs.Rows.{clocks_in, RowsHold}
 use Rattle.clock_tables.proofs.RowsLaws as row-laws
 use Rattle.inference.specs.Passes.{Marked, Infers}
+use Rattle.inference.proofs.PassesLaws.{names-room-kept}
 use Rattle.checking.specs.declared.CheckOutput.{CheckOutput}
 use Rattle.checking.specs.declared.CheckInput.{CheckInput}
 use Rattle.checking.specs.Walk.{ReadsNode}
@@ -48,7 +49,7 @@ use Rattle.infer_clocks.specs.Clocked.{is_deep, found_in, found_from, joined, Ta
 -- ---- findings after findings
 module _ (fs gs : List Finding) where
   joined-more : (u v : Formed (List Finding)) → joined fs u ≡ formed gs → joined fs (u >>= λ l. v >>= λ rest. formed (l ++ rest)) ≡ joined gs v
-  joined-more deep v h = let z : ◌≡◌ {A = ℕ} 0 1 = cc in absurd (omega arith)
+  joined-more deep v h = absurd cc
   joined-more (formed l) deep h = refl
   joined-more (formed l) (formed r) h =
       let e : fs ++ l ≡ gs = cc in
@@ -59,23 +60,17 @@ module _ (fs gs : List Finding) where
 
 joined-deep : (fs : List Finding) (u v : Formed (List Finding)) → joined fs u ≡ deep → joined fs (u >>= λ l. v >>= λ rest. formed (l ++ rest)) ≡ deep
 joined-deep fs deep v h = refl
-joined-deep fs (formed l) v h = let z : ◌≡◌ {A = ℕ} 0 1 = cc in absurd (omega arith)
+joined-deep fs (formed l) v h = absurd cc
 
 joined-none : (u : Formed (List Finding)) → joined [] u ≡ u
 joined-none deep = refl
 joined-none (formed l) = refl
 
--- ---- a clock, or base
-pub or_value : (o : maybe.Option struct.Clock) (b c : struct.Clock) → value_of b ≡ base → c ≡ unwrap_or o b → value_of c ≡ or_base (option_of o)
-or_value maybe.None b c e i = ap value_of i ∙ e
-or_value (maybe.Some d) b c e i = ap value_of i
-
--- too deep a clock is none
+-- ---- too deep a clock, which is none
 pub natural-told : (r : Result (maybe.Option struct.Clock) TooDeep) (d : TooDeep) (v : Natural) (o : Option Clock) → natural_of r ≡ v → r ≡ Err d → v ≡ formed o → ⊥
 natural-told r d v o e j f =
     let x : deep ≡ formed o = sym (ap natural_of j) ∙ (e ∙ f) in
-    let z : ◌≡◌ {A = ℕ} 0 1 = cc in
-    absurd (omega arith)
+    cc
 
 -- ---- one equation
 module _ (n : Node) (clocks : Clocks) (o : CheckOutput) (fs : List Finding) (i : ℕ) (e : Equation) where
@@ -117,39 +112,39 @@ module _ (n : Node) (clocks : Clocks) where
   same-equations (e ∷ es) cs h = go (natural clocks e.right) (clocked_by clocks es) refl h (λ rest b. same-equations es rest b)
     where
       go : (v : Natural) (w : Formed (List Clocked)) → clocked_by clocks es ≡ w → (v >>= λ o. w >>= λ rest. formed (record { clock = or_base o; equation = e } ∷ rest)) ≡ formed cs → ((rest : List Clocked) → clocked_by clocks es ≡ formed rest → map (λ (c : Clocked). c.equation) rest ≡ es) → map (λ (c : Clocked). c.equation) cs ≡ e ∷ es
-      go deep w b k f = let z : ◌≡◌ {A = ℕ} 0 1 = cc in absurd (omega arith)
-      go (formed o) deep b k f = let z : ◌≡◌ {A = ℕ} 0 1 = cc in absurd (omega arith)
+      go deep w b k f = absurd cc
+      go (formed o) deep b k f = absurd cc
       go (formed o) (formed rest) b k f =
           let x : cs ≡ record { clock = or_base o; equation = e } ∷ rest = cc in
           rw x (ap (λ (l : List Equation). e ∷ l) (f rest b))
 
 -- some findings, the rest being those of the equations left; all are v
-pub record Going (M : ℕ) (ts : List TagValue) (n : Node) (clocks : Clocks) (o : CheckOutput) (left i place q : ℕ) (v : Formed (List Finding)) : Type 0 where
+pub record Going (S : Source) (n : Node) (clocks : Clocks) (o : CheckOutput) (left i place q : ℕ) (v : Formed (List Finding)) : Type 0 where
   pub rest : List Equation
   pub so_far : List Finding
-  pub items : times left (equation M) ts place ≡ got rest q
+  pub items : times left (equation S.names) (tokens_of S) place ≡ got rest q
   pub holds : FindingsHeld o.findings.now.words.now o.findings.now.count so_far
   pub final : joined so_far (found_from n clocks i rest) ≡ v
 
-pub going_start : (M : ℕ) (ts : List TagValue) (n : Node) (clocks : Clocks) (o : CheckOutput) (count at q : ℕ) (es : List Equation) → times count (equation M) ts at ≡ got es q → o.findings.now.count ≡ 0 → Going M ts n clocks o (count - 0) 0 at q (found_from n clocks 0 es)
-going_start M ts n clocks o count at q es g z =
+pub going_start : (S : Source) (n : Node) (clocks : Clocks) (o : CheckOutput) (count at q : ℕ) (es : List Equation) → times count (equation S.names) (tokens_of S) at ≡ got es q → o.findings.now.count ≡ 0 → Going S n clocks o (count - 0) 0 at q (found_from n clocks 0 es)
+going_start S n clocks o count at q es g z =
     let k : count - 0 ≡ count = omega arith in
     record { rest = es; so_far = []; items = rw k g; holds = rw z (holds-none o.findings.now.words.now); final = joined-none (found_from n clocks 0 es) }
 
-pub going_end : {A : Type 0} (x : A) (M : ℕ) (ts : List TagValue) (n : Node) (clocks : Clocks) (o : CheckOutput) (left i place q : ℕ) (v : Formed (List Finding)) → left ≡ 0 → Going M ts n clocks o left i place q v → Tallied o (Ok x) v
+pub going_end : {A : Type 0} (x : A) (S : Source) (n : Node) (clocks : Clocks) (o : CheckOutput) (left i place q : ℕ) (v : Formed (List Finding)) → left ≡ 0 → Going S n clocks o left i place q v → Tallied o (Ok x) v
 unfolding Tallied found_from
-going_end x M ts n clocks o left i place q v z h =
-    let e = times-nil (equation M) ts left place h.rest q z h.items in
+going_end x S n clocks o left i place q v z h =
+    let e = times-nil (equation S.names) (tokens_of S) left place h.rest q z h.items in
     let f : formed (h.so_far ++ []) ≡ v = rw e.0 at h.final in
     (h.so_far, sym f ∙ ap formed (append-nil h.so_far), h.holds)
 
-module _ {A : Type 0} (M : ℕ) (ts : List TagValue) (n : Node) (clocks : Clocks) (I : CheckInput) (o o' : CheckOutput) (count i place q : ℕ) (v : Formed (List Finding)) (r : Result A TooDeep) (z : i < count)
-    (E : (n : Node) (clocks : Clocks) (e : Equation) (q : ℕ) (fs : List Finding) → ReadsNode I n clocks → equation M ts place ≡ got e q → FindingsHeld o.findings.now.words.now o.findings.now.count fs → Tallied o' r (joined fs (found_in n clocks i e)))
-    (a : ReadsNode I n clocks) (h : Going M ts n clocks o (count - i) i place q v) where
-  pub going_step : (k : A) → r ≡ Ok k → (end : ℕ) → ((e : Equation) (q : ℕ) → equation M ts place ≡ got e q → end ≡ q) → Going M ts n clocks o' (count - (i + 1)) (i + 1) end q v
+module _ {A : Type 0} (S : Source) (n : Node) (clocks : Clocks) (I : CheckInput) (o o' : CheckOutput) (count i place q : ℕ) (v : Formed (List Finding)) (r : Result A TooDeep) (z : i < count)
+    (E : (n : Node) (clocks : Clocks) (e : Equation) (q : ℕ) (fs : List Finding) → ReadsNode I n clocks → equation S.names (tokens_of S) place ≡ got e q → FindingsHeld o.findings.now.words.now o.findings.now.count fs → Tallied o' r (joined fs (found_in n clocks i e)))
+    (a : ReadsNode I n clocks) (h : Going S n clocks o (count - i) i place q v) where
+  pub going_step : (k : A) → r ≡ Ok k → (end : ℕ) → ((e : Equation) (q : ℕ) → equation S.names (tokens_of S) place ≡ got e q → end ≡ q) → Going S n clocks o' (count - (i + 1)) (i + 1) end q v
   unfolding Tallied found_from
   going_step k j end L =
-      let c = times-cons (equation M) ts (count - i) place h.rest q (λ y. omega (arith, y)) h.items in
+      let c = times-cons (equation S.names) (tokens_of S) (count - i) place h.rest q (λ y. omega (arith, y)) h.items in
       let x : Tallied o' (Ok k) (joined h.so_far (found_in n clocks i c.0)) = rw j at (E n clocks c.0 c.1 h.so_far a c.3 h.holds) in
       let f : joined h.so_far (found_from n clocks i (c.0 ∷ c.2)) ≡ v = rw c.5 at h.final in
       let w : joined x.0 (found_from n clocks (suc i) c.2) ≡ v = joined-next h.so_far x.0 (found_in n clocks i c.0) (found_from n clocks (suc i) c.2) v x.1 f in
@@ -159,7 +154,7 @@ module _ {A : Type 0} (M : ℕ) (ts : List TagValue) (n : Node) (clocks : Clocks
   pub going-deep : (B : Type 0) (w u : TooDeep) → r ≡ Err w → Tallied {A = B} o' (Err u) v
   unfolding Tallied found_from
   going-deep B w u j =
-      let c = times-cons (equation M) ts (count - i) place h.rest q (λ y. omega (arith, y)) h.items in
+      let c = times-cons (equation S.names) (tokens_of S) (count - i) place h.rest q (λ y. omega (arith, y)) h.items in
       let x : Tallied {A = A} o' (Err w) (joined h.so_far (found_in n clocks i c.0)) = rw j at (E n clocks c.0 c.1 h.so_far a c.3 h.holds) in
       let w : joined h.so_far (found_from n clocks i (c.0 ∷ c.2)) ≡ deep = joined-deep h.so_far (found_in n clocks i c.0) (found_from n clocks (suc i) c.2) x in
       let f : joined h.so_far (found_from n clocks i (c.0 ∷ c.2)) ≡ v = rw c.5 at h.final in
@@ -190,7 +185,7 @@ module _ (n : Node) where
         go deep e f = node-said deep e
         go (formed cs) e f =
             let x : formed (join (numbered (check_equation n i.clocks) 0 cs)) ≡ deep = rw e at f in
-            let z : ◌≡◌ {A = ℕ} 0 1 = cc in absurd (omega arith)
+            absurd cc
 
     -- the findings, within the tokens
     module _ (M : ℕ) (ts : List TagValue) (count at q : ℕ) (g : times count (equation M) ts at ≡ got n.equations q) (fs : List Finding) (k : found_from n i.clocks 0 n.equations ≡ formed fs) where
@@ -199,7 +194,7 @@ module _ (n : Node) where
         where
           go : (w : Formed (List Clocked)) → clocked_by i.clocks n.equations ≡ w → (clocked_by i.clocks n.equations >>= λ cs. formed (join (numbered (check_equation n i.clocks) 0 cs))) ≡ formed fs
               → (cs : List Clocked) × (join (numbered (check_equation n i.clocks) 0 cs) ≡ fs) × (clocking n ≡ saying n i cs) × (length fs ≤ length ts)
-          go deep e f = let x : deep ≡ formed fs = rw e at f in let z : ◌≡◌ {A = ℕ} 0 1 = cc in absurd (omega arith)
+          go deep e f = let x : deep ≡ formed fs = rw e at f in absurd cc
           go (formed cs) e f =
               let x : formed (join (numbered (check_equation n i.clocks) 0 cs)) ≡ formed fs = rw e at f in
               let y : join (numbered (check_equation n i.clocks) 0 cs) ≡ fs = cc in
@@ -247,11 +242,11 @@ unfolding Counted
 counted-all t s c v e h = rw e at h
 
 -- room in tables
-pub room-kept : {M many : ℕ} {env env' table table' : List ℕ} {marks marks' : List Bool} → length env' ≡ length env → length marks' ≡ length marks → length table' ≡ length table → RoomToClock M many env marks table → RoomToClock M many env' marks' table'
-room-kept e m t r = record { clocked = omega (arith, e, r.clocked); marked = omega (arith, m, r.marked); rowed = omega (arith, t, r.rowed) }
+pub room-kept : {s : Source} {env env' table table' : List ℕ} {marks marks' : List Bool} → length env' ≡ length env → length marks' ≡ length marks → length table' ≡ length table → RoomToClock s env marks table → RoomToClock s env' marks' table'
+room-kept e m t r = record { named = names-room-kept e m r.named; rowed = omega (arith, t, r.rowed) }
 
-pub room-stays : (ts vs t t' : List ℕ) → length vs ≡ length ts → 38 * length ts ≤ length t → length t' ≡ length t → 38 * length (tokens ts vs) ≤ length t'
-room-stays ts vs t t' e h k = omega (arith, tokens-length ts vs e, h, k)
+pub room-stays : (s : Source) (t t' : List ℕ) → 38 * length s.tags.now ≤ length t → length t' ≡ length t → 38 * length (tokens_of s) ≤ length t'
+room-stays s t t' h k = omega (arith, tokens-length s.tags.now s.values.now s.same_length, h, k)
 
 -- the code's answers: inference's r, then checking's s
 pub told-deep : (env t : List ℕ) (M : ℕ) (n : Node) (u : TooDeep) → clocking n ≡ deep → ClockedOrDeep env t M (Err u) (clocking n)
@@ -259,16 +254,16 @@ unfolding ClockedOrDeep
 told-deep env t M n u h = h
 
 pub formed-not-deep : (n : Node) (k : Clocking) → clocking n ≡ formed k → clocking n ≡ deep → ⊥
-formed-not-deep n k f h = let x : deep ≡ formed k = sym h ∙ f in let z : ◌≡◌ {A = ℕ} 0 1 = cc in omega arith
+formed-not-deep n k f h = let x : deep ≡ formed k = sym h ∙ f in cc
 
 pub laid-deep : (M : ℕ) (n : Node) (env : List ℕ) (r : Result ℕ TooDeep) (d : TooDeep) → r ≡ Err d → Infers env M r (inferred n) → clocking n ≡ deep
 unfolding Infers
 laid-deep M n env r d j i = let e : inferred n ≡ deep = rw j at i in node-deep n e
 
-module _ (ts : List TagValue) (n : Node) (I : CheckInput) (t : List ℕ) (r : Result ℕ TooDeep) (s : Result ℕ TooDeep) (k count at q : ℕ)
-    (C : (n : Node) (clocks : Clocks) (es : List Equation) (q : ℕ) → ReadsNode I n clocks → times count (equation I.source.names) ts at ≡ got es q → Counted t s (found_from n clocks 0 es))
+module _ (n : Node) (I : CheckInput) (t : List ℕ) (r : Result ℕ TooDeep) (s : Result ℕ TooDeep) (k count at q : ℕ)
+    (C : (n : Node) (clocks : Clocks) (es : List Equation) (q : ℕ) → ReadsNode I n clocks → times count (equation I.source.names) (tokens_of I.source) at ≡ got es q → Counted t s (found_from n clocks 0 es))
     (j : r ≡ Ok k) (i : Infers I.env.now I.source.names r (inferred n)) (m : Marked I.ports.now I.source.names (ports n))
-    (g : times count (equation I.source.names) ts at ≡ got n.equations q) where
+    (g : times count (equation I.source.names) (tokens_of I.source) at ≡ got n.equations q) where
   made : (i : Inferred) × (inferred n ≡ formed i) × (i.passes ≡ k) × Agrees I.env.now I.source.names i.clocks
   unfolding Infers
   made = rw j at i
@@ -279,23 +274,23 @@ module _ (ts : List TagValue) (n : Node) (I : CheckInput) (t : List ℕ) (r : Re
   pub laid-sunk : (d : TooDeep) → s ≡ Err d → clocking n ≡ deep
   laid-sunk d e = equations-deep n made.0 made.1 (counted-deep t s d (found_from n made.0.clocks 0 n.equations) e counted)
 
-  module _ (c : ℕ) (e : s ≡ Ok c) (room : 38 * length ts ≤ length t) (b : Bool) (d : b ≡ any is_too_deep (findings_in t c)) where
+  module _ (c : ℕ) (e : s ≡ Ok c) (room : 38 * length (tokens_of I.source) ≤ length t) (b : Bool) (d : b ≡ any is_too_deep (findings_in t c)) where
     all-found : (fs : List Finding) × (found_from n made.0.clocks 0 n.equations ≡ formed fs) × FindingsHeld t c fs
     all-found = counted-all t s c (found_from n made.0.clocks 0 n.equations) e counted
 
     pub laid-found : b ≡ true → clocking n ≡ deep
-    laid-found f = findings-deep n made.0 made.1 I.source.names ts count at q g all-found.0 all-found.1 I.env.now t c room all-found.2 (sym d ∙ f)
+    laid-found f = findings-deep n made.0 made.1 I.source.names (tokens_of I.source) count at q g all-found.0 all-found.1 I.env.now t c room all-found.2 (sym d ∙ f)
 
     pub laid-told : b ≡ false → ClockedOrDeep I.env.now t I.source.names (Ok (record { passes = k; findings = c })) (clocking n)
-    laid-told f = findings-told n made.0 made.1 I.source.names ts count at q g all-found.0 all-found.1 I.env.now t c room all-found.2 (sym d ∙ f) made.3 k made.2
+    laid-told f = findings-told n made.0 made.1 I.source.names (tokens_of I.source) count at q g all-found.0 all-found.1 I.env.now t c room all-found.2 (sym d ∙ f) made.3 k made.2
 
 -- ---- was too deep a clock formed in a node?
 is-deep : {A : Type 0} (v : Formed A) → is_deep v ≡ true → v ≡ deep
 is-deep deep e = refl
-is-deep (formed a) e = let z : ◌≡◌ {A = ℕ} 0 1 = cc in absurd (omega arith)
+is-deep (formed a) e = absurd cc
 
 not-deep : {A : Type 0} (v : Formed A) → is_deep v ≡ false → (a : A) × (v ≡ formed a)
-not-deep deep e = let z : ◌≡◌ {A = ℕ} 0 1 = cc in absurd (omega arith)
+not-deep deep e = absurd cc
 not-deep (formed a) e = (a, refl)
 
 -- not in one that uses no clocks
@@ -367,30 +362,30 @@ module _ (i : ℕ) (rest : List Node) (v : Answer (List ClockedNode)) (h : Ahead
     ahead-deep j = h.sunk i (ap (clockings i) r ∙ here-sunk i n ns (is-deep (clocking n) (sym d ∙ j)))
 
 -- the nodes left stand there, and tell what v is
-pub record Nodes (M : ℕ) (ts : List TagValue) (left i place q : ℕ) (v : Answer (List ClockedNode)) : Type 0 where
+pub record Nodes (s : Source) (left i place q : ℕ) (v : Answer (List ClockedNode)) : Type 0 where
   pub rest : List Node
-  pub items : times left (node M) ts place ≡ got rest q
+  pub items : times left (node s.names) (tokens_of s) place ≡ got rest q
   pub ahead : Ahead i rest v
 
-pub nodes-start : (M : ℕ) (ts : List TagValue) (i count at q : ℕ) (ns : List Node) → times count (node M) ts at ≡ got ns q → Nodes M ts (i + count - i) i at q (clockings i ns)
-nodes-start M ts i count at q ns g =
+pub nodes-start : (s : Source) (i count at q : ℕ) (ns : List Node) → times count (node s.names) (tokens_of s) at ≡ got ns q → Nodes s (i + count - i) i at q (clockings i ns)
+nodes-start s i count at q ns g =
     let k : i + count - i ≡ count = omega arith in
     record { rest = ns; items = rw k g; ahead = ahead-start ns }
 
-pub nodes-end : (M : ℕ) (ts : List TagValue) (left i place q : ℕ) (v : Answer (List ClockedNode)) → left ≡ 0 → Nodes M ts left i place q v → Deeply q (Ok place) v
+pub nodes-end : (s : Source) (left i place q : ℕ) (v : Answer (List ClockedNode)) → left ≡ 0 → Nodes s left i place q v → Deeply q (Ok place) v
 unfolding Deeply
-nodes-end M ts left i place q v z h =
-    let n = times-nil (node M) ts left place h.rest q z h.items in
+nodes-end s left i place q v z h =
+    let n = times-nil (node s.names) (tokens_of s) left place h.rest q z h.items in
     let e = ahead-end i h.rest v h.ahead n.0 in
     (sym n.1, e.0, e.1)
 
-module _ (M : ℕ) (ts : List TagValue) (count i place q : ℕ) (v : Answer (List ClockedNode)) (l : NodeLayout) (b : Bool) (z : i < count)
-    (L : (n : Node) (q : ℕ) → node M ts place ≡ got n q → LaidNode M ts n q l)
-    (E : (n : Node) (q : ℕ) → LaidNode M ts n q l → b ≡ is_deep (clocking n))
-    (h : Nodes M ts (count - i) i place q v) where
-  pub nodes-step : b ≡ false → Nodes M ts (count - (i + 1)) (i + 1) l.end q v
+module _ (s : Source) (count i place q : ℕ) (v : Answer (List ClockedNode)) (l : NodeLayout) (b : Bool) (z : i < count)
+    (L : (n : Node) (q : ℕ) → node s.names (tokens_of s) place ≡ got n q → LaidNode s.names (tokens_of s) n q l)
+    (E : (n : Node) (q : ℕ) → LaidNode s.names (tokens_of s) n q l → b ≡ is_deep (clocking n))
+    (h : Nodes s (count - i) i place q v) where
+  pub nodes-step : b ≡ false → Nodes s (count - (i + 1)) (i + 1) l.end q v
   nodes-step j =
-      let c = times-cons (node M) ts (count - i) place h.rest q (λ y. omega (arith, y)) h.items in
+      let c = times-cons (node s.names) (tokens_of s) (count - i) place h.rest q (λ y. omega (arith, y)) h.items in
       let d = L c.0 c.1 c.3 in
       let u : count - (i + 1) ≡ count - i - 1 = omega arith in
       record { rest = c.2; items = rw (d.ends, u) c.4; ahead = ahead_step i h.rest v h.ahead c.0 c.2 c.5 b (E c.0 c.1 d) j }
@@ -398,11 +393,11 @@ module _ (M : ℕ) (ts : List TagValue) (count i place q : ℕ) (v : Answer (Lis
   pub nodes-deep : b ≡ true → Deeply q (Err (Refusal.Deep i)) v
   unfolding Deeply
   nodes-deep j =
-      let c = times-cons (node M) ts (count - i) place h.rest q (λ y. omega (arith, y)) h.items in
+      let c = times-cons (node s.names) (tokens_of s) (count - i) place h.rest q (λ y. omega (arith, y)) h.items in
       ahead-deep i h.rest v h.ahead c.0 c.2 c.5 b (E c.0 c.1 (L c.0 c.1 c.3)) j
 
 -- ---- the chains
-few-sites : (l : List Finding) → length (sites l) ≤ length l
+pub few-sites : (l : List Finding) → length (sites l) ≤ length l
 unfolding sites
 few-sites [] = omega arith
 few-sites (found f ∷ l) = omega (arith, few-sites l)

@@ -1,13 +1,15 @@
 -- What inference and checking answer, in the code's terms.
-use Rattle.std.specs.Prelude.{ℕ, suc, ◌*◌, ◌≤◌, ◌≡◌, Bool, true, false, length}
+use Rattle.std.specs.Prelude.{ℕ, suc, ◌*◌, ◌≤◌, ◌<◌, ◌≡◌, Bool, true, false, length}
 use mathlib.Core.List.{List, [], ◌∷◌, ◌++◌}
 use Rattle.definitions.specs.declared.Refusal.{Refusal}
 use Rattle.definitions.specs.Tree.{Equation, Node}
 use Rattle.definitions.specs.Refusals.{Answer, accepted, refused}
 use Rattle.definitions.specs.InferClocks.{Formed, deep, formed, ◌>>=◌, Clocks, Finding, Clocked, Clocking, natural, or_base, check_equation}
 use Rattle.definitions.specs.Output.{ClockedNode}
+use Rattle.grammar.specs.declared.source.Source.{Source}
 use Rattle.clock_tables.specs.Environment.{Agrees}
 use Rattle.findings.specs.Findings.{findings_in, FindingsHeld}
+use Rattle.inference.specs.Passes.{RoomForNames}
 use Rattle.skeleton.specs.Sites.{EquationsOn, EquationsSited}
 use Rattle.checking.specs.declared.CheckOutput.{CheckOutput}
 use Rattle.checking.specs.Walk.{only_sites}
@@ -53,21 +55,21 @@ pub record ClocksStand (env t : List ℕ) (m passes n : ℕ) (k : Clocking) : Ty
   pub room : 38 * n ≤ length t
   pub all : findings_in t n ≡ k.findings
 
--- the tables of chains and of their order have a row and a place for each of so many findings
+-- the tables of chains and of their order have a row and a place for each of so many findings, of which each has a number
 pub record ChainRoom (count : ℕ) (rows chain : List ℕ) : Type 0 where
   pub rowed : 17 * count ≤ length rows
   pub placed : count ≤ length chain
+  pub numbered : count < 4294967296
 
--- the tables of names' clocks, of marks and of findings have room for so many names and tokens
-pub record RoomToClock (names many : ℕ) (env : List ℕ) (marks : List Bool) (table : List ℕ) : Type 0 where
-  pub clocked : 17 * names ≤ length env
-  pub marked : names ≤ length marks
-  pub rowed : 38 * many ≤ length table
+-- the tables of names' clocks, of marks and of findings have room for the names and tokens of a sheet
+pub record RoomToClock (s : Source) (env : List ℕ) (marks : List Bool) (table : List ℕ) : Type 0 where
+  pub named : RoomForNames s.names env marks
+  pub rowed : 38 * length s.tags.now ≤ length table
 
 -- the equations' clocks stand in the rows of their counts, and where nothing but sites was found, each site's in its own
-pub record SitesTold (M : ℕ) (gs vs sites : List ℕ) (fs : List Finding) (cs : List Clocked) (p q : ℕ) : Type 0 where
-  pub on : EquationsOn M gs vs sites cs p q
-  pub sited : only_sites fs ≡ true → EquationsSited M gs vs sites cs p q
+pub record SitesTold (s : Source) (sites : List ℕ) (fs : List Finding) (cs : List Clocked) (p q : ℕ) : Type 0 where
+  pub on : EquationsOn s.names s.tags.now s.values.now sites cs p q
+  pub sited : only_sites fs ≡ true → EquationsSited s.names s.tags.now s.values.now sites cs p q
 
 -- a node's clocks, unless too deep a clock was formed
 unfoldable pub ClockedOrDeep : List ℕ → List ℕ → ℕ → Result NodeClocked TooDeep → Formed Clocking → Type 0

@@ -47,7 +47,7 @@ fn check_one(
     ensures stays { Stays output.old output.new }
     ensures ends { (e : Equation) (q end : ℕ) → equation input.now.source.names (tokens_of input.now.source) at ≡ got e q → result ≡ Ok end → end ≡ q }
     ensures tallied { (node : Node) (clocks : Clocks) (e : Equation) (q : ℕ) (fs : List Finding) → ReadsNode input.now node clocks → equation input.now.source.names (tokens_of input.now.source) at ≡ got e q → FindingsHeld output.old.findings.now.words.now output.old.findings.now.count fs → Tallied output.new result (joined fs (found_in node clocks input.now.equation e)) }
-    ensures equation_stored { (clocks : Clocks) (e : Equation) (q : ℕ) (o : Option trees.Clock) → Agrees input.now.env.now input.now.source.names clocks → equation input.now.source.names (tokens_of input.now.source) at ≡ got e q → rules.natural clocks e.right ≡ formed o → EquationStored input.now.source.names input.now.source.tags.now input.now.source.values.now output.old.sites.now output.new.sites.now input.now.equation (or_base o) e at q }
+    ensures equation_stored { (clocks : Clocks) (e : Equation) (q : ℕ) (o : Option trees.Clock) → Agrees input.now.env.now input.now.source.names clocks → equation input.now.source.names (tokens_of input.now.source) at ≡ got e q → rules.natural clocks e.right ≡ formed o → EquationStored input.now.source output.old.sites.now output.new.sites.now input.now.equation (or_base o) e at q }
 {
     let left = layout::names_at(&input.source, at);
     let own = inference::natural_clock(&input.source, input.env, left.end)?;
@@ -63,7 +63,7 @@ fn check_all(
 ) -> Result<(), TooDeep>
     ensures stays { Stays output.old output.new }
     ensures tallied { (node : Node) (clocks : Clocks) (es : List Equation) (q : ℕ) → ReadsNode input.now node clocks → times equations.count (equation input.now.source.names) (tokens_of input.now.source) equations.at ≡ got es q → output.old.findings.now.count ≡ 0 → Tallied output.new result (found_from node clocks 0 es) }
-    ensures by_index { (node : Node) (clocks : Clocks) (es : List Equation) (q : ℕ) (cs : List Clocked) → IsOk result → Agrees input.now.env.now input.now.source.names clocks → times equations.count (equation input.now.source.names) (tokens_of input.now.source) equations.at ≡ got es q → 17 * length input.now.source.tags.now ≤ length output.old.sites.now → clocked_by clocks es ≡ formed cs → SitesTold input.now.source.names input.now.source.tags.now input.now.source.values.now output.new.sites.now (join (numbered (check_equation node clocks) 0 cs)) cs equations.at q }
+    ensures by_index { (node : Node) (clocks : Clocks) (es : List Equation) (q : ℕ) (cs : List Clocked) → IsOk result → Agrees input.now.env.now input.now.source.names clocks → times equations.count (equation input.now.source.names) (tokens_of input.now.source) equations.at ≡ got es q → 17 * length input.now.source.tags.now ≤ length output.old.sites.now → clocked_by clocks es ≡ formed cs → SitesTold input.now.source output.new.sites.now (join (numbered (check_equation node clocks) 0 cs)) cs equations.at q }
 {
     let mut place = equations.at;
     for equation in 0..equations.count {
@@ -80,7 +80,7 @@ fn check_node(
     sites: &mut [u32],
 ) -> Result<usize, TooDeep>
     ensures counted { (node : Node) (clocks : Clocks) (es : List Equation) (q : ℕ) → ReadsNode input.now node clocks → times equations.count (equation input.now.source.names) (tokens_of input.now.source) equations.at ≡ got es q → Counted table.new result (found_from node clocks 0 es) }
-    ensures by_index { (node : Node) (clocks : Clocks) (es : List Equation) (q : ℕ) (cs : List Clocked) → IsOk result → Agrees input.now.env.now input.now.source.names clocks → times equations.count (equation input.now.source.names) (tokens_of input.now.source) equations.at ≡ got es q → 17 * length input.now.source.tags.now ≤ length sites.old → clocked_by clocks es ≡ formed cs → SitesTold input.now.source.names input.now.source.tags.now input.now.source.values.now sites.new (join (numbered (check_equation node clocks) 0 cs)) cs equations.at q }
+    ensures by_index { (node : Node) (clocks : Clocks) (es : List Equation) (q : ℕ) (cs : List Clocked) → IsOk result → Agrees input.now.env.now input.now.source.names clocks → times equations.count (equation input.now.source.names) (tokens_of input.now.source) equations.at ≡ got es q → 17 * length input.now.source.tags.now ≤ length sites.old → clocked_by clocks es ≡ formed cs → SitesTold input.now.source sites.new (join (numbered (check_equation node clocks) 0 cs)) cs equations.at q }
 {
     let mut findings = Findings {
         words: table,
@@ -104,8 +104,8 @@ pub fn clock_laid(
     table: &mut [u32],
     sites: &mut [u32],
 ) -> Result<NodeClocked, TooDeep>
-    ensures clocked_or_deep { (n : Node) (q : ℕ) → LaidNode source.now.names (tokens_of source.now) n q l → RoomToClock source.now.names (length source.now.tags.now) env.old marks.old table.old → ClockedOrDeep env.new table.new source.now.names result (clocking n) }
-    ensures sites_told { (n : Node) (q : ℕ) (k : Clocking) → LaidNode source.now.names (tokens_of source.now) n q l → clocking n ≡ formed k → RoomToClock source.now.names (length source.now.tags.now) env.old marks.old table.old → 17 * length source.now.tags.now ≤ length sites.old → SitesTold source.now.names source.now.tags.now source.now.values.now sites.new k.findings k.equations l.equations.at l.equations.end }
+    ensures clocked_or_deep { (n : Node) (q : ℕ) → LaidNode source.now.names (tokens_of source.now) n q l → RoomToClock source.now env.old marks.old table.old → ClockedOrDeep env.new table.new source.now.names result (clocking n) }
+    ensures sites_told { (n : Node) (q : ℕ) (k : Clocking) → LaidNode source.now.names (tokens_of source.now) n q l → clocking n ≡ formed k → RoomToClock source.now env.old marks.old table.old → 17 * length source.now.tags.now ≤ length sites.old → SitesTold source.now sites.new k.findings k.equations l.equations.at l.equations.end }
 {
     let passes = inference::infer(source, l, env, marks)?;
     let parts = layout::parts_table();
@@ -136,7 +136,7 @@ fn deep_laid(
     table: &mut [u32],
     sites: &mut [u32],
 ) -> bool
-    ensures { (n : Node) (q : ℕ) → LaidNode source.now.names (tokens_of source.now) n q l → RoomToClock source.now.names (length source.now.tags.now) env.old marks.old table.old → result ≡ is_deep (clocking n) }
+    ensures { (n : Node) (q : ℕ) → LaidNode source.now.names (tokens_of source.now) n q l → RoomToClock source.now env.old marks.old table.old → result ≡ is_deep (clocking n) }
 {
     l.uses_clocks(source) && clock_laid(source, l, env, marks, table, sites).is_err()
 }
@@ -154,7 +154,7 @@ pub fn first_deep(
     table: &mut [u32],
     sites: &mut [u32],
 ) -> Result<usize, Refusal>
-    ensures { (ns : List Node) (q : ℕ) → times count (node source.now.names) (tokens_of source.now) at ≡ got ns q → RoomToClock source.now.names (length source.now.tags.now) env.old marks.old table.old → Deeply q result (clockings number ns) }
+    ensures { (ns : List Node) (q : ℕ) → times count (node source.now.names) (tokens_of source.now) at ≡ got ns q → RoomToClock source.now env.old marks.old table.old → Deeply q result (clockings number ns) }
 {
     let first = number as usize;
     let mut place = at;
@@ -188,11 +188,12 @@ pub fn chain_rows<'a>(
     rows: &'a mut [u32],
     chain: &'a mut [u32],
 ) -> OrderedClocks<'a>
-    ensures { ChainRoom findings.entry.count rows.old chain.old → findings.entry.count < 4294967296 → ordered_clocks result ≡ chains (letters_in spelling.entry) (findings_in findings.entry.words.now findings.entry.count) }
+    ensures { ChainRoom findings.entry.count rows.old chain.old → ordered_clocks result ≡ chains (letters_in spelling.entry) (findings_in findings.entry.words.now findings.entry.count) }
 {
     let sites = site_rows(findings, rows).min(chain.len());
     let clocks = ClockList {
         words: rows,
+        // Stays (proof): `sort_rows` wants a number that fits; that this one does is a premise of the clause, and a `requires` asks more.
         count: u32::try_from(sites).unwrap_or(0) as usize,
     };
     let count = chain_order::sort_rows(spelling, clocks, chain);

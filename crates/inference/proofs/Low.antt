@@ -5,7 +5,6 @@ use mathlib.Core.Path.{◌≡◌, refl}
 use mathlib.Core.List.{List}
 use mathlib.Core.Bool.{Bool, true, false}
 use mathlib.Core.Option.{Option, none, some}
-use native.Mathlib.Omega.{arith}
 use lib.Dec.{eqb, ltb}
 use lib.ListN.{get_elem?}
 use borrow.Author.Tests.{ltb-true}
@@ -87,11 +86,11 @@ module _ (M : ℕ) where
   token-low ts p t q g = go (get_elem? ts p) g
     where
       some-low : (x : Option ExprToken) → Each x → allowed x p ≡ got t q → Low (role_of t)
-      some-low none h e = let z : ◌≡◌ {A = ℕ} 0 1 = cc in absurd (omega arith)
+      some-low none h e = absurd cc
       some-low (some u) h e = let i : u ≡ t = cc in rw i at h
 
       go : (x : Option TagValue) → at_token (expr_token_of M) x p ≡ got t q → Low (role_of t)
-      go none e = let z : ◌≡◌ {A = ℕ} 0 1 = cc in absurd (omega arith)
+      go none e = absurd cc
       go (some u) e = some-low (expr_token_of M u.tag u.value) (each u.tag u.value) e
 
   -- an accepted expression's role has a name of the sheet

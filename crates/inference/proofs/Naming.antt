@@ -107,7 +107,7 @@ module _ (M : ℕ) (gs vs : List ℕ) (same_length : length vs ≡ length gs) wh
     pub places : (p ≤ from) × (from < to) × (to ≤ next) × (next ≤ q)
 
   part : (g : Gap) (k p : ℕ) (a : Expr) (es : Exprs) (q : ℕ) → spread M g k (tree M) (tokens gs vs) p ≡ got (Exprs.and a es) q → Part g p a es q
-  part g zero p a es q h = let i = (spread-nil M (tree M) (tokens gs vs) g zero p (Exprs.and a es) q refl h).0 in let z : ◌≡◌ {A = ℕ} 0 1 = cc in absurd (omega arith)
+  part g zero p a es q h = let i = (spread-nil M (tree M) (tokens gs vs) g zero p (Exprs.and a es) q refl h).0 in absurd cc
   part g (suc k) p a es q h =
       let c = spread-cons M (tree M) (tokens gs vs) g (suc k) p (Exprs.and a es) q (λ z. omega (arith, z)) h in
       let w : Exprs.and a es ≡ Exprs.and c.2 c.6 = c.11 in
@@ -189,8 +189,8 @@ module _ (M : ℕ) (gs vs : List ℕ) (same_length : length vs ≡ length gs) wh
     each_left [] zero p q g = let e = times-nil (name M) (tokens gs vs) zero p [] q refl g in (omega (arith, e.1), λ h. tt)
     each_left [] (suc k) p q g =
         let t = times-cons (name M) (tokens gs vs) (suc k) p [] q (λ z. omega (arith, z)) g in
-        let i = t.5 in let z : ◌≡◌ {A = ℕ} 0 1 = cc in absurd (omega arith)
-    each_left (x ∷ xs) zero p q g = let e = (times-nil (name M) (tokens gs vs) zero p (x ∷ xs) q refl g).0 in let z : ◌≡◌ {A = ℕ} 0 1 = cc in absurd (omega arith)
+        let i = t.5 in absurd cc
+    each_left (x ∷ xs) zero p q g = let e = (times-nil (name M) (tokens gs vs) zero p (x ∷ xs) q refl g).0 in absurd cc
     each_left (x ∷ xs) (suc k) p q g =
         let t = times-cons (name M) (tokens gs vs) (suc k) p (x ∷ xs) q (λ z. omega (arith, z)) g in
         let w : x ∷ xs ≡ t.0 ∷ t.2 = t.5 in

@@ -10,8 +10,6 @@ use mathlib.Core.Option.{none, some}
 use native.Mathlib.Omega.{arith}
 use lib.ListN.{length}
 use Rattle.definitions.specs.declared.Condition.{Condition}
-use Rattle.definitions.specs.Bytes.{tokens}
-use Rattle.definitions.specs.Tokens.{TagValue}
 use Rattle.definitions.specs.Tree.{Expr, Exprs}
 use Rattle.definitions.specs.Reading.{got}
 use Rattle.definitions.specs.Clock.{base}
@@ -26,6 +24,9 @@ use Rattle.operands.proofs.Laws.{spread-nil}
 use Rattle.operands.proofs.Apart.{Apart, apart}
 use Rattle.clock_tables.specs.declared.clock.Clock as struct
 use Rattle.clock_tables.specs.declared.TooDeep.{TooDeep}
+use Rattle.grammar.specs.Read.{tokens_of}
+use Rattle.grammar.specs.declared.source.Source.{Source}
+use Rattle.inference.specs.declared.ClockInput.{ClockInput}
 use Rattle.inference.specs.declared.Walked.{Walked}
 use Rattle.inference.specs.Natural.{Finds, lifted, first_of}
 
@@ -37,14 +38,14 @@ is_free (formed none) = true
 is_free (formed (some c)) = false
 
 pub free-none : (n : Natural) → is_free n ≡ true → n ≡ formed none
-free-none deep h = let z : ◌≡◌ {A = ℕ} 0 1 = cc in absurd (omega arith)
+free-none deep h = absurd cc
 free-none (formed none) h = refl
-free-none (formed (some c)) h = let z : ◌≡◌ {A = ℕ} 0 1 = cc in absurd (omega arith)
+free-none (formed (some c)) h = absurd cc
 
 -- one that is found is the first
 pub kept-first : (n m : Natural) → is_free n ≡ false → n or m ≡ n
 kept-first deep m h = refl
-kept-first (formed none) m h = let z : ◌≡◌ {A = ℕ} 0 1 = cc in absurd (omega arith)
+kept-first (formed none) m h = absurd cc
 kept-first (formed (some c)) m h = refl
 
 -- what a walk comes to
@@ -73,40 +74,40 @@ first-naturals clocks Exprs.end = refl
 first-naturals clocks (Exprs.and e es) = rw (first-naturals clocks es)
 
 -- n of them from p on are left, after some that have no clock: the first clock among these is that of all
-pub record Remains (M : ℕ) (ts : List TagValue) (clocks : Clocks) (up : Bool) (g : Gap) (n p q : ℕ) (all : Natural) : Type 0 where
+pub record Remains (s : Source) (clocks : Clocks) (up : Bool) (g : Gap) (n p q : ℕ) (all : Natural) : Type 0 where
   pub others : Exprs
-  pub stand : spread M g n (tree M) ts p ≡ got others q
+  pub stand : spread s.names g n (tree s.names) (tokens_of s) p ≡ got others q
   pub same : first_of clocks up others ≡ all
 
-module _ (M : ℕ) (ts : List TagValue) (clocks : Clocks) (up : Bool) (g : Gap) (n p q : ℕ) where
-  pub remains-none : (all : Natural) → Remains M ts clocks up g n p q all → n ≡ 0 → Finds (Ok (Walked.Free p)) all q
+module _ (s : Source) (clocks : Clocks) (up : Bool) (g : Gap) (n p q : ℕ) where
+  pub remains-none : (all : Natural) → Remains s clocks up g n p q all → n ≡ 0 → Finds (Ok (Walked.Free p)) all q
   unfolding first_of
   remains-none all h z =
-      let i = spread-nil M (tree M) ts g n p h.others q z h.stand in
+      let i = spread-nil s.names (tree s.names) (tokens_of s) g n p h.others q z h.stand in
       let m : formed none ≡ all = rw i.0 at h.same in
       (sym m, sym i.1)
 
 -- an operand at a place, or its parent, has no clock, and it ends there
-pub record Passed (M : ℕ) (ts : List TagValue) (env : List ℕ) (up : Bool) (place end : ℕ) : Type 0 where
-  pub passed : (e : Expr) (q : ℕ) (clocks : Clocks) → tree M ts place ≡ got e q → Agrees env M clocks → (lifted up (natural clocks e) ≡ formed none) × (end ≡ q)
+pub record Passed (I : ClockInput) (up : Bool) (place end : ℕ) : Type 0 where
+  pub passed : (e : Expr) (q : ℕ) (clocks : Clocks) → tree I.source.names (tokens_of I.source) place ≡ got e q → Agrees I.env.now I.source.names clocks → (lifted up (natural clocks e) ≡ formed none) × (end ≡ q)
 
 lifted-none : (up : Bool) (n : Natural) → n ≡ formed none → lifted up n ≡ formed none
 lifted-none true n i = rw i
 lifted-none false n i = i
 
-module _ (M : ℕ) (ts : List TagValue) (env : List ℕ) (up : Bool) (place : ℕ) where
+module _ (I : ClockInput) (up : Bool) (place : ℕ) where
   -- a leaf
-  pub passed-leaf : (end : ℕ) (r : rust.Option ℕ) → r ≡ Some end → ((N : ℕ) (e : Expr) (q s : ℕ) (clocks : Clocks) → tree N ts place ≡ got e q → Agrees env N clocks → r ≡ Some s → (natural clocks e ≡ formed none) × (s ≡ q)) → Passed M ts env up place end
-  passed-leaf end r b F = record { passed = λ e q clocks g a. let f = F M e q end clocks g a b in (lifted-none up (natural clocks e) f.0, f.1) }
+  pub passed-leaf : (end : ℕ) (r : rust.Option ℕ) → r ≡ Some end → ((M : ℕ) (e : Expr) (q s : ℕ) (clocks : Clocks) → tree M (tokens_of I.source) place ≡ got e q → Agrees I.env.now M clocks → r ≡ Some s → (natural clocks e ≡ formed none) × (s ≡ q)) → Passed I up place end
+  passed-leaf end r b F = record { passed = λ e q clocks g a. let f = F I.source.names e q end clocks g a b in (lifted-none up (natural clocks e) f.0, f.1) }
 
   -- what was walked
-  pub passed-walk : (r : Result Walked TooDeep) (w : Walked) (end : ℕ) → r ≡ Ok w → w ≡ Walked.Free end → ((e : Expr) (q : ℕ) (clocks : Clocks) → tree M ts place ≡ got e q → Agrees env M clocks → Finds r (lifted up (natural clocks e)) q) → Passed M ts env up place end
+  pub passed-walk : (r : Result Walked TooDeep) (w : Walked) (end : ℕ) → r ≡ Ok w → w ≡ Walked.Free end → ((e : Expr) (q : ℕ) (clocks : Clocks) → tree I.source.names (tokens_of I.source) place ≡ got e q → Agrees I.env.now I.source.names clocks → Finds r (lifted up (natural clocks e)) q) → Passed I up place end
   passed-walk r w end i j F = record { passed = λ e q clocks g a. found-free _ _ r i j (F e q clocks g a) }
 
--- the first of the operands that are left; M is the number of names
-module _ (M : ℕ) (gs vs env : List ℕ) (same : length vs ≡ length gs) (up : Bool) (g : Gap) (n k p place : ℕ) (i : place ≡ operand_at (length gs) g p) (z : k < n) (q : ℕ) (clocks : Clocks) (a : Agrees env M clocks) (all : Natural) (h : Remains M (tokens gs vs) clocks up g (n - k) p q all) where
-  abbrev split : Apart M gs vs g (n - k) p h.others q place
-  split = apart M gs vs same g (n - k) p h.others q place (λ y. omega (arith, y, z)) i h.stand
+-- the first of the operands that are left
+module _ (I : ClockInput) (up : Bool) (g : Gap) (n k p place : ℕ) (i : place ≡ operand_at (length I.source.tags.now) g p) (z : k < n) (q : ℕ) (clocks : Clocks) (a : Agrees I.env.now I.source.names clocks) (all : Natural) (h : Remains I.source clocks up g (n - k) p q all) where
+  abbrev split : Apart I.source.names I.source.tags.now I.source.values.now g (n - k) p h.others q place
+  split = apart I.source.names I.source.tags.now I.source.values.now I.source.same_length g (n - k) p h.others q place (λ y. omega (arith, y, z)) i h.stand
 
   whole : lifted up (natural clocks split.first) or first_of clocks up split.rest ≡ all
   unfolding first_of
@@ -116,7 +117,7 @@ module _ (M : ℕ) (gs vs env : List ℕ) (same : length vs ≡ length gs) (up :
   here : (m : Natural) → is_free m ≡ false → lifted up (natural clocks split.first) ≡ m → all ≡ m
   here m t i = sym (sym (kept-first m (first_of clocks up split.rest) t) ∙ (rw i at whole))
 
-  module _ (r : Result Walked TooDeep) (F : (e : Expr) (q : ℕ) (clocks : Clocks) → tree M (tokens gs vs) place ≡ got e q → Agrees env M clocks → Finds r (lifted up (natural clocks e)) q) where
+  module _ (r : Result Walked TooDeep) (F : (e : Expr) (q : ℕ) (clocks : Clocks) → tree I.source.names (tokens_of I.source) place ≡ got e q → Agrees I.env.now I.source.names clocks → Finds r (lifted up (natural clocks e)) q) where
     pub remains-on : (w : Walked) (c : struct.Clock) → r ≡ Ok w → w ≡ Walked.On c → Finds (Ok w) all q
     remains-on w c i j = rw j (here _ refl (found-on _ _ r i j (F split.first split.end clocks split.here a)))
 
@@ -124,14 +125,14 @@ module _ (M : ℕ) (gs vs env : List ℕ) (same : length vs ≡ length gs) (up :
     remains-deep i = here _ refl (found-deep _ _ r i (F split.first split.end clocks split.here a))
 
   -- it has none
-  module _ (end : ℕ) (b : Passed M (tokens gs vs) env up place end) (next : ℕ) (j : next ≡ rest_at (length gs) g end) where
-    ends : next ≡ rest_at (length gs) g split.end
-    ends = j ∙ ap (rest_at (length gs) g) (b.passed split.first split.end clocks split.here a).1
+  module _ (end : ℕ) (b : Passed I up place end) (next : ℕ) (j : next ≡ rest_at (length I.source.tags.now) g end) where
+    ends : next ≡ rest_at (length I.source.tags.now) g split.end
+    ends = j ∙ ap (rest_at (length I.source.tags.now) g) (b.passed split.first split.end clocks split.here a).1
 
     pub remains-past : p < next
     remains-past = rw ends split.past
 
-    pub remains-rest : (l : Gap) → l ≡ later g → Remains M (tokens gs vs) clocks up l (n - (k + 1)) next q all
+    pub remains-rest : (l : Gap) → l ≡ later g → Remains I.source clocks up l (n - (k + 1)) next q all
     remains-rest l e =
         let m = (b.passed split.first split.end clocks split.here a).0 in
         let f : n - (k + 1) ≡ n - k - 1 = omega arith in

@@ -13,10 +13,10 @@ use native.Mathlib.Numerals.{add-one}
 use lib.Dec.{eqb}
 use lib.ListN.{length, get_or, set, drop, drop_of_length-le}
 use lib.Seq.{drop-cons}
-use borrow.Author.Tests.{eq-eqb, ne_eqb, eqb-true, eqb-false}
+use Rattle.std.proofs.Math.Bool.{or_assoc, or_comm}
+use Rattle.std.proofs.lemmas.Bool.{or_from}
 use Rattle.std.specs.Prelude.{Result, Ok, Err}
 use Rattle.std.specs.Prelude as maybe
-use Rattle.definitions.specs.Bytes.{tokens}
 use Rattle.definitions.specs.Lists.{choose, among}
 use Rattle.definitions.specs.Tokens.{TagValue}
 use Rattle.definitions.specs.Tree.{Declared, Expr, Equation, Node}
@@ -24,14 +24,17 @@ use Rattle.definitions.specs.Reading.{Got, got, times}
 use Rattle.definitions.specs.Grammar.{name, expr, equation}
 use Rattle.definitions.specs.Clock.{Clock, base}
 use Rattle.definitions.specs.InferClocks.{Natural, Formed, deep, formed, ◌>>=◌, Clocks, clock_of, Pass, Inferred, natural, ports, is_port, has_clock, give, give_natural, pass, passes_from, inferred}
+use Rattle.shapes.proofs.Facts.{eqb-sym}
 use Rattle.clock_tables.specs.declared.clock.Clock as struct
 use Rattle.clock_tables.specs.declared.TooDeep.{TooDeep}
 use Rattle.clock_tables.specs.Value.{value_of, natural_of}
 use Rattle.clock_tables.specs.Environment.{env_at, Agrees, Assigned, Cleared}
 use Rattle.clock_tables.proofs.EnvironmentLaws.{agrees-assign}
+use Rattle.grammar.specs.Read.{tokens_of}
+use Rattle.grammar.specs.declared.source.Source.{Source}
 use Rattle.grammar.specs.Outcome.{outcome}
 use Rattle.grammar.proofs.Laws.{tokens-length}
-use Rattle.grammar.proofs.Got.{same, tagged-value, times-nil, times-cons}
+use Rattle.grammar.proofs.Got.{tagged-value, times-nil, times-cons}
 use Rattle.layout.proofs.TypedefsLaws.{filled_more}
 use Rattle.layout.specs.Walk.{LaidAll}
 use Rattle.layout.proofs.Walks.{first-laid}
@@ -42,7 +45,8 @@ use Rattle.layout.specs.declared.DeclarationLayout.{DeclarationLayout}
 use Rattle.layout.specs.declared.Span.{Span}
 use Rattle.layout.proofs.Laws.{laid-equation}
 use Rattle.inference.specs.declared.PassTables.{PassTables}
-use Rattle.inference.specs.Passes.{Marked, PortsPlaced, PassSoFar, Kept, on_clock, given, stepped, Infers}
+use Rattle.inference.specs.declared.Round.{Round}
+use Rattle.inference.specs.Passes.{RoomForNames, Marked, PortsPlaced, PassSoFar, Kept, on_clock, given, stepped, Infers}
 use Rattle.inference.specs.Settled.{end_from, place_of, Ended, Unchanged, Quiet, Calm, Calms, dated, dates, Moves, Turned, Gone}
 use Rattle.inference.proofs.Naming.{each-name}
 use Rattle.inference.proofs.Calm.{moves-none, moves-all, idle-step, calm-still, calm-idle, calm_free, calm-given}
@@ -56,12 +60,8 @@ has_on clocks x c = go (clock_of clocks x)
     go (some d) = refl
 
 -- ---- one port
-eqb-sym : (x y : ℕ) → eqb x y ≡ eqb y x
-eqb-sym x y = go (eqb y x) refl
-  where
-    go : (b : Bool) → eqb y x ≡ b → eqb x y ≡ b
-    go true q = eq-eqb x y (sym (eqb-true y x q))
-    go false q = ne_eqb x y (λ e. eqb-false y x q (sym e))
+pub names-room-kept : {m : ℕ} {env env' : List ℕ} {marks marks' : List Bool} → length env' ≡ length env → length marks' ≡ length marks → RoomForNames m env marks → RoomForNames m env' marks'
+names-room-kept e k r = record { clocked = omega (arith, e, r.clocked); marked = omega (arith, k, r.marked) }
 
 -- the first of a list put in its place
 shift : {A : Type 0} (a b : Bool) (u v w : A) → v ≡ choose (a || false) u w → choose b u v ≡ choose (a || b) u w
@@ -82,29 +82,29 @@ places-step m t p t' p' t₀ p₀ rest l x a b =
     }
 
 -- those that a walk has still to give are left to be put in their places
-pub record Placing (M : ℕ) (ts : List TagValue) (t : List ℕ) (p : List Bool) (t₀ : List ℕ) (p₀ : List Bool) (l : List Declared) (ls : List DeclarationLayout) : Type 0 where
+pub record Placing (s : Source) (t : List ℕ) (p : List Bool) (t₀ : List ℕ) (p₀ : List Bool) (l : List Declared) (ls : List DeclarationLayout) : Type 0 where
   pub rest : List Declared
-  pub laid : LaidAll M ts rest ls
-  pub places : PortsPlaced M t p (map name_of rest) t₀ p₀ (map name_of l)
+  pub laid : LaidAll s.names (tokens_of s) rest ls
+  pub places : PortsPlaced s.names t p (map name_of rest) t₀ p₀ (map name_of l)
 
--- the next declaration
-module _ (M : ℕ) (gs vs : List ℕ) (same_length : length vs ≡ length gs) where
-  port-below : (p x q : ℕ) → name M (tokens gs vs) p ≡ got x q → x < M
+-- a name that was read is one of the sheet
+module _ (s : Source) where
+  name-low : (p x q : ℕ) → name s.names (tokens_of s) p ≡ got x q → x < s.names
   unfolding name
-  port-below p x q g =
-      let l = tokens-length gs vs same_length in
-      let w = name-place M (tokens gs vs) p x q g in
-      let v = tagged-value gs vs same_length p 4 M x q (omega arith) g in
-      v.2
+  name-low p x q g =
+      let l = tokens-length s.tags.now s.values.now s.same_length in
+      let w = name-place s.names (tokens_of s) p x q g in
+      (tagged-value s.tags.now s.values.now s.same_length p 4 s.names x q (omega arith) g).2
 
-  pub placing-step : {t t₀ : List ℕ} {p p₀ : List Bool} {l : List Declared} {o : DeclarationLayout} {ls : List DeclarationLayout} (t' : List ℕ) (p' : List Bool) → Placing M (tokens gs vs) t p t₀ p₀ l (o ∷ ls)
-      → ((m : ℕ) → 17 * m ≤ length t → m ≤ length p → o.name < m → PortsPlaced m t' p' [] t p (o.name ∷ [])) → 17 * M ≤ length t → M ≤ length p
-      → Placing M (tokens gs vs) t' p' t₀ p₀ l ls
-  placing-step {t} {t₀} {p} {p₀} {l} {o} {ls} t' p' h s u v =
+  -- the next declaration
+  pub placing-step : {t t₀ : List ℕ} {p p₀ : List Bool} {l : List Declared} {o : DeclarationLayout} {ls : List DeclarationLayout} (t' : List ℕ) (p' : List Bool) → Placing s t p t₀ p₀ l (o ∷ ls)
+      → ((m : ℕ) → RoomForNames m t p → o.name < m → PortsPlaced m t' p' [] t p (o.name ∷ [])) → RoomForNames s.names t p
+      → Placing s t' p' t₀ p₀ l ls
+  placing-step {t} {t₀} {p} {p₀} {l} {o} {ls} t' p' h set u =
       let f = first-laid h.laid in
-      let w : PortsPlaced M t p (f.first.name ∷ map name_of f.rest) t₀ p₀ (map name_of l) = rw f.whole at h.places in
-      let y : PortsPlaced M t' p' [] t p (f.first.name ∷ []) = rw f.laid.named at (s M u v (rw f.laid.named (port-below _ _ _ f.laid.label))) in
-      record { rest = f.rest; laid = f.others; places = places-step M t p t' p' t₀ p₀ (map name_of f.rest) (map name_of l) f.first.name y w }
+      let w : PortsPlaced s.names t p (f.first.name ∷ map name_of f.rest) t₀ p₀ (map name_of l) = rw f.whole at h.places in
+      let y : PortsPlaced s.names t' p' [] t p (f.first.name ∷ []) = rw f.laid.named at (set s.names u (rw f.laid.named (name-low _ _ _ f.laid.label))) in
+      record { rest = f.rest; laid = f.others; places = places-step s.names t p t' p' t₀ p₀ (map name_of f.rest) (map name_of l) f.first.name y w }
 
 -- ---- the tables of a pass
 pub kept-all : (t : PassTables) → Kept t t
@@ -123,16 +123,6 @@ pub infers-in : (t t' : List ℕ) (m : ℕ) (r : Result ℕ TooDeep) (v : Formed
 infers-in t t' m r v e h = subst (λ (x : List ℕ). Infers x m r v) (sym e) h
 
 -- ---- one left name
-or_left : (a b : Bool) → a ≡ true → (a || b) ≡ true
-or_left a b e = rw e
-
-or_right : (a b : Bool) → b ≡ true → (a || b) ≡ true
-or_right true b e = refl
-or_right false b e = e
-
-or-none : (a b : Bool) → a ≡ false → b ≡ false → (a || b) ≡ false
-or-none a b e f = rw (e, f)
-
 module _ (t : List ℕ) (marks : List Bool) (since : List ℕ) (present : ℕ) (n : Node) (m : ℕ) (k : Marked marks m (ports n)) (x : ℕ) (c : Clock) (l : x < m) (changed : Bool) (p : Pass) (s : PassSoFar t m changed p) where
   -- a name that keeps its clock
   kept : (is_port n x || has_clock p.clocks x c) ≡ true → PassSoFar t m changed (given n c x p) × (since ≡ dated n c present x p since)
@@ -144,43 +134,40 @@ module _ (t : List ℕ) (marks : List Bool) (since : List ℕ) (present : ℕ) (
 
     pub name_new : (t' since' : List ℕ) → d ≡ false → Assigned t t' x c → since' ≡ set since x present → PassSoFar t' m true (given n c x p) × (since' ≡ dated n c present x p since)
     name_new t' since' v a e =
-        rw (or-none (is_port n x) (has_clock p.clocks x c) (sym (k.same x l) ∙ (sym i ∙ j)) (sym on ∙ v))
+        rw (or_from (is_port n x) (has_clock p.clocks x c) (sym (k.same x l) ∙ (sym i ∙ j)) (sym on ∙ v))
         (record { agrees = agrees-assign t t' m x c p.clocks l a s.agrees; changes = refl }, e)
 
 -- ---- the left names
 -- these names are left to be given the clock c; then the pass stands at f, and the names changed as s says
-pub record Giving (M : ℕ) (n : Node) (c : Clock) (present : ℕ) (t since : List ℕ) (made : Bool) (rest : List ℕ) (f : Pass) (s : List ℕ) : Type 0 where
+pub record Giving (R : Round) (n : Node) (c : Clock) (T : PassTables) (made : Bool) (rest : List ℕ) (f : Pass) (s : List ℕ) : Type 0 where
   pub pass : Pass
-  pub stands : PassSoFar t M made pass
+  pub stands : PassSoFar T.env.now R.source.now.names made pass
   pub final : give n c rest pass ≡ f
-  pub changes : dates n c present rest pass since ≡ s
+  pub changes : dates n c R.present rest pass T.since.now ≡ s
 
 -- the names that were read are names of the sheet
-names-below : (M : ℕ) (gs vs : List ℕ) → length vs ≡ length gs → (count at : ℕ) (xs : List ℕ) (q : ℕ) → times count (name M) (tokens gs vs) at ≡ got xs q → (i : ℕ) → i < length xs → get_or xs i 0 < M
-unfolding name
-names-below M gs vs same zero at xs q g i h = let e = times-nil (name M) (tokens gs vs) 0 at xs q refl g in absurd (omega (arith, h, ap length e.0))
-names-below M gs vs same (suc count) at xs q g i h =
-    let k = times-cons (name M) (tokens gs vs) (suc count) at xs q (λ y. omega (arith, y)) g in
-    let b : suc count - 1 ≡ count = omega arith in
-    let l = tokens-length gs vs same in
-    let w = name-place M (tokens gs vs) at k.0 k.1 k.3 in
-    let v = tagged-value gs vs same at 4 M k.0 k.1 (omega arith) k.3 in
-    go i (omega (arith, h, ap length k.5)) k.0 k.2 k.5 v.2 (names-below M gs vs same count k.1 k.2 q (rw b at k.4))
-  where
-    go : (i : ℕ) → i < length xs → (x : ℕ) (rest : List ℕ) → xs ≡ x ∷ rest → x < M → ((j : ℕ) → j < length rest → get_or rest j 0 < M) → get_or xs i 0 < M
-    go zero u x rest e v r = rw e v
-    go (suc j) u x rest e v r = rw e (r j (omega (arith, u, ap length e)))
+module _ (s : Source) where
+  names-below : (count at : ℕ) (xs : List ℕ) (q : ℕ) → times count (name s.names) (tokens_of s) at ≡ got xs q → (i : ℕ) → i < length xs → get_or xs i 0 < s.names
+  names-below zero at xs q g i h = let e = times-nil (name s.names) (tokens_of s) 0 at xs q refl g in absurd (omega (arith, h, ap length e.0))
+  names-below (suc count) at xs q g i h =
+      let k = times-cons (name s.names) (tokens_of s) (suc count) at xs q (λ y. omega (arith, y)) g in
+      let b : suc count - 1 ≡ count = omega arith in
+      go i (omega (arith, h, ap length k.5)) k.0 k.2 k.5 (name-low s at k.0 k.1 k.3) (names-below count k.1 k.2 q (rw b at k.4))
+    where
+      go : (i : ℕ) → i < length xs → (x : ℕ) (rest : List ℕ) → xs ≡ x ∷ rest → x < s.names → ((j : ℕ) → j < length rest → get_or rest j 0 < s.names) → get_or xs i 0 < s.names
+      go zero u x rest e v r = rw e v
+      go (suc j) u x rest e v r = rw e (r j (omega (arith, u, ap length e)))
 
-pub name-below : (M : ℕ) (gs vs : List ℕ) → length vs ≡ length gs → (count at : ℕ) (names xs : List ℕ) (q : ℕ) → names ≡ xs → times count (name M) (tokens gs vs) at ≡ got xs q → (i : ℕ) → i < length names → get_or names i 0 < M
-name-below M gs vs same count at names xs q e g i h = rw e (names-below M gs vs same count at xs q g i (omega (arith, h, ap length e)))
+  pub name-below : (count at : ℕ) (names xs : List ℕ) (q : ℕ) → names ≡ xs → times count (name s.names) (tokens_of s) at ≡ got xs q → (i : ℕ) → i < length names → get_or names i 0 < s.names
+  name-below count at names xs q e g i h = rw e (names-below count at xs q g i (omega (arith, h, ap length e)))
 
-module _ (M : ℕ) (n : Node) (c : Clock) (present : ℕ) (t since : List ℕ) (names : List ℕ) (f : Pass) (s : List ℕ) where
-  pub giving-end : (made : Bool) (i : ℕ) → length names ≤ i → Giving M n c present t since made (drop i names) f s → PassSoFar t M made f × (since ≡ s)
+module _ (R : Round) (n : Node) (c : Clock) (T : PassTables) (names : List ℕ) (f : Pass) (s : List ℕ) where
+  pub giving-end : (made : Bool) (i : ℕ) → length names ≤ i → Giving R n c T made (drop i names) f s → PassSoFar T.env.now R.source.now.names made f × (T.since.now ≡ s)
   unfolding give dates
   giving-end made i z h =
       let e : drop i names ≡ [] = drop_of_length-le names z in
       let j : h.pass ≡ f = rw e at h.final in
-      let k : since ≡ s = rw e at h.changes in
+      let k : T.since.now ≡ s = rw e at h.changes in
       (rw (sym j) h.stands, k)
 
   either-way : (x y b : Bool) → (y || (x || b)) ≡ ((x || y) || b)
@@ -189,17 +176,17 @@ module _ (M : ℕ) (n : Node) (c : Clock) (present : ℕ) (t since : List ℕ) (
   either-way false true b = refl
   either-way false false b = refl
 
-  pub giving-step : (t' since' : List ℕ) (marks : List Bool) (changed r before : Bool) (i x : ℕ) → i < length names → x ≡ get_or names i 0 → x < M → Marked marks M (ports n)
-      → ((n : Node) (p : Pass) (m : ℕ) (b : Bool) → Marked marks m (ports n) → x < m → PassSoFar t m b p → PassSoFar t' m (r || b) (given n c x p) × (since' ≡ dated n c present x p since))
-      → Giving M n c present t since (changed || before) (drop i names) f s → Giving M n c present t' since' ((changed || r) || before) (drop (i + 1) names) f s
+  pub giving-step : (T' : PassTables) (changed r before : Bool) (i x : ℕ) → i < length names → x ≡ get_or names i 0 → x < R.source.now.names → Marked R.marks.now R.source.now.names (ports n)
+      → ((n : Node) (p : Pass) (m : ℕ) (b : Bool) → Marked R.marks.now m (ports n) → x < m → PassSoFar T.env.now m b p → PassSoFar T'.env.now m (r || b) (given n c x p) × (T'.since.now ≡ dated n c R.present x p T.since.now))
+      → Giving R n c T (changed || before) (drop i names) f s → Giving R n c T' ((changed || r) || before) (drop (i + 1) names) f s
   unfolding give dates
-  giving-step t' since' marks changed r before i x z e below m o h =
+  giving-step T' changed r before i x z e below m o h =
       let k : drop i names ≡ x ∷ drop (i + 1) names = rw (add-one i, e) (drop-cons names i 0 z) in
-      let y : PassSoFar t' M (r || (changed || before)) (given n c x h.pass) × (since' ≡ dated n c present x h.pass since) = o n h.pass M (changed || before) m below h.stands in
-      let d : dates n c present (drop (i + 1) names) (given n c x h.pass) (dated n c present x h.pass since) ≡ s = rw k at h.changes in
+      let y = o n h.pass R.source.now.names (changed || before) m below h.stands in
+      let d : dates n c R.present (drop (i + 1) names) (given n c x h.pass) (dated n c R.present x h.pass T.since.now) ≡ s = rw k at h.changes in
       record {
         pass = given n c x h.pass;
-        stands = subst (λ (b : Bool). PassSoFar t' M b (given n c x h.pass)) (either-way changed r before) y.0;
+        stands = subst (λ (b : Bool). PassSoFar T'.env.now R.source.now.names b (given n c x h.pass)) (either-way changed r before) y.0;
         final = rw k at h.final;
         changes = rw y.1 d;
       }
@@ -241,10 +228,9 @@ ends_more M ts n p i place end ends l q g h b e f =
     (m ∙ ap (place_of M ts p) (sym (add-one i)), filled_more (λ k. place_of M ts p (suc k)) ends i end b f.1 m)
 
 -- ---- an equation that is read
-module _ (M : ℕ) (gs vs : List ℕ) (same_length : length vs ≡ length gs) (at : ℕ) (l : Span) (i : Spanned (name M) gs vs at l) (e : Equation) (q : ℕ) (g : equation M (tokens gs vs) at ≡ got e q) where
-  -- where its parts stand
-  pub lies : LaidEquation M (tokens gs vs) e q l (end_of (outcome (expr M 32 (tokens gs vs) l.end)) at)
-  lies = laid-equation gs vs same_length M at l i _ (λ a u h. ap (λ (x : Got Expr). end_of (outcome x) at) h) e q g
+-- where its parts stand
+pub lies : (s : Source) (at : ℕ) (l : Span) → Spanned (name s.names) s.tags.now s.values.now at l → (e : Equation) (q : ℕ) → equation s.names (tokens_of s) at ≡ got e q → LaidEquation s.names (tokens_of s) e q l (end_of (outcome (expr s.names 32 (tokens_of s) l.end)) at)
+lies s at l i e q g = laid-equation s.tags.now s.values.now s.same_length s.names at l i _ (λ a u h. ap (λ (x : Got Expr). end_of (outcome x) at) h) e q g
 
 module _ (n : Node) (e : Equation) (p : Pass) (present : ℕ) (since : List ℕ) (f : Result (maybe.Option struct.Clock) TooDeep) (h : natural_of f ≡ natural p.clocks e.right) where
   step : (v : Natural) → natural_of f ≡ v → stepped n e p ≡ (v >>= λ o. formed (give_natural n o e.left p))
@@ -266,12 +252,12 @@ module _ (n : Node) (e : Equation) (p : Pass) (present : ℕ) (since : List ℕ)
   equation-deep d u t since' m before i = step deep (ap natural_of i)
 
 -- ---- an equation that need not be read
-pub equation-calm : (M : ℕ) (gs vs since : List ℕ) → length vs ≡ length gs → (made present at end : ℕ) (t : List ℕ) (changed : Bool) → Quiet gs vs since made at end → (n : Node) (p : Pass) (e : Equation) → equation M (tokens gs vs) at ≡ got e end → PassSoFar t M changed p → Calm n since made p.clocks e →
-    Turned n e present since since t M p changed (Ok false)
+pub equation-calm : (s : Source) (T : PassTables) (made present at end : ℕ) (changed : Bool) → Quiet s.tags.now s.values.now T.since.now made at end → (n : Node) (p : Pass) (e : Equation) → equation s.names (tokens_of s) at ≡ got e end → PassSoFar T.env.now s.names changed p → Calm n T.since.now made p.clocks e →
+    Turned n e present T.since.now T.since.now T.env.now s.names p changed (Ok false)
 unfolding Turned
-equation-calm M gs vs since same_length made present at end t changed k n p e g s h =
-    let i = h.idle k.later (each-name M gs vs same_length (Unchanged since made) at e end g k.settled) in
-    (p, idle-step n e p i, s, moves-none present since p.clocks, calm-idle n since present p.clocks e i)
+equation-calm s T made present at end changed k n p e g f h =
+    let i = h.idle k.later (each-name s.names s.tags.now s.values.now s.same_length (Unchanged T.since.now made) at e end g k.settled) in
+    (p, idle-step n e p i, f, moves-none present T.since.now p.clocks, calm-idle n T.since.now present p.clocks e i)
 
 -- ---- a pass
 stepped-pass : (n : Node) (e : Equation) (es : List Equation) (p : Pass) → pass n (e ∷ es) p ≡ (stepped n e p >>= λ r. pass n es r)
@@ -290,44 +276,47 @@ is-other : (b : Equation) (l : List Equation) (a : Equation) (rest : List Equati
 is-other b l a rest e m = rw e (Memᴰ.tail m)
 
 -- i of the equations es have had their turn in the pass `present`; then the pass is f
-pub record Going (M : ℕ) (ts : List TagValue) (n : Node) (es : List Equation) (present at : ℕ) (t since : List ℕ) (changed : Bool) (count i place q : ℕ) (f : Formed Pass) : Type 0 where
+pub record Going (R : Round) (n : Node) (es : List Equation) (at : ℕ) (T : PassTables) (changed : Bool) (count i place q : ℕ) (f : Formed Pass) : Type 0 where
   pub rest : List Equation
   pub so_far : Pass
-  pub here : place ≡ place_of M ts at i
-  pub items : times (count - i) (equation M) ts place ≡ got rest q
-  pub stands : PassSoFar t M changed so_far
+  pub here : place ≡ place_of R.source.now.names (tokens_of R.source.now) at i
+  pub items : times (count - i) (equation R.source.now.names) (tokens_of R.source.now) place ≡ got rest q
+  pub stands : PassSoFar T.env.now R.source.now.names changed so_far
   pub final : pass n rest so_far ≡ f
-  pub ahead : Calms n since (present - 1) so_far.clocks rest
-  pub behind : (e : Equation) → Memᴰ e es → Memᴰ e rest ⊎ Calm n since present so_far.clocks e
+  pub ahead : Calms n T.since.now (R.present - 1) so_far.clocks rest
+  pub behind : (e : Equation) → Memᴰ e es → Memᴰ e rest ⊎ Calm n T.since.now R.present so_far.clocks e
 
-pub going_start : (M : ℕ) (ts : List TagValue) (n : Node) (present : ℕ) (t since : List ℕ) (k at q : ℕ) (es : List Equation) (clocks : Clocks) → times k (equation M) ts at ≡ got es q → Agrees t M clocks → Calms n since (present - 1) clocks es →
-    Going M ts n es present at t since false k 0 at q (pass n es (record { changed = false; clocks = clocks }))
+pub going_start : (R : Round) (n : Node) (T : PassTables) (k at q : ℕ) (es : List Equation) (clocks : Clocks) → times k (equation R.source.now.names) (tokens_of R.source.now) at ≡ got es q → Agrees T.env.now R.source.now.names clocks → Calms n T.since.now (R.present - 1) clocks es →
+    Going R n es at T false k 0 at q (pass n es (record { changed = false; clocks = clocks }))
 unfolding place_of
-going_start M ts n present t since k at q es clocks g a h =
+going_start R n T k at q es clocks g a h =
     let e : k - 0 ≡ k = omega arith in
     record { rest = es; so_far = record { changed = false; clocks = clocks }; here = refl; items = rw e g; stands = record { agrees = a; changes = refl }; final = refl; ahead = h; behind = λ e m. inl m }
 
-pub going_end : (M : ℕ) (ts : List TagValue) (n : Node) (es : List Equation) (present at : ℕ) (t since : List ℕ) (changed : Bool) (count i place q : ℕ) (f : Formed Pass) → count ≤ i → Going M ts n es present at t since changed count i place q f → Gone n es present since t M (Ok changed) f
+pub going_end : (R : Round) (n : Node) (es : List Equation) (at : ℕ) (T : PassTables) (changed : Bool) (count i place q : ℕ) (f : Formed Pass) → count ≤ i → Going R n es at T changed count i place q f → Gone n es R.present T.since.now T.env.now R.source.now.names (Ok changed) f
 unfolding Gone pass
-going_end M ts n es present at t since changed count i place q f z h =
-    let e = times-nil (equation M) ts (count - i) place h.rest q (omega arith) h.items in
+going_end R n es at T changed count i place q f z h =
+    let e = times-nil (equation R.source.now.names) (tokens_of R.source.now) (count - i) place h.rest q (omega arith) h.items in
     let i : formed h.so_far ≡ f = rw e.0 at h.final in
     (h.so_far, sym i, h.stands, record { each = λ a m. last a e.0 (h.behind a m) })
   where
-    last : (a : Equation) → h.rest ≡ [] → Memᴰ a h.rest ⊎ Calm n since present h.so_far.clocks a → Calm n since present h.so_far.clocks a
+    last : (a : Equation) → h.rest ≡ [] → Memᴰ a h.rest ⊎ Calm n T.since.now R.present h.so_far.clocks a → Calm n T.since.now R.present h.so_far.clocks a
     last a e (inl m) = absurd (Memᴰ.not-nil (rw e at m))
     last a e (inr c) = c
 
-or_swap : (x y : Bool) → (x || y) ≡ (y || x)
-or_swap true true = refl
-or_swap true false = refl
-or_swap false true = refl
-or_swap false false = refl
+module _ (R : Round) (n : Node) (es : List Equation) (at : ℕ) (T T' : PassTables) (ends : List ℕ) (changed : Bool) (count i place end q : ℕ) (f : Formed Pass) (r : Result Bool TooDeep) (z : i < count) (m : Marked R.marks.now R.source.now.names (ports n)) (E : Ended R.source.now.names (tokens_of R.source.now) at count ends)
+    (D : let s = R.source.now in (e : Equation) (u : ℕ) → equation s.names (tokens_of s) place ≡ got e u → (i < 64 → get_or ends i 0 ≡ end_from s.names (tokens_of s) place) → end ≡ end_from s.names (tokens_of s) place)
+    (W : let s = R.source.now in (n : Node) (p : Pass) (e : Equation) (b : Bool) → Marked R.marks.now s.names (ports n) → equation s.names (tokens_of s) place ≡ got e end → PassSoFar T.env.now s.names b p → Calm n T.since.now (R.present - 1) p.clocks e → Turned n e R.present T.since.now T'.since.now T'.env.now s.names p b r)
+    (h : Going R n es at T changed count i place q f) where
+  abbrev M : ℕ
+  M = R.source.now.names
 
-module _ (M : ℕ) (ts : List TagValue) (n : Node) (es : List Equation) (present at : ℕ) (t t' since since' : List ℕ) (marks : List Bool) (ends : List ℕ) (changed : Bool) (count i place end q : ℕ) (f : Formed Pass) (r : Result Bool TooDeep) (z : i < count) (m : Marked marks M (ports n)) (E : Ended M ts at count ends)
-    (D : (e : Equation) (u : ℕ) → equation M ts place ≡ got e u → (i < 64 → get_or ends i 0 ≡ end_from M ts place) → end ≡ end_from M ts place)
-    (T : (n : Node) (p : Pass) (e : Equation) (b : Bool) → Marked marks M (ports n) → equation M ts place ≡ got e end → PassSoFar t M b p → Calm n since (present - 1) p.clocks e → Turned n e present since since' t' M p b r)
-    (h : Going M ts n es present at t since changed count i place q f) where
+  abbrev ts : List TagValue
+  ts = tokens_of R.source.now
+
+  abbrev present : ℕ
+  present = R.present
+
   -- the table says where the equation ends
   ends_there : end ≡ end_from M ts place
   unfolding place_of
@@ -341,7 +330,7 @@ module _ (M : ℕ) (ts : List TagValue) (n : Node) (es : List Equation) (present
     pub others : List Equation
     pub items : times (count - (i + 1)) (equation M) ts end ≡ got others q
     pub whole : h.rest ≡ one ∷ others
-    pub turned : Turned n one present since since' t' M h.so_far changed r
+    pub turned : Turned n one present T.since.now T'.since.now T'.env.now M h.so_far changed r
 
   next : Next
   next =
@@ -353,39 +342,39 @@ module _ (M : ℕ) (ts : List TagValue) (n : Node) (es : List Equation) (present
         others = k.2;
         items = rw (e, j) k.4;
         whole = k.5;
-        turned = T n h.so_far k.0 changed m (rw e k.3) h.stands (h.ahead.each k.0 (is-first h.rest k.0 k.2 k.5));
+        turned = W n h.so_far k.0 changed m (rw e k.3) h.stands (h.ahead.each k.0 (is-first h.rest k.0 k.2 k.5));
       }
 
-  pub going_step : (b : Bool) → r ≡ Ok b → Going M ts n es present at t' since' (changed || b) count (i + 1) end q f
+  pub going_step : (b : Bool) → r ≡ Ok b → Going R n es at T' (changed || b) count (i + 1) end q f
   unfolding Turned place_of
   going_step b j =
       let k = next in
-      let x : Turned n k.one present since since' t' M h.so_far changed (Ok b) = subst (λ (y : Result Bool TooDeep). Turned n k.one present since since' t' M h.so_far changed y) j k.turned in
+      let x : Turned n k.one present T.since.now T'.since.now T'.env.now M h.so_far changed (Ok b) = subst (λ (y : Result Bool TooDeep). Turned n k.one present T.since.now T'.since.now T'.env.now M h.so_far changed y) j k.turned in
       let w : pass n (k.one ∷ k.others) h.so_far ≡ pass n k.others x.0 = stepped-pass n k.one k.others h.so_far ∙ ap (λ (v : Formed Pass). v >>= λ r. pass n k.others r) x.1 in
       record {
         rest = k.others;
         so_far = x.0;
         here = ends_there ∙ (ap (end_from M ts) h.here ∙ ap (place_of M ts at) (sym (add-one i)));
         items = k.items;
-        stands = subst (λ (b : Bool). PassSoFar t' M b x.0) (or_swap b changed) x.2;
+        stands = subst (λ (b : Bool). PassSoFar T'.env.now M b x.0) (or_comm b changed) x.2;
         final = sym w ∙ rw k.whole at h.final;
-        ahead = record { each = λ e m. calm-still n present since since' _ _ x.3 (present - 1) (omega arith) e (h.ahead.each e (is-other e h.rest k.one k.others k.whole m)) };
+        ahead = record { each = λ e m. calm-still n present T.since.now T'.since.now _ _ x.3 (present - 1) (omega arith) e (h.ahead.each e (is-other e h.rest k.one k.others k.whole m)) };
         behind = λ e m. other k x.0 x.3 x.4 e (h.behind e m);
       }
     where
-      this : (k : Next) (p : Pass) → Calm n since' present p.clocks k.one → (e : Equation) → (e ≡ k.one) ⊎ Memᴰ e k.others → Memᴰ e k.others ⊎ Calm n since' present p.clocks e
+      this : (k : Next) (p : Pass) → Calm n T'.since.now present p.clocks k.one → (e : Equation) → (e ≡ k.one) ⊎ Memᴰ e k.others → Memᴰ e k.others ⊎ Calm n T'.since.now present p.clocks e
       this k p c e (inl i) = inr (rw i c)
       this k p c e (inr m) = inl m
 
-      other : (k : Next) (p : Pass) → Moves present since since' h.so_far.clocks p.clocks → Calm n since' present p.clocks k.one → (e : Equation) → Memᴰ e h.rest ⊎ Calm n since present h.so_far.clocks e → Memᴰ e k.others ⊎ Calm n since' present p.clocks e
+      other : (k : Next) (p : Pass) → Moves present T.since.now T'.since.now h.so_far.clocks p.clocks → Calm n T'.since.now present p.clocks k.one → (e : Equation) → Memᴰ e h.rest ⊎ Calm n T.since.now present h.so_far.clocks e → Memᴰ e k.others ⊎ Calm n T'.since.now present p.clocks e
       other k p v c e (inl m) = this k p c e (Memᴰ.cases_cons (rw k.whole at m))
-      other k p v c e (inr d) = inr (calm-still n present since since' _ _ v present (omega arith) e d)
+      other k p v c e (inr d) = inr (calm-still n present T.since.now T'.since.now _ _ v present (omega arith) e d)
 
-  pub going-deep : (d u : TooDeep) → r ≡ Err d → Gone n es present since' t' M (Err u) f
+  pub going-deep : (d u : TooDeep) → r ≡ Err d → Gone n es present T'.since.now T'.env.now M (Err u) f
   unfolding Turned Gone
   going-deep d u j =
       let k = next in
-      let x : stepped n k.one h.so_far ≡ deep = subst (λ (y : Result Bool TooDeep). Turned n k.one present since since' t' M h.so_far changed y) j k.turned in
+      let x : stepped n k.one h.so_far ≡ deep = subst (λ (y : Result Bool TooDeep). Turned n k.one present T.since.now T'.since.now T'.env.now M h.so_far changed y) j k.turned in
       let w : pass n (k.one ∷ k.others) h.so_far ≡ deep = stepped-pass n k.one k.others h.so_far ∙ ap (λ (v : Formed Pass). v >>= λ r. pass n k.others r) x in
       sym (rw k.whole at h.final) ∙ w
 
@@ -404,47 +393,47 @@ unfolding passes_from
 too-deep n k made clocks e = rw e
 
 -- at most k passes more, so many made; then f is inferred
-pub record Repeating (M : ℕ) (n : Node) (t since : List ℕ) (k made : ℕ) (f : Formed Inferred) : Type 0 where
+pub record Repeating (M : ℕ) (n : Node) (T : PassTables) (k made : ℕ) (f : Formed Inferred) : Type 0 where
   pub clocks : Clocks
-  pub agrees : Agrees t M clocks
-  pub calms : Calms n since made clocks n.equations
+  pub agrees : Agrees T.env.now M clocks
+  pub calms : Calms n T.since.now made clocks n.equations
   pub final : passes_from n k made clocks ≡ f
 
-pub repeating-end : (M : ℕ) (n : Node) (t since : List ℕ) (most made : ℕ) (f : Formed Inferred) → most ≤ made → Repeating M n t since (most - made) made f → Infers t M (Ok made) f
+pub repeating-end : (M : ℕ) (n : Node) (T : PassTables) (most made : ℕ) (f : Formed Inferred) → most ≤ made → Repeating M n T (most - made) made f → Infers T.env.now M (Ok made) f
 unfolding Infers passes_from
-repeating-end M n t since most made f l h =
+repeating-end M n T most made f l h =
     let e : most - made ≡ 0 = omega arith in
     let i : passes_from n 0 made h.clocks ≡ f = ap (λ (k : ℕ). passes_from n k made h.clocks) (sym e) ∙ h.final in
     (record { passes = made; clocks = h.clocks }, sym i, refl, h.agrees)
 
-module _ (M : ℕ) (ts : List TagValue) (n : Node) (t t' since since' : List ℕ) (marks : List Bool) (ends : List ℕ) (count at q most made : ℕ) (f : Formed Inferred) (r : Result Bool TooDeep) (u : made < most) (m : Marked marks M (ports n)) (E : Ended M ts at count ends) (g : times count (equation M) ts at ≡ got n.equations q)
-    (P : (n : Node) (es : List Equation) (q : ℕ) (clocks : Clocks) → Marked marks M (ports n) → Ended M ts at count ends → times count (equation M) ts at ≡ got es q → Agrees t M clocks → Calms n since (made + 1 - 1) clocks es → Gone n es (made + 1) since' t' M r (pass n es (record { changed = false; clocks = clocks })))
-    (h : Repeating M n t since (most - made) made f) where
+module _ (s : Source) (n : Node) (T T' : PassTables) (marks : List Bool) (ends : List ℕ) (count at q most made : ℕ) (f : Formed Inferred) (r : Result Bool TooDeep) (u : made < most) (m : Marked marks s.names (ports n)) (E : Ended s.names (tokens_of s) at count ends) (g : times count (equation s.names) (tokens_of s) at ≡ got n.equations q)
+    (P : (n : Node) (es : List Equation) (q : ℕ) (clocks : Clocks) → Marked marks s.names (ports n) → Ended s.names (tokens_of s) at count ends → times count (equation s.names) (tokens_of s) at ≡ got es q → Agrees T.env.now s.names clocks → Calms n T.since.now (made + 1 - 1) clocks es → Gone n es (made + 1) T'.since.now T'.env.now s.names r (pass n es (record { changed = false; clocks = clocks })))
+    (h : Repeating s.names n T (most - made) made f) where
   one : passes_from n (suc (most - (made + 1))) made h.clocks ≡ f
   one = let e : suc (most - (made + 1)) ≡ most - made = omega arith in ap (λ (k : ℕ). passes_from n k made h.clocks) e ∙ h.final
 
-  gone : Gone n n.equations (made + 1) since' t' M r (pass n n.equations (record { changed = false; clocks = h.clocks }))
+  gone : Gone n n.equations (made + 1) T'.since.now T'.env.now s.names r (pass n n.equations (record { changed = false; clocks = h.clocks }))
   gone = let e : made + 1 - 1 ≡ made = omega arith in P n n.equations q h.clocks m E g h.agrees (rw e h.calms)
 
   module _ (b : Bool) (i : r ≡ Ok b) where
-    made_one : (p : Pass) × (pass n n.equations (record { changed = false; clocks = h.clocks }) ≡ formed p) × PassSoFar t' M b p × Calms n since' (made + 1) p.clocks n.equations
+    made_one : (p : Pass) × (pass n n.equations (record { changed = false; clocks = h.clocks }) ≡ formed p) × PassSoFar T'.env.now s.names b p × Calms n T'.since.now (made + 1) p.clocks n.equations
     unfolding Gone
     made_one = rw i at gone
 
-    pub repeating-step : b ≡ true → Repeating M n t' since' (most - (made + 1)) (made + 1) f
+    pub repeating-step : b ≡ true → Repeating s.names n T' (most - (made + 1)) (made + 1) f
     repeating-step c =
         let x = made_one in
         let w = again n (most - (made + 1)) made h.clocks x.0 x.1 (sym x.2.changes ∙ c) in
         record { clocks = x.0.clocks; agrees = x.2.agrees; calms = x.3; final = ap (λ (k : ℕ). passes_from n (most - (made + 1)) k x.0.clocks) (add-one made) ∙ (sym w ∙ one) }
 
-    pub repeating-stop : b ≡ false → Infers t' M (Ok (made + 1)) f
+    pub repeating-stop : b ≡ false → Infers T'.env.now s.names (Ok (made + 1)) f
     unfolding Infers
     repeating-stop c =
         let x = made_one in
         let w = stops n (most - (made + 1)) made h.clocks x.0 x.1 (sym x.2.changes ∙ c) in
         (record { passes = suc made; clocks = x.0.clocks }, sym one ∙ w, sym (add-one made), x.2.agrees)
 
-  pub repeating-deep : (d v : TooDeep) → r ≡ Err d → Infers t' M (Err v) f
+  pub repeating-deep : (d v : TooDeep) → r ≡ Err d → Infers T'.env.now s.names (Err v) f
   unfolding Infers Gone
   repeating-deep d v i =
       let x : pass n n.equations (record { changed = false; clocks = h.clocks }) ≡ deep = rw i at gone in
@@ -461,17 +450,13 @@ few n (suc k) made clocks i e = go (λ p. few n k (suc made) p.clocks i) (pass n
     last f p false e = let j : suc made ≡ i.passes = cc in omega arith
 
     go : ((p : Pass) → passes_from n k (suc made) p.clocks ≡ formed i → i.passes ≤ suc made + k) → (v : Formed Pass) → (v >>= λ p. choose p.changed (passes_from n k (suc made) p.clocks) (formed (record { passes = suc made; clocks = p.clocks }))) ≡ formed i → i.passes ≤ made + suc k
-    go f deep e = let z : ◌≡◌ {A = ℕ} 0 1 = cc in absurd (omega arith)
+    go f deep e = absurd cc
     go f (formed p) e = last f p p.changed e
 
 -- ---- a node
-or_assoc : (a b c : Bool) → (a || (b || c)) ≡ ((a || b) || c)
-or_assoc true b c = refl
-or_assoc false b c = refl
-
 among-append : (x : ℕ) (k l : List Declared) → among x (map name_of (k ++ l)) ≡ (among x (map name_of k) || among x (map name_of l))
 among-append x [] l = refl
-among-append x (d ∷ k) l = ap (λ (b : Bool). eqb x d.name || b) (among-append x k l) ∙ or_assoc (eqb x d.name) (among x (map name_of k)) (among x (map name_of l))
+among-append x (d ∷ k) l = ap (λ (b : Bool). eqb x d.name || b) (among-append x k l) ∙ sym (or_assoc (eqb x d.name) (among x (map name_of k)) (among x (map name_of l)))
 
 chosen-both : {A : Type 0} (a b : Bool) (u v w z : A) → v ≡ choose b u w → w ≡ choose a u z → v ≡ choose (a || b) u z
 chosen-both true true u v w z i j = i

@@ -7,8 +7,7 @@ use mathlib.Core.Bool.{Bool, true, false, not}
 use mathlib.Core.Option.{Option, none, some}
 use native.Mathlib.Omega.{arith}
 use lib.Dec.{eqb, ltb}
-use lib.ListN.{length, get_or, take, drop}
-use lib.Seq.{take-length}
+use lib.ListN.{length, get_or, drop}
 use Rattle.std.proofs.lemmas.List.{get_or-drop, length-drop}
 use borrow.Author.Tests.{ne_eqb, lt-ltb, ltb-true}
 use Rattle.definitions.specs.Lists.{choose}
@@ -23,34 +22,30 @@ use Rattle.layout.specs.Owed.{follows, Owed}
 use Rattle.layout.specs.Marks.{is_sample, Mark, named, sampling, mark_of, first, there, Marks}
 use Rattle.layout.proofs.Owed.{owed_none, owed-step, owed-on}
 use Rattle.layout.proofs.Ends.{expr-part}
-use Rattle.layout.proofs.Marks.{bears, borne, expr-marks, marks-none, marks-found, marks-past}
+use Rattle.layout.proofs.Marks.{given-there, bears, borne, expr-marks, marks-none, marks-found, marks-past}
 use Rattle.operands.specs.Spread.{tree}
 use Rattle.inference.specs.Natural.{listed}
 use Rattle.inference.proofs.NaturalLaws.{is_free, free-none, kept-first}
 
 -- ---- a token
-there-given : (b : Bool) (m : Mark) → there (given b m) ≡ b
-there-given true m = refl
-there-given false m = refl
-
 there-none : (o : Option Mark) → there o ≡ false → o ≡ none
 there-none none h = refl
-there-none (some m) h = let z : ◌≡◌ {A = ℕ} 0 1 = cc in absurd (omega arith)
+there-none (some m) h = absurd cc
 
 pub name-gives : (env : List ℕ) (tag v : ℕ) {b : Bool} → tag ≡ 54 → b ≡ listed env v → b ≡ there (mark_of (listed env) tag v)
 unfolding mark_of
-name-gives env tag v i j = j ∙ rw i (sym (there-given _ _))
+name-gives env tag v i j = j ∙ rw i (sym (given-there _ _))
 
 pub other-gives : (env : List ℕ) (tag v : ℕ) (r : Bool) → (tag ≡ 54 → ⊥) → r ≡ is_sample tag → r ≡ there (mark_of (listed env) tag v)
 unfolding mark_of
-other-gives env tag v r n i = rw (ne_eqb tag 54 n) (i ∙ sym (there-given _ _))
+other-gives env tag v r n i = rw (ne_eqb tag 54 n) (i ∙ sym (given-there _ _))
 
 -- a name that gives one
 name-marked : (test : ℕ → Bool) (tag v : ℕ) → tag ≡ 54 → there (mark_of test tag v) ≡ true → mark_of test tag v ≡ some (named v)
 unfolding mark_of
 name-marked test tag v i h =
     let e : mark_of test tag v ≡ given (test v) (named v) = rw i in
-    let b : test v ≡ true = sym (there-given (test v) (named v)) ∙ (sym (ap there e) ∙ h) in
+    let b : test v ≡ true = sym (given-there (test v) (named v)) ∙ (sym (ap there e) ∙ h) in
     e ∙ ap (λ (x : Bool). given x (named v)) b
 
 -- ---- a tree
@@ -149,10 +144,6 @@ pub record Here (gs vs : List ℕ) (at from k tag v : ℕ) : Type 0 where
   pub began : from ≡ at
   pub tags : tag ≡ get_or gs (from + k) 0
   pub values : v ≡ get_or vs (from + k) 0
-
--- what is cut off behind a place is all that is left
-pub all-left : (l : List ℕ) (n : ℕ) → take (length l - n) (drop n l) ≡ drop n l
-all-left l n = ap (λ k. take k (drop n l)) (sym (length-drop n l)) ∙ take-length (drop n l)
 
 pub here-of : (gs vs : List ℕ) (at from k tag v : ℕ) → from ≡ min at (length gs)
     → (k < length (drop from gs)) × (k < length (drop from vs)) × ((d : ℕ) → tag ≡ get_or (drop from gs) k d) × ((d : ℕ) → v ≡ get_or (drop from vs) k d) → Here gs vs at from k tag v

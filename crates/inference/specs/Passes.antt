@@ -1,5 +1,5 @@
 -- What inference keeps in its tables, and what it answers.
-use Rattle.std.specs.Prelude.{ℕ, ◌<◌, ◌≡◌, List, ◌∷◌, Bool, true, false, ◌||◌, length, get_or, Result, Ok, Err}
+use Rattle.std.specs.Prelude.{ℕ, ◌*◌, ◌≤◌, ◌<◌, ◌≡◌, List, ◌∷◌, Bool, true, false, ◌||◌, length, get_or, Result, Ok, Err}
 use Rattle.std.proofs.Math.Option.{Option, none, some}
 use Rattle.definitions.specs.Lists.{choose, among}
 use Rattle.definitions.specs.Tree.{Equation, Node}
@@ -8,6 +8,11 @@ use Rattle.definitions.specs.InferClocks.{Formed, deep, formed, ◌>>=◌, Pass,
 use Rattle.clock_tables.specs.Environment.{env_at, Agrees}
 use Rattle.clock_tables.specs.declared.TooDeep.{TooDeep}
 use Rattle.inference.specs.declared.PassTables.{PassTables}
+
+-- the tables of names' clocks and of marks have room for so many names
+pub record RoomForNames (m : ℕ) (env : List ℕ) (marks : List Bool) : Type 0 where
+  pub clocked : 17 * m ≤ length env
+  pub marked : m ≤ length marks
 
 -- of the names below m, those of l are marked
 pub record Marked (t : List Bool) (m : ℕ) (l : List ℕ) : Type 0 where

@@ -16,7 +16,7 @@ ghost use Rattle.inference.specs.Natural.{Finds, lifted, first_of, listed, Tells
 ghost use Rattle.definitions.specs.Grammar.{name, declaration, equation};
 ghost use Rattle.layout.specs.Laid.{LaidNode};
 ghost use Rattle.layout.specs.Spans.{Spans};
-ghost use Rattle.inference.specs.Passes.{Marked, PortsPlaced, PassSoFar, Kept, on_clock, given, Infers};
+ghost use Rattle.inference.specs.Passes.{RoomForNames, Marked, PortsPlaced, PassSoFar, Kept, on_clock, given, Infers};
 ghost use Rattle.inference.specs.Settled.{end_from, Ended, named, Unchanged, Quiet, Calm, Calms, dated, dates, Turned, Gone};
 ghost use Rattle.definitions.specs.InferClocks as rules;
 
@@ -253,7 +253,7 @@ impl PassTables<'_> {
 // An input or output: on base, and marked.
 // Stays (no plainer): names' clocks and marks, here and below: ports write both, passes write the first and read the second.
 fn set_port(env: &mut [u32], marks: &mut [bool], x: u32)
-    ensures { (m : ℕ) → 17 * m ≤ length env.old → m ≤ length marks.old → x < m → PortsPlaced m env.new marks.new [] env.old marks.old (x ∷ []) }
+    ensures { (m : ℕ) → RoomForNames m env.old marks.old → x < m → PortsPlaced m env.new marks.new [] env.old marks.old (x ∷ []) }
 {
     clock_tables::assign(env, x, Clock::base());
     clock_tables::put_at(marks, x as usize, true);
@@ -261,7 +261,7 @@ fn set_port(env: &mut [u32], marks: &mut [bool], x: u32)
 
 // The names of a list of inputs or outputs.
 fn set_ports(source: &Source<'_>, ports: Span, env: &mut [u32], marks: &mut [bool])
-    ensures { (l : List Declared) → Spans (declaration source.now.names) (tokens_of source.now) l ports → 17 * source.now.names ≤ length env.old → source.now.names ≤ length marks.old → PortsPlaced source.now.names env.new marks.new [] env.old marks.old (map (λ d. d.name) l) }
+    ensures { (l : List Declared) → Spans (declaration source.now.names) (tokens_of source.now) l ports → RoomForNames source.now.names env.old marks.old → PortsPlaced source.now.names env.new marks.new [] env.old marks.old (map (λ d. d.name) l) }
 {
     for port in layout::declarations(source, ports) {
         set_port(env, marks, port.name);
@@ -376,6 +376,7 @@ fn one_equation(
 }
 
 // Where a node's equations end, as far as the table goes.
+// Stays (no plainer): of a table of places (`layout`) an end is the next one's place, and the last's the list's: `end_at` told three cases.
 fn equation_ends(source: &Source<'_>, equations: Span) -> [usize; MOST_EQUATIONS]
     ensures { (l : List Equation) (q : ℕ) → times equations.count (equation source.now.names) (tokens_of source.now) equations.at ≡ got l q → Ended source.now.names (tokens_of source.now) equations.at equations.count result }
 {
@@ -457,7 +458,7 @@ pub fn infer(
     env: &mut [u32],
     marks: &mut [bool],
 ) -> Result<usize, TooDeep>
-    ensures { (n : Node) (q : ℕ) → LaidNode source.now.names (tokens_of source.now) n q l → 17 * source.now.names ≤ length env.old → source.now.names ≤ length marks.old → Marked marks.new source.now.names (ports n) × Infers env.new source.now.names result (inferred n) }
+    ensures { (n : Node) (q : ℕ) → LaidNode source.now.names (tokens_of source.now) n q l → RoomForNames source.now.names env.old marks.old → Marked marks.new source.now.names (ports n) × Infers env.new source.now.names result (inferred n) }
 {
     clock_tables::clear(env, source.names);
     clock_tables::fill_front(marks, source.names as usize, false);

@@ -9,10 +9,11 @@ ghost use Rattle.definitions.specs.Grammar.{type_def};
 ghost use Rattle.inspect.specs.Summary.{type_summary};
 
 use arguments::Asked;
-use definitions::{MOST_NAMES, MOST_NODES, MOST_TOKENS, MOST_TYPES, NodeKind};
+use definitions::NodeKind;
 use grammar::Source;
 use layout::{Defined, NodeLayout};
-use parts::{AcceptedSheet, Sizes, TokenArrays};
+use parts::{Sizes, TokenArrays};
+use sheet::ReadSheet;
 use spelling::{NamedSource, Spelling};
 use std::io::Write;
 use std::{fmt, io};
@@ -123,27 +124,22 @@ fn print_lines(to: &mut impl Write, named: NamedSource<'_>, sizes: Sizes) -> io:
     Ok(())
 }
 
-// The lines of an accepted sheet, which has these tokens.
-fn report(to: &mut impl Write, sheet: AcceptedSheet<'_>, source: Source<'_>) -> io::Result<()> {
-    let mut starts = [0u32; MOST_NAMES + 1];
-    spelling::fill_starts(sheet.lengths(), &mut starts);
+// The lines of a sheet that is read.
+fn report(to: &mut impl Write, read: ReadSheet<'_>) -> io::Result<()> {
+    let ReadSheet { sheet, source } = read;
     let spelling = Spelling {
-        starts: &starts,
-        letters: sheet.letters(),
+        starts: &spelling::starts_of(sheet),
+        letters: sheet.parts.letters(),
     };
-    print_lines(to, NamedSource { spelling, source }, sheet.sizes)
+    print_lines(to, NamedSource { spelling, source }, sheet.parts.sizes)
 }
 
+// The sheet's lines, or what it is refused for.
+// Stays (no plainer): two streams: a struct of both would name both types still, and each use takes one of them.
 fn inspect(output: &mut impl Write, errors: &mut impl Write, bytes: &[u8]) -> io::Result<()> {
-    let mut tokens = TokenArrays {
-        tags: [0; MOST_TOKENS],
-        values: [0; MOST_TOKENS],
-    };
-    match sheet::read(bytes, &mut tokens) {
-        Ok(sizes) => {
-            let source = sheet::source_of(&tokens, sizes);
-            report(output, AcceptedSheet { bytes, sizes }, source)
-        }
+    let mut tokens = TokenArrays::none();
+    match sheet::read_sheet(bytes, &mut tokens) {
+        Ok(read) => report(output, read),
         Err(r) => arguments::refuse(errors, r),
     }
 }

@@ -44,7 +44,7 @@ kind-is : (t v : ℕ) (k : NodeKind) → kind_at t v ≡ some k → kind_in v �
 kind-is t v k g = go (eqb t 41) (kind_of v) g
   where
     go : (b : Bool) (o : Option NodeKind) → choose b o none ≡ some k → kind_or o ≡ k
-    go false o e = let z : ◌≡◌ {A = ℕ} 0 1 = cc in absurd (omega arith)
+    go false o e = absurd cc
     go true o e = rw e
 
 -- the kind that a value says, as it is found
@@ -224,7 +224,7 @@ nowhere = record { name = 0; kind = NodeKind.Function; inputs = []; outputs = []
 
 -- an item of a list, and that it is one
 pub item-at : {A : Type 0} (l : List A) (i : ℕ) (a : A) → get_elem? l i ≡ some a → (get_or l i a ≡ a) × (i < length l)
-item-at [] i a e = let z : ◌≡◌ {A = ℕ} 0 1 = cc in absurd (omega arith)
+item-at [] i a e = absurd cc
 item-at (b ∷ l) zero a e = (cc, omega arith)
 item-at (b ∷ l) (suc i) a e = let r = item-at l i a e in (r.0, omega (arith, r.1))
 

@@ -120,7 +120,7 @@ any-drop f e (suc p) [] = rw e refl
 any-drop f e zero (x ∷ l) = refl
 any-drop f e (suc p) (x ∷ l) = any-drop f e p l
 
-given-there : (b : Bool) (m : Mark) → there (given b m) ≡ b
+pub given-there : (b : Bool) (m : Mark) → there (given b m) ≡ b
 given-there true m = refl
 given-there false m = refl
 
@@ -196,7 +196,7 @@ module _ (test : ℕ → Bool) (gs vs : List ℕ) (same : length vs ≡ length g
   shows-return Q a h = record { showing = λ p b q g. let e : p ≡ q = cc in let i : a ≡ b = cc in (none, subst (λ (x : ℕ). Marks test gs vs p x none) e unmarked, subst (λ (x : _). Q x none) i h) }
 
   shows-rejected : {A : Type 0} (t : ℕ → Refusal) (Q : A → Option Mark → Type 0) → Shows (λ ts p. rejected (t p)) Q
-  shows-rejected t Q = record { showing = λ p b q g. let z : ◌≡◌ {A = ℕ} 0 1 = cc in absurd (omega arith) }
+  shows-rejected t Q = record { showing = λ p b q g. absurd cc }
 
   shows_then : {A B : Type 0} (r : Reader A) (f : A → Reader B) (P : A → Option Mark → Type 0) (Q : B → Option Mark → Type 0) → Shows r P → ((a : A) (x : Option Mark) → P a x → Shows (f a) (λ b y. Q b (first x y))) → Shows (r >>= f) Q
   shows_then r f P Q h i = record {

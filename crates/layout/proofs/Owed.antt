@@ -107,7 +107,7 @@ module _ (gs vs : List ℕ) (same : length vs ≡ length gs) where
   owes-return a = record { owing = λ p b q g m s d. let e : q ≡ p = cc in subst (λ (x : ℕ). Owed gs vs x (0 + m) s) e (change (omega arith) d) }
 
   owes-rejected : {A : Type 0} (t : ℕ → Refusal) (k : ℕ) → Owes {A = A} (λ ts p. rejected (t p)) k
-  owes-rejected t k = record { owing = λ p b q g m s d. let z : ◌≡◌ {A = ℕ} 0 1 = cc in absurd (omega arith) }
+  owes-rejected t k = record { owing = λ p b q g m s d. absurd cc }
 
   owes-then : {A B : Type 0} (r : Reader A) (f : A → Reader B) (k l : ℕ) → Owes r k → ((a : A) → Owes (f a) l) → Owes (r >>= f) (k + l)
   owes-then r f k l h i = record {

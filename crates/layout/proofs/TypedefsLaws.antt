@@ -35,12 +35,12 @@ use Rattle.layout.specs.Table.{nowhere, def_at, is_named, Found, FoundFirst, Tab
 
 -- what a reading was, by its good answer
 pub err-of : {A E : Type 0} (r : Result A E) (o : Option A) → o ≡ result_ok r → o ≡ None → (t : E) × (r ≡ Err t)
-err-of (Ok a) o e f = let z : ◌≡◌ {A = ℕ} 0 1 = cc in absurd (omega arith)
+err-of (Ok a) o e f = absurd cc
 err-of (Err t) o e f = (t, refl)
 
 pub ok-of : {A E : Type 0} (r : Result A E) (o : Option A) (a : A) → o ≡ result_ok r → o ≡ Some a → r ≡ Ok a
 ok-of {A} (Ok b) o a e f = let g : ◌≡◌ {A = Option A} (Some b) (Some a) = sym e ∙ f in cc
-ok-of (Err t) o a e f = let z : ◌≡◌ {A = ℕ} 0 1 = cc in absurd (omega arith)
+ok-of (Err t) o a e f = absurd cc
 
 -- a list that a loop fills, one element a turn: of each element so far, with its place, P is known
 pub filled-such : (P : ℕ → ℕ → Type 0) (l : List ℕ) (i v : ℕ) → i < length l → ((k : ℕ) → k < i → P k (get_or l k 0)) → P i v → (k : ℕ) → k < i + 1 → P k (get_or (set l i v) k 0)
@@ -141,12 +141,12 @@ token-id M tag v h e = go (eqb tag 10) (eqb tag 11) (eqb tag 12) (ltb v M) e
   where
     go : (a b c l : Bool) → choose a (given l (DefinitionToken.Enum v)) (choose b (given l (DefinitionToken.Record v)) (choose c (given l (DefinitionToken.Alias v)) none)) ≡ some h → id_of h ≡ v
     go true b c true e = let f : h ≡ DefinitionToken.Enum v = cc in rw f
-    go true b c false e = let z : ◌≡◌ {A = ℕ} 0 1 = cc in absurd (omega arith)
+    go true b c false e = absurd cc
     go false true c true e = let f : h ≡ DefinitionToken.Record v = cc in rw f
-    go false true c false e = let z : ◌≡◌ {A = ℕ} 0 1 = cc in absurd (omega arith)
+    go false true c false e = absurd cc
     go false false true true e = let f : h ≡ DefinitionToken.Alias v = cc in rw f
-    go false false true false e = let z : ◌≡◌ {A = ℕ} 0 1 = cc in absurd (omega arith)
-    go false false false l e = let z : ◌≡◌ {A = ℕ} 0 1 = cc in absurd (omega arith)
+    go false false true false e = absurd cc
+    go false false false l e = absurd cc
 
 -- a definition has the name of its first token
 definition-id : (M : ℕ) (ts : List TagValue) (p : ℕ) (h : DefinitionToken) (d : TypeDef) (q : ℕ) → definition M h ts p ≡ got d q → d.name ≡ id_of h
@@ -177,16 +177,17 @@ module _ (M : ℕ) (tags vs : List ℕ) (same_length : length vs ≡ length tags
     same = λ i h. let s = t.stands i h in definition-name (get_or places i 0) (def_at types i) s.0 s.1;
   }
 
--- the first item that passes a test, found among the places of all by what stands there
-module _ {A : Type 0} (f : ℕ → Bool) (p : A → Bool) (d : A) where
-  place-few : (l : List A) → place_by p l ≤ length l
-  place-few [] = omega arith
-  place-few (a ∷ l) = go (p a) (place-few l)
-    where
-      go : (b : Bool) → place_by p l ≤ length l → choose b 0 (suc (place_by p l)) ≤ suc (length l)
-      go true h = omega arith
-      go false h = omega arith
+-- the first item that passes a test is in the list, or behind its last
+pub place-few : {A : Type 0} (p : A → Bool) (l : List A) → place_by p l ≤ length l
+place-few p [] = omega arith
+place-few p (a ∷ l) = go (p a) (place-few p l)
+  where
+    go : (b : Bool) → place_by p l ≤ length l → choose b 0 (suc (place_by p l)) ≤ suc (length l)
+    go true h = omega arith
+    go false h = omega arith
 
+-- it is found among the places of all by what stands there
+module _ {A : Type 0} (f : ℕ → Bool) (p : A → Bool) (d : A) where
   first-place : (ps : List ℕ) (l : List A) → length ps ≡ length l → ((i : ℕ) → i < length l → f (get_or ps i 0) ≡ p (get_or l i d)) → position_or_len f ps ≡ place_by p l
   first-place [] [] e h = refl
   first-place [] (a ∷ l) e h = absurd (omega arith)
@@ -208,7 +209,7 @@ module _ {A : Type 0} (f : ℕ → Bool) (p : A → Bool) (d : A) where
 
       go : (t : Bool) → nat_lt (place_by p l) (length l) ≡ t → r ≡ cond t (Some (place_by p l)) None → Found (place_by p l) (length l) r
       go true j i = rw i (refl, ltb-true _ _ j)
-      go false j i = rw i (omega (arith, ltb-false _ _ j, place-few l))
+      go false j i = rw i (omega (arith, ltb-false _ _ j, place-few p l))
 
 -- the first definition of a name
 pub found-first : (vs places : List ℕ) (n : ℕ) (types : List TypeDef) (x : ℕ) → n ≤ length places → Named vs places n types → (r : Option ℕ) → r ≡ position (λ p. get_or vs p 0 == x) (take n places) → FoundFirst types x r
@@ -220,7 +221,7 @@ module _ (M : ℕ) (ts : List TagValue) (p : ℕ) (r : Result (DefinitionToken �
   describe-stop t e =
       let a = definition-got M ts p d q g in
       let f = told-refused (token (definition_token_of M) ts p) r t i e in
-      let z : ◌≡◌ {A = ℕ} 0 1 = cc in omega arith
+      cc
 
   module _ (h : DefinitionToken) (s : ℕ) (e : r ≡ Ok (h, s)) where
     pub definition-is : (k : DefinitionToken) → h ≡ k → definition M k ts s ≡ got d q
@@ -241,7 +242,7 @@ module _ (M : ℕ) (ts : List TagValue) (p : ℕ) (r : Result (TypeToken × ℕ)
   type-not-refused f e =
       let a = type-got M ts p depth t q g in
       let b = told-refused (token (type_token_of M) ts p) r f i e in
-      let z : ◌≡◌ {A = ℕ} 0 1 = cc in omega arith
+      cc
 
   module _ (h : TypeToken) (s : ℕ) (e : r ≡ Ok (h, s)) where
     pub type-is-basic : (b : Primitive) → h ≡ TypeToken.Basic b → t ≡ Ty.primitive b

@@ -1,25 +1,24 @@
 -- The lines of a node's listing, one behind another. Assumes nothing.
 use mathlib.Core.Path.{◌≡◌, refl, sym, ◌∙◌, ap}
 use mathlib.Core.List.{List, [], ◌∷◌, ◌++◌, map, append_assoc, append-nil}
-use mathlib.Core.Bool.{Bool, true, false}
 use mathlib.Core.Option.{Option}
-use Prim.Native.Nat.{ℕ, suc, ◌+◌, ◌*◌, ◌<◌}
+use Prim.Native.Nat.{ℕ, suc, ◌+◌, ◌<◌}
 use native.Mathlib.Omega.{arith}
 use native.Mathlib.Numerals.{add-one}
 use lib.ListN.{length, get_or, take, length-append, length-map}
 use lib.Seq.{take-suc}
 use Rattle.std.proofs.lemmas.List.{map-append}
-use Rattle.definitions.specs.Lists.{choose, any, join, numbered, Letters}
+use Rattle.definitions.specs.Lists.{join, numbered, Letters}
 use Rattle.definitions.specs.Tree.{Equation, Node}
 use Rattle.definitions.specs.Clock.{Clock}
-use Rattle.definitions.specs.InferClocks.{Formed, deep, formed, ◌>>=◌, Natural, Clocks, Clocked, Clocking, Inferred, Finding, found, NodeFault, is_too_deep, natural, or_base, clocked_by, check_equation, inferred, clocking, chains, clock_faults}
+use Rattle.definitions.specs.InferClocks.{Formed, deep, formed, ◌>>=◌, Natural, Clocks, Clocked, Clocking, Finding, natural, or_base, clocked_by, clocking, chains, clock_faults}
 use Rattle.definitions.specs.Texts.{fault_line}
 use Rattle.definitions.specs.Answer.{node_clocks, node_listing}
+use Rattle.shapes.proofs.Formed.{clocked}
 use Rattle.clock_tables.specs.Value.{value_of}
 use Rattle.clock_tables.specs.declared.clock.Clock as value
 use Rattle.std.specs.Prelude.{Some, None}
-use Rattle.findings.specs.Findings.{finding_in, findings_in}
-use Rattle.findings.proofs.Laws.{none_yet, faults-one, faults-no}
+use Rattle.findings.specs.Findings.{findings_in}
 use Rattle.spelling.specs.Places.{letters_in}
 use Rattle.chain_order.specs.Order.{row_of, ordered_clocks}
 use Rattle.chain_order.specs.declared.OrderedClocks.{OrderedClocks}
@@ -38,21 +37,6 @@ use Rattle.lines.specs.declared.equation_clocks.EquationClocks.{EquationClocks}
 use Rattle.lines.proofs.Walks.{clocks-next, clocks-end}
 use Rattle.lines.proofs.Listing.{put-numbered}
 use Rattle.lines.proofs.Spelled.{spells_then, spells_as, spells_none, line_more, listing_spelled}
-
--- ---- a line for each fault of the first rows
-module _ (line : (ℕ → Letters) → NodeFault → Letters) (t : List ℕ) (w : NamedText) where
-  pub faults-none : Spells (λ n. join (map (line n) (clock_faults (findings_in t 0)))) w w
-  faults-none = spells_as (λ n. ap (λ (l : List NodeFault). join (map (line n) l)) (sym (none_yet t).0)) (spells_none w)
-
-  module _ (i : ℕ) (f : Finding) (e : f ≡ finding_in t (38 * i)) {w₁ : NamedText} where
-    pub fault-line : (g h : NodeFault) {w₂ : NamedText} → f ≡ found g → h ≡ g
-        → Spells (λ n. join (map (line n) (clock_faults (findings_in t i)))) w w₁ → Spells (λ n. line n h) w₁ w₂ → Spells (λ n. join (map (line n) (clock_faults (findings_in t (i + 1))))) w w₂
-    fault-line g h a b u v =
-        let c : clock_faults (findings_in t i) ++ (h ∷ []) ≡ clock_faults (findings_in t (i + 1)) = ap (λ (y : NodeFault). clock_faults (findings_in t i) ++ (y ∷ [])) b ∙ sym (faults-one t i f e a) in
-        spells_as (λ n. ap (λ (l : List NodeFault). join (map (line n) l)) c) (line_more line (clock_faults (findings_in t i)) h u v)
-
-    pub fault-pass : clock_faults (f ∷ []) ≡ [] → Spells (λ n. join (map (line n) (clock_faults (findings_in t i)))) w w₁ → Spells (λ n. join (map (line n) (clock_faults (findings_in t (i + 1))))) w w₁
-    fault-pass a u = spells_as (λ n. ap (λ (l : List NodeFault). join (map (line n) l)) (sym (faults-no t i f e a))) u
 
 -- ---- a line for each chain
 module _ (f : ℕ → Clock) (o : List ℕ) (w : NamedText) where
@@ -76,8 +60,8 @@ module _ (clocks : Clocks) where
     where
       go : (v : Natural) (w : Formed (List Clocked)) → natural clocks e.right ≡ v → clocked_by clocks es ≡ w → (v >>= λ o. w >>= λ rest. formed (record { clock = or_base o; equation = e } ∷ rest)) ≡ formed cs
           → (o : Option Clock) × (ds : List Clocked) × (natural clocks e.right ≡ formed o) × (clocked_by clocks es ≡ formed ds) × (cs ≡ record { clock = or_base o; equation = e } ∷ ds)
-      go deep w a b k = let z : ◌≡◌ {A = ℕ} 0 1 = cc in absurd (omega arith)
-      go (formed o) deep a b k = let z : ◌≡◌ {A = ℕ} 0 1 = cc in absurd (omega arith)
+      go deep w a b k = absurd cc
+      go (formed o) deep a b k = absurd cc
       go (formed o) (formed ds) a b k = let x : cs ≡ record { clock = or_base o; equation = e } ∷ ds = cc in (o, ds, a, b, x)
 
   clocked-nil : (cs : List Clocked) → clocked_by clocks [] ≡ formed cs → cs ≡ []
@@ -124,32 +108,9 @@ module _ (line : ℕ → Clock → Letters) (w : TextWriter) (all : List Clock) 
         wrote_as (ap (λ (l : List Clock). join (numbered line 0 l)) z) h.lines
 
 -- ---- a node
--- a node's equations have the clocks that its names' clocks say
-node-clocked : (n : Node) (k : Clocking) → clocking n ≡ formed k → clocked_by k.names n.equations ≡ formed k.equations
-unfolding clocking
-node-clocked n k h = go (inferred n) h
-  where
-    same : (x : Clocking) → x ≡ k → clocked_by x.names n.equations ≡ formed x.equations → clocked_by k.names n.equations ≡ formed k.equations
-    same x e g = rw e at g
-
-    last : (b : Bool) (x : Clocking) → choose b deep (formed x) ≡ formed k → clocked_by x.names n.equations ≡ formed x.equations → clocked_by k.names n.equations ≡ formed k.equations
-    last true x e g = let z : ◌≡◌ {A = ℕ} 0 1 = cc in absurd (omega arith)
-    last false x e g = let y : x ≡ k = cc in same x y g
-
-    said : Inferred → List Clocked → Formed Clocking
-    said r es = choose (any is_too_deep (join (numbered (check_equation n r.clocks) 0 es))) deep (formed (record { passes = r.passes; names = r.clocks; equations = es; findings = join (numbered (check_equation n r.clocks) 0 es) }))
-
-    more : (r : Inferred) (w : Formed (List Clocked)) → clocked_by r.clocks n.equations ≡ w → (w >>= λ es. said r es) ≡ formed k → clocked_by k.names n.equations ≡ formed k.equations
-    more r deep e g = let z : ◌≡◌ {A = ℕ} 0 1 = cc in absurd (omega arith)
-    more r (formed es) e g = last (any is_too_deep (join (numbered (check_equation n r.clocks) 0 es))) (record { passes = r.passes; names = r.clocks; equations = es; findings = join (numbered (check_equation n r.clocks) 0 es) }) g e
-
-    go : (v : Formed Inferred) → (v >>= λ r. clocked_by r.clocks n.equations >>= λ es. said r es) ≡ formed k → clocked_by k.names n.equations ≡ formed k.equations
-    go deep g = let z : ◌≡◌ {A = ℕ} 0 1 = cc in absurd (omega arith)
-    go (formed r) g = more r (clocked_by r.clocks n.equations) refl g
-
 -- as many clocks as the node has equations
 pub node-many : (n : Node) (k : Clocking) → clocking n ≡ formed k → length k.equations ≡ length n.equations
-node-many n k h = sym (length-map k.equations (λ (c : Clocked). c.clock)) ∙ clocked-many k.names n.equations k.equations (node-clocked n k h)
+node-many n k h = sym (length-map k.equations (λ (c : Clocked). c.clock)) ∙ clocked-many k.names n.equations k.equations (clocked n k h)
 
 head-same : (letters : ℕ → Letters) (a a' b b' c c' d d' : ℕ) → a ≡ a' → b ≡ b' → c ≡ c' → d ≡ d' → head_line letters a b c d ≡ head_line letters a' b' c' d'
 head-same letters a a' b b' c c' d d' e f g h = rw (e, f, g, h)
@@ -175,7 +136,7 @@ node-put l o n {w} {w₄ = w₄} same h e u v x y =
     spells_then
     (listing_spelled n.node.name k.passes clocks (chains letters k.findings)
     (spells_as (λ s. head-same s _ _ _ _ _ _ _ _ h.laid.named many (sym h.tells.made) few) u)
-    (v told.names k.equations told.layout.equations.end h.tells.on all)
+    (v l.named.source.names k.equations told.layout.equations.end h.tells.on all)
     (spells_as (λ s. ap (λ (l : List Clock). join (map (chain_line s) l)) ch) x))
     (spells_as (λ s. ap (λ (l : List Finding). join (map (fault_line s told.number) (clock_faults l))) h.tells.all) y) in
     rw same at whole.wrote

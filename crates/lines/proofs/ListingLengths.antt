@@ -2,7 +2,7 @@
 use mathlib.Core.Path.{◌≡◌, refl, ap}
 use mathlib.Core.List.{List, [], ◌∷◌, ◌++◌, map}
 use mathlib.Core.Bool.{Bool, true, false}
-use Prim.Native.Nat.{ℕ, zero, suc, ◌+◌, ◌-◌, ◌*◌, ◌≤◌, ◌<◌, Ordering}
+use Prim.Native.Nat.{ℕ, zero, suc, ◌+◌, ◌-◌, ◌*◌, ◌≤◌, Ordering}
 use native.Mathlib.Omega.{arith}
 use lib.ListN.{length, get_or, length-append, length-map}
 use lib.Dec.{eqb, ltb}
@@ -12,7 +12,7 @@ use Rattle.definitions.specs.Bytes.{tokens}
 use Rattle.definitions.specs.Tree.{Equation}
 use Rattle.definitions.specs.Reading.{got, times}
 use Rattle.definitions.specs.Grammar.{equation}
-use Rattle.definitions.specs.Clock.{Clock, depth, is_base, chain_order, insert, in_chain_order}
+use Rattle.definitions.specs.Clock.{Clock, depth, chain_order, insert, in_chain_order}
 use Rattle.definitions.specs.InferClocks.{Clocked, Finding, left_elsewhere, used_elsewhere, when_elsewhere, clock_name_elsewhere, found, site, too_deep, chains, sites, clock_faults}
 use Rattle.definitions.specs.Texts.{listing, fault_line}
 use Rattle.definitions.specs.Answer.{node_clocks, node_listing}
@@ -27,6 +27,7 @@ use Rattle.spelling.specs.Places.{letters_in}
 use Rattle.chain_order.specs.Order.{row_of}
 use Rattle.skeleton.specs.Sites.{EquationsOn}
 use Rattle.spelling.specs.Writing.{farthest}
+use Rattle.infer_clocks.proofs.Laws.{few-sites}
 use Rattle.lines.specs.Pieces.{head_line, equation_line, chain_line}
 use Rattle.lines.proofs.Pieces.{listing-pieces}
 use Rattle.lines.proofs.TextsLengths.{IsShallow, name-length, head-length, equation-length, chain_length, line-length, Within, join-length}
@@ -41,17 +42,6 @@ use Rattle.lines.proofs.Laws.{node-many}
 numbered-length : {A B : Type 0} (f : ℕ → A → B) (k : ℕ) (l : List A) → length (numbered f k l) ≡ length l
 numbered-length f k [] = refl
 numbered-length f k (a ∷ l) = ap suc (numbered-length f (suc k) l)
-
-few-sites : (l : List Finding) → length (sites l) ≤ length l
-unfolding sites
-few-sites [] = omega arith
-few-sites (found f ∷ l) = omega (arith, few-sites l)
-few-sites (too_deep ∷ l) = omega (arith, few-sites l)
-few-sites (site c ∷ l) = go (is_base c) (few-sites l)
-  where
-    go : (b : Bool) → length (sites l) ≤ length l → length (choose b (sites l) (c ∷ sites l)) ≤ suc (length l)
-    go true h = omega arith
-    go false h = omega arith
 
 pub few-faults : (l : List Finding) → length (clock_faults l) ≤ length l
 unfolding clock_faults
@@ -184,13 +174,10 @@ node-fits l o n h e small =
     let tags = l.named.source.tags.now in
     let values = l.named.source.values.now in
     let short : (j : ℕ) → length (letters j) ≤ 16384 = λ j. omega (arith, name-length l.named.spelling.starts.now l.named.spelling.letters.now j, small.short.few-letters) in
-    let b : Low (map (λ (c : Clocked). c.clock) k.equations) = low-read told.names tags values l.sites.now k.equations told.layout.equations.at told.layout.equations.end h.tells.on in
+    let b : Low (map (λ (c : Clocked). c.clock) k.equations) = low-read l.named.source.names tags values l.sites.now k.equations told.layout.equations.at told.layout.equations.end h.tells.on in
     let c : Low (chains letters (findings_in t told.clocked.findings)) = rw e at (low-rows o.rows.now o.order.now) in
     let d : length (map (λ (c : Clocked). c.clock) k.equations) ≤ 4096 =
-    omega (arith, length-map k.equations (λ (c : Clocked). c.clock), node-many n.node k h.formed, h.laid.equations.many, few-equations told.names (tokens tags values) told.layout.equations.count told.layout.equations.at n.node.equations told.layout.equations.end h.laid.equations.items, tokens-length tags values l.named.source.same_length, small.short.few-tokens) in
+    omega (arith, length-map k.equations (λ (c : Clocked). c.clock), node-many n.node k h.formed, h.laid.equations.many, few-equations l.named.source.names (tokens tags values) told.layout.equations.count told.layout.equations.at n.node.equations told.layout.equations.end h.laid.equations.items, tokens-length tags values l.named.source.same_length, small.short.few-tokens) in
     let g : length (chains letters (findings_in t told.clocked.findings)) ≤ 4096 = omega (arith, few-chains letters (findings_in t told.clocked.findings), length_from t 0 told.clocked.findings, small.findings) in
     let r = parts-fit letters short told.number n.node.name k.passes told.clocked.findings (map (λ (c : Clocked). c.clock) k.equations) (chains letters (findings_in t told.clocked.findings)) t b c d g small.findings in
     rw h.tells.all at r
-
-pub few : (n : ℕ) → n ≤ 4096 → n < 4294967296
-few n h = omega arith

@@ -1,26 +1,20 @@
 -- A clocked node that is listed.
-use Rattle.std.specs.Prelude.{ℕ, ◌≤◌, ◌≡◌}
+use Rattle.std.specs.Prelude.{◌≤◌, ◌≡◌}
 use Rattle.definitions.specs.Lists.{Letters}
-use Rattle.definitions.specs.InferClocks.{formed, clocking, chains}
+use Rattle.definitions.specs.InferClocks.{chains}
 use Rattle.definitions.specs.Output.{ClockedNode}
 use Rattle.definitions.specs.Answer.{node_listing}
-use Rattle.grammar.specs.Read.{tokens_of}
 use Rattle.spelling.specs.Places.{letters_in}
 use Rattle.spelling.specs.Named.{Short}
-use Rattle.layout.specs.Laid.{LaidNode}
 use Rattle.findings.specs.Findings.{findings_in}
 use Rattle.chain_order.specs.Order.{ordered_clocks}
 use Rattle.chain_order.specs.declared.OrderedClocks.{OrderedClocks}
-use Rattle.lines.specs.ToldClocks.{ToldClocks}
+use Rattle.lines.specs.ToldClocks.{NodeWithClocks}
 use Rattle.lines.specs.declared.ListedNode.{ListedNode}
 
 -- the node that is listed, with its clocks, is n: laid out so, and what was told and found is of its clocks
--- Stays (proof): as a short name for a record over the tables, which `query` has too, it would not tell the struct (`node-short` there).
-pub record Lists (l : ListedNode) (n : ClockedNode) : Type 0 where
-  pub end : ℕ
-  pub laid : LaidNode l.told.names (tokens_of l.named.source) n.node end l.told.layout
-  pub formed : clocking n.node ≡ formed n.clocking
-  pub tells : ToldClocks l.named.source.tags.now l.named.source.values.now l.table.now l.sites.now l.told n.clocking
+abbrev pub Lists : ListedNode → ClockedNode → Type 0
+Lists l n = NodeWithClocks l.named.source l.table.now l.sites.now l.told n
 
 -- these are its chains, in order
 abbrev pub AreChains : ListedNode → OrderedClocks → Type 0

@@ -26,7 +26,7 @@ use chain_order::OrderedClocks;
 use clock_tables::Clock;
 use definitions::{Condition, Refusal, Test};
 pub use equation_clocks::EquationClocks;
-use findings::{ClockFault, Elsewhere, Fault, Finding, FindingList};
+use findings::{ClockFault, Elsewhere, Fault, FindingList};
 use infer_clocks::NodeClocked;
 use layout::NodeLayout;
 use spelling::{NamedSource, Spelling, TextWriter};
@@ -326,13 +326,25 @@ pub fn text_into(out: &mut [u8], spelling: Spelling<'_>, fault: Fault) -> Result
 
 // ---- A node's clock listing put at a place of lent bytes.
 
-// A node: its layout and its number, how many names its sheet has, and what clock inference told of it.
+// A node: its layout and its number, and what clock inference told of it.
 #[derive(Clone, Copy)]
 pub struct ToldNode {
     pub layout: NodeLayout,
     pub number: usize,
-    pub names: u32,
     pub clocked: NodeClocked,
+}
+
+impl ToldNode {
+    // What was found in it, of the table that this was put into.
+    pub fn findings<'a>(&self, table: &'a [u32]) -> FindingList<'a>
+        ensures words_value { result.words.now ≡ table.now }
+        ensures count_value { result.count ≡ self.now.clocked.findings }
+    {
+        FindingList {
+            words: table,
+            count: self.clocked.findings,
+        }
+    }
 }
 
 // A clocked node to be listed: the names and tokens of its sheet, what was told of it, the table of what was found, and the clock of each
@@ -352,10 +364,7 @@ impl ListedNode<'_> {
         ensures words_value { result.words.now ≡ self.now.table.now }
         ensures count_value { result.count ≡ self.now.told.clocked.findings }
     {
-        FindingList {
-            words: self.table,
-            count: self.told.clocked.findings,
-        }
+        self.told.findings(self.table)
     }
 
     // The clocks of its equations, one after another.
@@ -382,16 +391,11 @@ impl ListedNode<'_> {
     }
 
     // A line for each of its clock faults.
-    // Stays (no plainer): by number: a fault is one case of a finding, so that over an iterator the walk would keep its `if let`.
     fn put_faults(&self, lines: &mut NamedText<'_, '_>)
         ensures { Spells (λ n. join (map (fault_line n self.now.told.number) (clock_faults (findings_in self.now.table.now self.now.told.clocked.findings)))) lines.old lines.new }
     {
-        let found = self.findings();
-        for i in 0..found.count {
-            if let Finding::Fault { equation, fault } = found.finding_at(i) {
-                let fault = Fault::Clock(fault);
-                lines.put_fault_line(self.told.number, equation as usize, fault);
-            }
+        for found in self.findings().faults() {
+            lines.put_fault_line(self.told.number, found.equation as usize, found.fault);
         }
     }
 

@@ -18,6 +18,7 @@ use Rattle.definitions.specs.Refusals.{Answer, accepted, refused, faulty, ◌>>=
 use Rattle.definitions.specs.InferClocks.{Formed, deep, formed, Clocking, clocking}
 use Rattle.definitions.specs.Output.{letters_of}
 use Rattle.definitions.specs.Answer.{Input, clockings, node_at, node_listing}
+use Rattle.shapes.proofs.Facts.{over-there}
 use Rattle.grammar.proofs.Got.{times-nil, times-cons}
 use Rattle.parts.specs.Bytes.{written_answer, written_bytes}
 use Rattle.lines.specs.Lending.{lent_text}
@@ -69,12 +70,6 @@ only-listed i M ts count from q g e lent after r h =
 pub all_listed : (letters : ℕ → Letters) (i : Input) (lent after : List ℕ) (r : Result ℕ Refusal) → letters ≡ letters_of i.names → ListingGiven (nodes_listed letters i.sheet.nodes (length lent)) lent after r → ListingGiven (listings_of i (length lent)) lent after r
 all_listed letters i lent after r e h = listing-same (listings_of i (length lent)) (nodes_listed letters i.sheet.nodes (length lent)) lent after r (ap (λ (f : ℕ → Letters). nodes_listed f i.sheet.nodes (length lent)) (sym e)) h
 
--- the front of bytes that a text was written over
-take-over : (t s : List ℕ) → length t ≤ length s → take (length t) (over t s) ≡ t
-take-over [] s h = refl
-take-over (a ∷ t) [] h = absurd (omega arith)
-take-over (a ∷ t) (b ∷ s) h = ap (λ (r : List ℕ). a ∷ r) (take-over t s (omega arith))
-
 -- each item's text of those that are answered
 pub lent-each : {A : Type 0} (v : Answer A) (text : A → Letters) (lent : ℕ) → lent_answer (v >>= λ a. accepted (text a)) lent ≡ (v >>= λ a. lent_text (text a) lent)
 lent-each (accepted a) text lent = refl
@@ -100,7 +95,7 @@ module _ (v : Answer Letters) (aside aside' lent : List ℕ) where
     aside-lent room after a g =
         let p = put_text.2 in
         let text = put_text.0 in
-        let w : take m aside' ≡ text = ap (λ (n : ℕ). take n aside') p.long ∙ (ap (take (length text)) (p.bytes ∙ over-front text aside) ∙ take-over text aside (omega (arith, room, p.long))) in
+        let w : take m aside' ≡ text = ap (λ (n : ℕ). take n aside') p.long ∙ (ap (take (length text)) (p.bytes ∙ over-front text aside) ∙ over-there text aside (omega (arith, room, p.long))) in
         as-answered after a (subst (λ (t : List ℕ). ListingGiven (lent_text t (length lent)) lent after a) w g)
 
     -- 12
@@ -115,7 +110,7 @@ module _ (v : Answer Letters) (aside aside' lent : List ℕ) where
     unfolding TextStands
     put-again (Err r) after enough s =
         let x : accepted put_text.0 ≡ refused r = sym put_text.1 ∙ s in
-        let z : ◌≡◌ {A = ℕ} 0 1 = cc in absurd (omega arith)
+        absurd cc
     put-again (Ok q) after enough s =
         let x : accepted s.0 ≡ accepted put_text.0 = sym s.1 ∙ put_text.1 in
         let y : s.0 ≡ put_text.0 = cc in

@@ -8,84 +8,41 @@ use Rattle.std.proofs.Common.{Result, Ok, Err}
 use Rattle.definitions.specs.declared.Refusal.{Refusal}
 use Rattle.definitions.specs.declared.FaultRecord.{FaultRecord}
 use Rattle.definitions.specs.Lists.{Letters}
-use Rattle.definitions.specs.Refusals.{Answer, accepted, refused, faulty, down, told, ◌>>=◌}
+use Rattle.definitions.specs.Refusals.{Answer, accepted, ◌>>=◌}
 use Rattle.definitions.specs.Output.{letters_of, ClockedNode}
-use Rattle.definitions.specs.Answer.{Input, input, NodeClocks, node_at, node_clocks, node_listing, clocks_answer, listing_answer, listings_answer}
+use Rattle.definitions.specs.Answer.{Input, node_at, node_clocks, node_listing}
 use Rattle.lines.specs.declared.ToldNode as listing
 use Rattle.lines.specs.Lending.{lent_text, Gives}
 use Rattle.query.specs.declared.NodeCounts.{NodeCounts}
+use Rattle.grammar.specs.declared.source.Source.{Source}
 use Rattle.spelling.specs.declared.named.NamedSource.{NamedSource}
 use Rattle.spelling.specs.Named.{Short}
-use Rattle.query.specs.Standing.{Standing, NodeWithClocks, NodeTold}
+use Rattle.lines.specs.ToldClocks.{NodeWithClocks}
+use Rattle.query.specs.Standing.{Standing, NodeTold}
 use Rattle.query.specs.Words.{Written}
-use Rattle.listings.specs.Answers.{clocks_of, listing_of, listings_of, listing_answered, ClocksGiven, ListingGiven}
+use Rattle.listings.specs.Answers.{clocks_of, listing_of, listing_answered, ClocksGiven, ListingGiven}
 
 -- a sheet that stands is short
 pub short-of : {n : NamedSource} {i : Input} → Standing n.spelling n.source i → Short n
 short-of s = record { few-letters = s.few-letters; few-tokens = s.few-tokens }
 
--- ---- refusals 1 to 7
-module _ {A : Type 0} (f : Input → Answer A) where
-  -- what is refused, whatever is asked
-  turned : (x : Answer Input) (t : Refusal) → told x ≡ down t → told (x >>= f) ≡ down t
-  turned (accepted i) t h = let z : ◌≡◌ {A = ℕ} 0 1 = cc in absurd (omega arith)
-  turned (refused r) t h = h
-  turned (faulty l) t h = h
-
-clocks-down : (k : ℕ) (v : Answer NodeClocks) (es cs : List ℕ) (fs : List FaultRecord) (t : Refusal) → told v ≡ down t → ClocksGiven k v es cs fs es cs fs (Err t)
-clocks-down k (accepted q) es cs fs t h = let z : ◌≡◌ {A = ℕ} 0 1 = cc in absurd (omega arith)
-clocks-down k (refused r) es cs fs t h = let e : t ≡ r = cc in record { answer = ap Err e; equations = refl; chains = refl; faults = refl }
-clocks-down k (faulty l) es cs fs t h = let e : t ≡ Refusal.Faulty (length l) = cc in record { answer = ap Err e; equations = refl; chains = refl; faults = refl }
-
-listing-down : (v : Answer Letters) (lent : List ℕ) (t : Refusal) → told v ≡ down t → ListingGiven v lent lent (Err t)
-listing-down (accepted q) lent t h = let z : ◌≡◌ {A = ℕ} 0 1 = cc in absurd (omega arith)
-listing-down (refused r) lent t h = let e : t ≡ r = cc in record { answer = ap Err e; bytes = refl }
-listing-down (faulty l) lent t h = let e : t ≡ Refusal.Faulty (length l) = cc in record { answer = ap Err e; bytes = refl }
-
-module _ (b : List ℕ) (t : Refusal) (h : told (input b) ≡ down t) where
-  pub clocks-refused : (k : ℕ) (es cs : List ℕ) (fs : List FaultRecord) → ClocksGiven k (clocks_answer b k) es cs fs es cs fs (Err t)
-  unfolding clocks_answer
-  clocks-refused k es cs fs = clocks-down k (input b >>= λ r. clocks_of r k) es cs fs t (turned (λ r. clocks_of r k) (input b) t h)
-
-  pub listing-refused : (k : ℕ) (lent : List ℕ) → ListingGiven (listing_answer b k (length lent)) lent lent (Err t)
-  unfolding listing_answer
-  listing-refused k lent = listing-down (input b >>= λ r. listing_of r k (length lent)) lent t (turned (λ r. listing_of r k (length lent)) (input b) t h)
-
-  pub listings-refused : (lent : List ℕ) → ListingGiven (listings_answer b (length lent)) lent lent (Err t)
-  unfolding listings_answer
-  listings-refused lent = listing-down (input b >>= λ r. listings_of r (length lent)) lent t (turned (λ r. listings_of r (length lent)) (input b) t h)
-
--- ---- a sheet that was read
-module _ (b : List ℕ) (i : Input) (h : input b ≡ accepted i) where
-  pub clocks-read : (k : ℕ) → clocks_answer b k ≡ clocks_of i k
-  unfolding clocks_answer
-  clocks-read k = rw h
-
-  pub listing-read : (k lent : ℕ) → listing_answer b k lent ≡ listing_of i k lent
-  unfolding listing_answer
-  listing-read k lent = rw h
-
-  pub listings-read : (lent : ℕ) → listings_answer b lent ≡ listings_of i lent
-  unfolding listings_answer
-  listings-read lent = rw h
-
 pub listing-same : (v w : Answer Letters) (lent after : List ℕ) (r : Result ℕ Refusal) → v ≡ w → ListingGiven w lent after r → ListingGiven v lent after r
 listing-same v w lent after r e g = rw e g
 
 -- ---- refusals 8 and 9
-module _ (M : ℕ) (gs vs t sites : List ℕ) (i : Input) (k : ℕ) where
-  pub clocks-turned : (r : Refusal) (es cs : List ℕ) (fs : List FaultRecord) → NodeTold M gs vs t sites k (Err r) (node_at i k) → ClocksGiven k (clocks_of i k) es cs fs es cs fs (Err r)
+module _ (s : Source) (t sites : List ℕ) (i : Input) (k : ℕ) where
+  pub clocks-turned : (r : Refusal) (es cs : List ℕ) (fs : List FaultRecord) → NodeTold s t sites k (Err r) (node_at i k) → ClocksGiven k (clocks_of i k) es cs fs es cs fs (Err r)
   unfolding NodeTold
   clocks-turned r es cs fs h = rw h (record { answer = refl; equations = refl; chains = refl; faults = refl })
 
-  pub listing-turned : (r : Refusal) (lent : List ℕ) → NodeTold M gs vs t sites k (Err r) (node_at i k) → ListingGiven (listing_of i k (length lent)) lent lent (Err r)
+  pub listing-turned : (r : Refusal) (lent : List ℕ) → NodeTold s t sites k (Err r) (node_at i k) → ListingGiven (listing_of i k (length lent)) lent lent (Err r)
   unfolding NodeTold
   listing-turned r lent h = rw h (record { answer = refl; bytes = refl })
 
   -- node k
-  pub node-there : (told : listing.ToldNode) → NodeTold M gs vs t sites k (Ok told) (node_at i k) → (n : ClockedNode) × (node_at i k ≡ accepted n) × NodeWithClocks gs vs t sites told n × (told.number ≡ k) × (k < 16)
+  pub node-there : (told : listing.ToldNode) → NodeTold s t sites k (Ok told) (node_at i k) → (n : ClockedNode) × (node_at i k ≡ accepted n) × NodeWithClocks s t sites told n × (told.number ≡ k) × (k < 16)
   unfolding NodeTold
-  node-there told h = (h.0, h.1, h.2, h.3, h.5)
+  node-there told h = h
 
 -- the clocks of node k
 pub clocks-given : (letters : ℕ → Letters) (i : Input) (k number : ℕ) (n : ClockedNode) (es cs : List ℕ) (fs : List FaultRecord) (es' cs' : List ℕ) (fs' : List FaultRecord) (r : NodeCounts) → letters ≡ letters_of i.names → number ≡ k → node_at i k ≡ accepted n

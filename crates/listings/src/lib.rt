@@ -14,7 +14,8 @@ ghost use Rattle.spelling.specs.Places.{letters_in};
 ghost use Rattle.spelling.specs.Named.{Short};
 ghost use Rattle.lines.specs.Lending.{lent_text, Gives};
 ghost use Rattle.workspace.specs.Room.{SameRoom, Ample, RoomToList};
-ghost use Rattle.query.specs.Standing.{Standing, NodeWithClocks};
+ghost use Rattle.lines.specs.ToldClocks.{NodeWithClocks};
+ghost use Rattle.query.specs.Standing.{Standing};
 ghost use Rattle.query.specs.Words.{Written};
 ghost use Rattle.listings.specs.Lending.{KeepsRoom, Puts, lent_answer};
 ghost use Rattle.listings.specs.Answers.{clocks_of, listing_of, nodes_listed, listings_of, ClocksGiven, ListingGiven};
@@ -42,7 +43,7 @@ fn write_clocked(
     chains: &mut [u32],
     faults: &mut [FaultRecord],
 ) -> NodeCounts
-    ensures { (n : ClockedNode) → NodeWithClocks named.entry.source.tags.now named.entry.source.values.now table.old sites.old told n → Ample table.old rows.old chain.old → told.number < 16 → Written told.number (node_clocks (letters_in named.entry.spelling) n) equations.old chains.old faults.old equations.new chains.new faults.new result }
+    ensures { (n : ClockedNode) → NodeWithClocks named.entry.source table.old sites.old told n → Ample table.old rows.old chain.old → told.number < 16 → Written told.number (node_clocks (letters_in named.entry.spelling) n) equations.old chains.old faults.old equations.new chains.new faults.new result }
 {
     let node = ListedNode {
         named,
@@ -63,7 +64,7 @@ fn put_clocked(
     chain: &mut [u32],
     sites: &mut [u32],
 ) -> Result<usize, Refusal>
-    ensures { (n : ClockedNode) → NodeWithClocks named.entry.source.tags.now named.entry.source.values.now table.old sites.old told n → Ample table.old rows.old chain.old → Short named.entry → Gives (node_listing (letters_in named.entry.spelling) told.number n) out.old result out.new }
+    ensures { (n : ClockedNode) → NodeWithClocks named.entry.source table.old sites.old told n → Ample table.old rows.old chain.old → Short named.entry → Gives (node_listing (letters_in named.entry.spelling) told.number n) out.old result out.new }
 {
     let node = ListedNode {
         named,
@@ -84,7 +85,7 @@ pub fn clocks_in(
     faults: &mut [FaultRecord],
 ) -> Result<NodeCounts, Refusal>
     ensures same_room { SameRoom working.old working.new }
-    ensures given { (i : Input) → Standing named.entry.spelling named.entry.source i → RoomToList named.entry.source.names (length named.entry.source.tags.now) working.old → ClocksGiven k (clocks_of i k) equations.old chains.old faults.old equations.new chains.new faults.new result }
+    ensures given { (i : Input) → Standing named.entry.spelling named.entry.source i → RoomToList named.entry.source working.old → ClocksGiven k (clocks_of i k) equations.old chains.old faults.old equations.new chains.new faults.new result }
 {
     let told = query::clock_at(&named.source, k, working)?;
     Ok(write_clocked(
@@ -108,7 +109,7 @@ pub fn listing_in(
     working: &mut Working<'_>,
 ) -> Result<usize, Refusal>
     ensures same_room { SameRoom working.old working.new }
-    ensures given { (i : Input) → Standing named.entry.spelling named.entry.source i → RoomToList named.entry.source.names (length named.entry.source.tags.now) working.old → ListingGiven (listing_of i k (length out.old)) out.old out.new result }
+    ensures given { (i : Input) → Standing named.entry.spelling named.entry.source i → RoomToList named.entry.source working.old → ListingGiven (listing_of i k (length out.old)) out.old out.new result }
 {
     let told = query::clock_at(&named.source, k, working)?;
     put_clocked(
@@ -160,7 +161,7 @@ fn listings_lent(
     working: &mut Working<'_>,
 ) -> Result<usize, Refusal>
     ensures same_room { SameRoom working.old working.new }
-    ensures given { (ns : List Node) (q : ℕ) → times nodes.count (node named.entry.source.names) (tokens_of named.entry.source) nodes.at ≡ got ns q → RoomToList named.entry.source.names (length named.entry.source.tags.now) working.old → Short named.entry → ListingGiven (nodes_listed (letters_in named.entry.spelling) ns (length out.old)) out.old out.new result }
+    ensures given { (ns : List Node) (q : ℕ) → times nodes.count (node named.entry.source.names) (tokens_of named.entry.source) nodes.at ≡ got ns q → RoomToList named.entry.source working.old → Short named.entry → ListingGiven (nodes_listed (letters_in named.entry.spelling) ns (length out.old)) out.old out.new result }
 {
     let put = |bytes: &mut [u8], tables: &mut Working<'_>| query::put_listings(
         bytes, named, nodes, tables,
@@ -175,7 +176,7 @@ pub fn listings_in(
     working: &mut Working<'_>,
 ) -> Result<usize, Refusal>
     ensures same_room { SameRoom working.old working.new }
-    ensures given { (i : Input) → Standing named.entry.spelling named.entry.source i → RoomToList named.entry.source.names (length named.entry.source.tags.now) working.old → ListingGiven (listings_of i (length out.old)) out.old out.new result }
+    ensures given { (i : Input) → Standing named.entry.spelling named.entry.source i → RoomToList named.entry.source working.old → ListingGiven (listings_of i (length out.old)) out.old out.new result }
 {
     let whole = layout::sheet_at(&named.source);
     let nodes = whole.nodes;

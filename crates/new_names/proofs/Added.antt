@@ -4,7 +4,6 @@ use lib.Dec.{leb}
 use mathlib.Core.Path.{◌≡◌, refl, sym, ap, ◌∙◌, subst, subst⁻¹}
 use mathlib.Core.Bool.{Bool, true, false, ◌||◌}
 use mathlib.Core.List.{List, [], ◌∷◌, ◌++◌, map, map-append, map-map}
-use native.Mathlib.Nat.{zero-add}
 use native.Mathlib.Numerals.{add-one}
 use native.Mathlib.Omega.{arith}
 use lib.ListN.{length, get_or, take, set, length-map, get_or-append}
@@ -15,13 +14,14 @@ use Rattle.definitions.specs.Tree.{Declared, Node}
 use Rattle.definitions.specs.Clock.{Clock, same_clock, in_chain_order}
 use Rattle.definitions.specs.Declock.{Stem, ck, first, hold, clock_place, declared}
 use Rattle.definitions.specs.Output.{stem_letters, id_of, add_name, add_names, letters_of, new_letters, new_id}
+use Rattle.shapes.proofs.Names.{id_below}
 use Rattle.spelling.specs.Writing.{over_at}
 use Rattle.spelling.proofs.Writing.{over_nothing, over-past, over-set, over-then, over-take, length_over}
 use Rattle.spelling.specs.declared.name_table.NameTable.{NameTable}
 use Rattle.spelling.specs.Table.{names_of, NamesHeld}
 use Rattle.spelling.specs.Free.{new_number, new_numbers, taken_of}
-use Rattle.spelling.proofs.Free.{new-letters}
-use Rattle.spelling.proofs.Table.{id-most, names-count, add-last-name}
+use Rattle.spelling.proofs.Free.{new-letters, up-add, up-length}
+use Rattle.spelling.proofs.Table.{names-count, add-last-name}
 use Rattle.clock_tables.specs.Rows.{clocks_in, RowsHold}
 use Rattle.clock_tables.proofs.RowsLaws.{has_all, has-count}
 use Rattle.clock_tables.proofs.Distinct.{Distinct, row-place}
@@ -35,17 +35,6 @@ use Rattle.new_names.specs.Filled.{Filled}
 use Rattle.new_names.specs.Names.{name_of, numbered_name, ordered_names, counted_names, ids_of, Numbered, ChainOrdered}
 
 -- ---- numbers in order
-up-add : (k m n : ℕ) → up_from k (m + n) ≡ up_from k m ++ up_from (k + m) n
-up-add k zero n = let e : k + 0 ≡ k = omega arith in rw (zero-add n, e)
-up-add k (suc m) n =
-    let e : suc m + n ≡ suc (m + n) = omega arith in
-    let f : suc k + m ≡ k + suc m = omega arith in
-    rw e (ap (λ (l : List ℕ). k ∷ l) (up-add (suc k) m n ∙ ap (λ (i : ℕ). up_from (suc k) m ++ up_from i n) f))
-
-up-length : (k n : ℕ) → length (up_from k n) ≡ n
-up-length k zero = refl
-up-length k (suc n) = ap suc (up-length (suc k) n)
-
 module _ {A : Type 0} (f : ℕ → A) where
   up-last : (i : ℕ) → map f (up_from 0 (i + 1)) ≡ map f (up_from 0 i) ++ (f i ∷ [])
   up-last i =
@@ -216,13 +205,8 @@ module _ (names : List Letters) (node : Node) (w : Needs) {needs : NodeNeeds} {t
 
   -- the table of the output's names, `condact` being needed, or not
   module _ {o : NameTable 1024 16384} (all : List Letters) where
-    pub locals-added : t.condact ≡ false → NamesHeld o (with_all all) → NamesHeld o (names_by names all node w)
-    locals-added e h =
-        let more = add_names all (new_names names node w) in
-        subst⁻¹ (λ (t : Bool). NamesHeld o (choose t (add_name more (bytes "condact")) more)) (sym f.gated ∙ e) (rw (all-names all) at h)
-
-    pub condact-added : t.condact ≡ true → NamesHeld o (add_name (with_all all) (bytes "condact")) → NamesHeld o (names_by names all node w)
-    condact-added e h =
+    pub names-added : (b : Bool) → t.condact ≡ b → NamesHeld o (choose b (add_name (with_all all) (bytes "condact")) (with_all all)) → NamesHeld o (names_by names all node w)
+    names-added b e h =
         let more = add_names all (new_names names node w) in
         subst⁻¹ (λ (t : Bool). NamesHeld o (choose t (add_name more (bytes "condact")) more)) (sym f.gated ∙ e) (rw (all-names all) at h)
 
@@ -248,11 +232,11 @@ module _ (names all : List Letters) (node : Node) {t : NameTable 1024 16384} (h 
 
 -- an id fits a word where there are few names
 pub id-fits : {many long : ℕ} (t : NameTable many long) → many < 4294967296 → (name : Letters) {r : ℕ} → r ≡ id_of (names_of t) name → r < 4294967296
-id-fits t few name e = omega (arith, id-most (names_of t) name, names-count t, t.few, few, e)
+id-fits t few name e = omega (arith, id_below (names_of t) name, names-count t, t.few, few, e)
 
 -- a clock among others has a place there
 pub place-there : (c : Clock) (cs : List Clock) → any (same_clock c) cs ≡ true → clock_place c cs < length cs
-place-there c [] h = absurd (let z : ◌≡◌ {A = ℕ} 0 1 = cc in omega arith)
+place-there c [] h = absurd cc
 place-there c (d ∷ cs) h = go (same_clock c d) h (place-there c cs)
   where
     go : (t : Bool) → (t || any (same_clock c) cs) ≡ true → (any (same_clock c) cs ≡ true → clock_place c cs < length cs) → choose t 0 (suc (place_by (same_clock c) cs)) < suc (length cs)

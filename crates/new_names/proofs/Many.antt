@@ -15,7 +15,8 @@ use Rattle.shapes.specs.Shape.{All}
 use Rattle.shapes.proofs.ClockNames.{NamedClock}
 use Rattle.runs.proofs.Growth.{OfClock}
 use Rattle.runs.proofs.Order.{order-in}
-use Rattle.runs.proofs.Names.{Apart, letters-eq, letters-self}
+use Rattle.shapes.proofs.Facts.{letters-eq}
+use Rattle.runs.proofs.Names.{Apart, letters-self}
 use Rattle.clock_tables.proofs.Distinct.{Distinct}
 use Rattle.stateless.specs.Need.{Needs}
 use Rattle.stateless.specs.Rewritten.{new_names, names_by}

@@ -6,7 +6,7 @@ use mathlib.Core.List.{List, [], ◌∷◌}
 use native.Mathlib.Omega.{arith}
 use lib.ListN.{length}
 use Rattle.definitions.specs.Lists.{choose, any, Letters, same_letters}
-use Rattle.runs.proofs.Names.{letters-eq}
+use Rattle.shapes.proofs.Facts.{letters-eq}
 
 -- the names without the first of these letters
 abbrev remove : Letters → List Letters → List Letters

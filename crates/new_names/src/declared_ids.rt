@@ -38,6 +38,14 @@ impl DeclaredIds {
         }
     }
 
+    // They, as many as there are.
+    pub(crate) fn ids(&self) -> &[u32]
+        ensures value { result.now ≡ take self.now.count self.now.ids }
+        ensures counted { length result.now ≤ 128 }
+    {
+        &self.ids[..self.count]
+    }
+
     // Those of a node.
     pub(crate) fn of(source: &Source<'_>, l: NodeLayout) -> DeclaredIds
         ensures { (n : Node) (q : ℕ) → LaidNode source.now.names (tokens_of source.now) n q l → length (declared n) ≤ 128 → take result.count result.ids ≡ map name_of (declared n) }

@@ -8,10 +8,9 @@ ghost use Rattle.spelling.specs.Stems.{stem_of};
 ghost use Rattle.spelling.specs.Places.{letters_in};
 ghost use Rattle.spelling.specs.Table.{NamesHeld};
 
-use crate::declared_ids::DeclaredIds;
 use clock_tables::ClockList;
 use definitions::MOST_NAMES;
-use spelling::{NewName, OutputNames, Spelling, StemName};
+use spelling::{NewName, OutputNames, StemName, TakenNames};
 
 // Which rows of the clocks stand in chain order, and how many; and the number of each row's name.
 // Stays (fixed memory): nothing is allocated, so the arrays have a place for each of the most names of an output.
@@ -37,20 +36,15 @@ impl FlagNames {
         }
     }
 
-    // The names of a stem for these clocks.
-    pub(crate) fn fill(
-        &mut self,
-        spelling: Spelling<'_>,
-        own: &DeclaredIds,
-        stem: StemName,
-        clocks: ClockList<'_>,
-    )
-        requires { clocks.count ≤ 1024 }
-        ensures sorted { Sorted (letters_in spelling.entry) clocks.entry.words.now self.new.order clocks.entry.count self.new.ordered }
-        ensures numbered { (all : List Letters) (node : Node) → letters_in spelling.entry ≡ letters_of all → take own.now.count own.now.ids ≡ map name_of (declared node) → Numbered all node (stem_of stem) self.new.numbers clocks.entry.count }
+    // The names of a stem for these clocks, none of those that are taken.
+    pub(crate) fn fill(&mut self, taken: TakenNames<'_>, stem: StemName, clocks: ClockList<'_>)
+        requires taken { length taken.ids.now ≤ 128 }
+        requires clocks { clocks.count ≤ 1024 }
+        ensures sorted { Sorted (letters_in taken.entry.spelling) clocks.entry.words.now self.new.order clocks.entry.count self.new.ordered }
+        ensures numbered { (all : List Letters) (node : Node) → letters_in taken.entry.spelling ≡ letters_of all → taken.entry.ids.now ≡ map name_of (declared node) → Numbered all node (stem_of stem) self.new.numbers clocks.entry.count }
     {
-        self.ordered = chain_order::sort_rows(spelling, clocks, &mut self.order);
-        crate::number_stem(spelling, own, stem, &mut self.numbers[0..clocks.count]);
+        self.ordered = chain_order::sort_rows(taken.spelling, clocks, &mut self.order);
+        taken.fill_numbers(stem, &mut self.numbers[0..clocks.count]);
     }
 
     // The rows in chain order.

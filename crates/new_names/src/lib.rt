@@ -19,11 +19,10 @@ mod flag_names;
 mod node_names;
 
 use clock_tables::ClockList;
-use declared_ids::DeclaredIds;
 use definitions::MOST_NAMES;
 pub use flag_names::FlagNames;
 pub use node_names::NodeNames;
-use spelling::{NewName, OutputNames, Spelling, StemName, TakenNames};
+use spelling::{NewName, OutputNames, StemName};
 
 // ---- What a node needs, and the tables of its new names.
 
@@ -57,18 +56,6 @@ fn is_crowded(needs: &NodeNeeds<'_>) -> bool
     MOST_NAMES < needs.flags.count
         || MOST_NAMES < needs.firsts.count
         || MOST_NAMES < needs.holds as usize
-}
-
-// The numbers of the first new names of a stem, as many as there are places for.
-fn number_stem(spelling: Spelling<'_>, own: &DeclaredIds, stem: StemName, out: &mut [u32])
-    requires { length out.old ≤ 1024 }
-    ensures { (all : List Letters) (node : Node) → letters_in spelling.entry ≡ letters_of all → take own.now.count own.now.ids ≡ map name_of (declared node) → out.new ≡ new_numbers (taken_of all node) (stem_of stem) (length out.old) }
-{
-    let taken = TakenNames {
-        spelling,
-        ids: &own.ids[..own.count],
-    };
-    taken.fill_numbers(stem, out);
 }
 
 // The names of a stem with these numbers added.

@@ -13,7 +13,7 @@ use crate::declared_ids::DeclaredIds;
 use crate::{FlagNames, NewIds, NodeNeeds, TooMany};
 use definitions::MOST_NAMES;
 use layout::NodeLayout;
-use spelling::{NamedSource, NewName, OutputNames, StemName};
+use spelling::{NamedSource, NewName, OutputNames, StemName, TakenNames};
 
 // A node's new names: those of its flags and first-tick flags; its holds' numbers, and how many; and whether `condact` is one.
 // Stays (fixed memory): nothing is allocated, so the array of numbers has a place for each of the most names of an output.
@@ -58,18 +58,15 @@ impl NodeNames {
         if crate::is_crowded(needs) {
             return Err(TooMany);
         }
-        let spelling = named.spelling;
         let own = DeclaredIds::of(&named.source, l);
-        self.flags.fill(spelling, &own, StemName::Ck, needs.flags);
-        self.firsts
-            .fill(spelling, &own, StemName::First, needs.firsts);
+        let taken = TakenNames {
+            spelling: named.spelling,
+            ids: own.ids(),
+        };
+        self.flags.fill(taken, StemName::Ck, needs.flags);
+        self.firsts.fill(taken, StemName::First, needs.firsts);
         self.holds = needs.holds as usize;
-        crate::number_stem(
-            spelling,
-            &own,
-            StemName::Hold,
-            &mut self.hold_numbers[0..self.holds],
-        );
+        taken.fill_numbers(StemName::Hold, &mut self.hold_numbers[0..self.holds]);
         self.condact = needs.condact;
         Ok(())
     }

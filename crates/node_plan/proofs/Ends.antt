@@ -17,6 +17,7 @@ use Rattle.definitions.specs.Grammar.{name}
 use Rattle.definitions.specs.Clock.{Clock, is_base, same_clock}
 use Rattle.definitions.specs.InferClocks.{Fault}
 use Rattle.definitions.specs.Declock.{Shape, bare, other, calls, clock_place, add_with_parents}
+use Rattle.shapes.proofs.Added.{has-parents}
 use Rattle.clock_tables.specs.Flat.{clock_in}
 use Rattle.operands.specs.Spread.{tree}
 use Rattle.layout.specs.declared.Span.{Span}
@@ -25,10 +26,10 @@ use Rattle.layout.specs.Spans.{Spanned, Spans}
 use Rattle.layout.specs.Laid.{LaidNode}
 use Rattle.index.specs.Callees.{NodesStand}
 use Rattle.stateless.specs.Need.{Needs, with_flag, with_gate, needed}
+use Rattle.stateless.specs.Leads.{Leads}
 use Rattle.stateless.specs.Yield.{shape_after}
 use Rattle.stateless.specs.Faults.{fault_in, flagged_fault, right_fault}
 use Rattle.stateless.specs.Whole.{several_needs, flagged_needs, right_needs}
-use Rattle.stateless.proofs.Growth.{has-parents}
 use Rattle.skeleton.specs.Lies.{LiesAt}
 use Rattle.skeleton.specs.Sites.{EquationSited}
 use Rattle.skeleton.proofs.Laws.{seen_at}
@@ -38,7 +39,7 @@ use Rattle.std.specs.Prelude.{Result, Ok, Err}
 use Rattle.std.specs.declared.option.Option as code
 use Rattle.typing.specs.After.{called_by}
 use Rattle.plan.specs.Tables.{Arrays, Tables, Begun}
-use Rattle.plan.specs.Planned.{Ahead, Ended, tree_codes, tree_holds}
+use Rattle.plan.specs.Planned.{Ended, tree_codes, tree_holds}
 use Rattle.plan.specs.Walks.{Setting, ground_of, Known, Roomy, Site, Leaves, Walks}
 use Rattle.plan.proofs.Closing.{ended_some, beside, there}
 use Rattle.plan.proofs.Walk.{ended-then, ended-stop, Sized}
@@ -153,7 +154,7 @@ module _ (A : Arrays) (condact : ℕ) (same : length A.values ≡ length A.tags)
           choose (is_base c) none (flagged_fault T.types T.nodes T.node condact e.left (shape_after T.types T.nodes T.node condact c e.right)) ≡ o
       fault-is T end lay N c e q K S =
           let i : is_base c ≡ false = ap is_base (sym S.row) ∙ k in
-          let h = meets e.left (shape_after T.types T.nodes T.node condact c e.right) T.types T.nodes T.node (shape_is T c e q K S) (lefts-stand A.names A.tags A.values same p l sp e q S.stands) (record { end = end; layout = lay; laid = N; table = K.table; defaulted = K.defaulted; declares = K.declares }) in
+          let h = meets e.left (shape_after T.types T.nodes T.node condact c e.right) T.types T.nodes T.node (shape_is T c e q K S) (lefts-stand A.names A.tags A.values same p l sp e q S.stands) (record { end = end; layout = lay; laid = N; typed = K.typed; declares = K.declares }) in
           ap (λ (b : Bool). choose b none (flagged_fault T.types T.nodes T.node condact e.left (shape_after T.types T.nodes T.node condact c e.right))) i ∙ sym h
 
       -- it meets a fault
@@ -193,9 +194,9 @@ module _ (A : Arrays) (condact : ℕ) (same : length A.values ≡ length A.tags)
               ended-goes (choose (is_base c) none (flagged_fault T.types T.nodes T.node condact e.left u)) (fault-is T end lay N c e q K S ∙ h)
               (noted A T condact s s' s'' y c e p q S P D.beside D.held (sited-on A condact c e p q S) (subst (λ (x : Needs). Begun s'' x) need D.begun)
               (λ w x G f H W a plan''' agree.
-              let a' : Ahead y'' w = subst (λ (x : Needs). Ahead x w) (sym need) a in
+              let a' : Leads y'' w = subst (λ (x : Needs). Leads x w) (sym need) a in
               let fl = gated-flags (gates_right condact (length e.left) u) c z in
-              let many-flags = a'.flags in
+              let many-flags = a'.flags.many in
               let len = ap (λ (cs : List Clock). length cs) fl in
               let room = R.flags in
               let grown = L.flags in
@@ -203,7 +204,7 @@ module _ (A : Arrays) (condact : ℕ) (same : length A.values ≡ length A.tags)
               let few = W.few-flags in
               let rp = R.plan in
               let lp = L.plan in
-              let place : clock_place c (add_with_parents c z.flags) ≡ clock_place c w.flags = ap (clock_place c) (sym fl) ∙ a'.flag-place c (subst (λ (cs : List Clock). any (same_clock c) cs ≡ true) (sym fl) (has-parents c z.flags i)) in
+              let place : clock_place c (add_with_parents c z.flags) ≡ clock_place c w.flags = ap (clock_place c) (sym fl) ∙ a'.flags.place c (subst (λ (cs : List Clock). any (same_clock c) cs ≡ true) (sym fl) (has-parents c z.flags i)) in
               let word = D.word (omega arith) (omega arith) (omega arith) in
               frame-of condact G (length e.left) (clock_place c w.flags) e.left refl u (get_or plan''' p 0) (agree ∙ subst (λ (m : ℕ). get_or s''.plan p 0 ≡ choose (gates_right condact (length e.left) u) (suc m) (choose (eqb (length e.left) 1) (suc m) 0)) place word) ∙
               ap (λ (b : Bool). frame_of b condact (get_or G (clock_place c w.flags) 0) e.left u) (sym i)))

@@ -7,6 +7,7 @@ use Prim.Native.Nat.{ℕ, suc, ◌*◌, ◌≤◌, ◌<◌}
 use native.Mathlib.Omega.{arith}
 use lib.ListN.{length, get_or, set}
 use lib.Dec.{eqb}
+use Rattle.std.proofs.Math.Bool.{or-true, or-false}
 use Rattle.definitions.specs.Lists.{choose}
 use Rattle.definitions.specs.Clock.{Clock}
 use Rattle.definitions.specs.Declock.{clock_place, add_with_parents}
@@ -15,14 +16,6 @@ use Rattle.stateless.specs.Need.{Needs, with_flag, with_gate}
 use Rattle.plan.specs.Tables.{Tables, Begun}
 use Rattle.plan.proofs.Closing.{beside, there, row-found, row-least}
 use Rattle.node_plan.specs.Noted.{Flagged}
-
-or-true : (b : Bool) → (b || true) ≡ true
-or-true true = refl
-or-true false = refl
-
-or-false : (b : Bool) → (b || false) ≡ b
-or-false true = refl
-or-false false = refl
 
 module _ (s : Tables) (plan' flags' : List ℕ) (p w n i k : ℕ) (d : Clock) (gated : Bool) (word : i < 4294967295 → w ≡ choose gated (suc i) (choose (eqb k 1) (suc i) 0))
     (A : (cs : List Clock) → RowsHold s.flags s.counts.flags cs → RowsHold flags' n (add_with_parents d cs)) (finds : (cs : List Clock) → 17 * n ≤ length flags' → RowsHold flags' n cs → i ≡ clock_place d cs) (y : Needs) (B : Begun s y) where

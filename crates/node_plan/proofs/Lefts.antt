@@ -1,7 +1,7 @@
 -- What left names meet, and a right side under the flag of its clock.
 -- Assumes nothing.
 use mathlib.Core.Path.{◌≡◌, refl, sym, ◌∙◌, ap}
-use mathlib.Core.Bool.{Bool, true, false, true≢false}
+use mathlib.Core.Bool.{Bool, true, false}
 use mathlib.Core.List.{List, [], ◌∷◌}
 use mathlib.Core.Option.{Option, none, some}
 use Prim.Native.Nat.{ℕ, ◌+◌, ◌≤◌, ◌<◌}
@@ -24,8 +24,9 @@ use Rattle.definitions.specs.InferClocks.{Fault, undeclared, no_default}
 use Rattle.definitions.specs.Declock.{Shape, bare, other, calls, declared, last_type}
 use Rattle.defaults.specs.Has.{is_some}
 use Rattle.typing.specs.declared.TypeFound.{TypeFound}
-use Rattle.typing.specs.Found.{IsFound, place_of}
-use Rattle.typing.proofs.Laws.{placed}
+use Rattle.clock_tables.specs.Words.{place_of}
+use Rattle.typing.specs.Found.{IsFound}
+use Rattle.typing.proofs.Laws.{or-none, placed}
 use Rattle.typing.proofs.Typed.{declared-at}
 use Rattle.findings.specs.declared.Fault as value
 use Rattle.std.specs.Option.{option_map, ok_or}
@@ -33,22 +34,8 @@ use Rattle.std.specs.declared.option.Option as code
 use Rattle.std.specs.declared.option.Option.TheVariants.{None, Some}
 use Rattle.node_plan.specs.Noted.{told_of, Typed}
 use Rattle.plan.specs.Tables.{Arrays}
-use Rattle.plan.proofs.Sites.{unless-there}
-use Rattle.stateless.specs.Faults.{unless, left_type_fault, left_fault, lefts_fault, several_fault, flagged_fault}
-
-unless-none : {A : Type 0} (o : Option A) (f : Fault) (b : Bool) → b ≡ is_some o → b ≡ false → some f ≡ unless o f
-unless-none none f b i j = refl
-unless-none (some a) f b i j = let z : ◌≡◌ {A = Bool} true false = sym i ∙ j in absurd (true≢false z)
-
-none-called : {f : ℕ} → ◌≡◌ {A = code.Option ℕ} (Some f) None → ⊥
-none-called e = cc
-
-some-same : {f g : ℕ} → ◌≡◌ {A = code.Option ℕ} (Some f) (Some g) → f ≡ g
-some-same e = cc
-
-or-none : (o : Option Fault) → o ≡ or_else o none
-or-none none = refl
-or-none (some f) = refl
+use Rattle.plan.proofs.Sites.{unless-none, unless-there}
+use Rattle.stateless.specs.Faults.{left_type_fault, left_fault, lefts_fault, several_fault, flagged_fault}
 
 module _ (types : List TypeDef) (l : List Node) (node : Node) where
   -- ---- a left name
@@ -101,7 +88,7 @@ module _ (types : List TypeDef) (l : List Node) (node : Node) where
       where
         go : (xs : List ℕ) → 1 ≡ length xs → m ≡ lefts_fault types l node xs → m ≡ flagged_fault types l node condact xs u
         go [] e k = absurd (omega arith)
-        go (x ∷ []) e k = k ∙ sym (or-none (left_fault types l node x))
+        go (x ∷ []) e k = k ∙ or-none (left_fault types l node x)
         go (x ∷ y ∷ xs) e k = absurd (omega arith)
 
     pub flagged-several : (n ≡ 1 → ⊥) → (u : Shape) (v : code.Option ℕ) → v ≡ called_by u → (f : ℕ) → v ≡ Some f → (f ≡ condact → ⊥) → m ≡ flagged_fault types l node condact xs u
@@ -111,9 +98,9 @@ module _ (types : List TypeDef) (l : List Node) (node : Node) where
         called xs k = by u (sym i ∙ c)
           where
             by : (u : Shape) → Some f ≡ called_by u → m ≡ several_fault types l node condact xs u
-            by bare e = let y : ⊥ = none-called e in absurd y
-            by other e = let y : ⊥ = none-called e in absurd y
-            by (calls g) e = let j : f ≡ g = some-same e in rw (ne_eqb g condact (λ y. o (j ∙ y))) k
+            by bare e = absurd cc
+            by other e = absurd cc
+            by (calls g) e = let j : f ≡ g = cc in rw (ne_eqb g condact (λ y. o (j ∙ y))) k
 
         go : (xs : List ℕ) → (n ≡ 1 → ⊥) → n ≡ length xs → m ≡ lefts_fault types l node xs → m ≡ flagged_fault types l node condact xs u
         go [] z e k = called [] k

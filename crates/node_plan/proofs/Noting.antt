@@ -1,27 +1,25 @@
 -- Equations one after another, and one by its right side and its flag.
 -- Assumes nothing.
 use mathlib.Core.Path.{◌≡◌, refl, sym, ◌∙◌, ap, subst}
-use mathlib.Core.Bool.{Bool, true, false, true≢false}
+use mathlib.Core.Bool.{false, true≢false}
 use mathlib.Core.List.{List, [], ◌∷◌}
 use mathlib.Core.Option.{Option}
-use mathlib.Core.Logic.{◌⊎◌, inl, inr}
+use mathlib.Core.Logic.{inl}
 use Prim.Native.Nat.{ℕ, suc, ◌+◌, ◌-◌, ◌≤◌, ◌<◌}
 use native.Mathlib.Omega.{arith}
-use lib.Dec.{eqb}
 use lib.ListN.{length}
-use Rattle.definitions.specs.Lists.{choose, or_else}
+use Rattle.definitions.specs.Lists.{or_else}
 use Rattle.definitions.specs.Bytes.{tokens}
 use Rattle.definitions.specs.Tree.{TypeDef, Expr, Equation, Node}
-use Rattle.definitions.specs.Clock.{Clock, is_base}
+use Rattle.definitions.specs.Clock.{Clock}
 use Rattle.definitions.specs.InferClocks.{Fault, NodeFault, Clocked}
-use Rattle.definitions.specs.Declock.{Shape, bare, other, calls}
 use Rattle.layout.specs.declared.NodeLayout.{NodeLayout}
 use Rattle.layout.specs.Laid.{LaidNode}
 use Rattle.layout.proofs.Owed.{owed-on}
-use Rattle.stateless.specs.Need.{Needs, with_flag, with_gate, needed}
-use Rattle.stateless.specs.Yield.{Ids, shape_after, right_yield, old_yield}
+use Rattle.stateless.specs.Need.{Needs, needed}
+use Rattle.stateless.specs.Yield.{Ids, right_yield, old_yield}
 use Rattle.stateless.specs.Faults.{at_equation, old_fault}
-use Rattle.stateless.specs.Whole.{several_needs, flagged_needs, right_needs, old_needs}
+use Rattle.stateless.specs.Whole.{right_needs, old_needs}
 use Rattle.stateless.specs.Locals.{ids_in}
 use Rattle.skeleton.specs.Sites.{EquationSited, EquationsSited}
 use Rattle.skeleton.proofs.Laws.{lies-owed}
@@ -32,76 +30,25 @@ use Rattle.findings.specs.Value.{fault_of, node_fault_of}
 use Rattle.std.specs.Prelude.{Result, Ok, Err, is_ok}
 use Rattle.std.specs.Result.{MatchResult}
 use Rattle.plan.specs.Tables.{Arrays, Tables, Begun}
-use Rattle.plan.specs.Planned.{Ahead, writer, Ended}
+use Rattle.plan.specs.Planned.{writer, Ended}
 use Rattle.plan.specs.Walks.{Setting, ground_of, Known, Roomy}
-use Rattle.plan.proofs.Growth.{ahead-self, ahead-trans, ahead-flag, ahead-needed, yield-holds, yield-count}
+use Rattle.stateless.proofs.Growth.{leads-trans, leads-equation, leads-old}
+use Rattle.stateless.proofs.Kept.{right-kept}
+use Rattle.plan.proofs.Growth.{yield-holds, yield-count}
 use Rattle.plan.proofs.Laws.{held-append}
-use Rattle.plan.proofs.Walk.{ok-same, ok-err, err-same, Sized, roomy_after}
+use Rattle.plan.proofs.Walk.{ok-same, ok-err, err-same, Sized, roomy_after, before-part, behind-part}
 use Rattle.planned.specs.Planned.{EquationsPlanned}
 use Rattle.node_plan.specs.Equations.{EquationsNoted, EndedAll, WalksEquation, WalksEquations}
 
 -- ---- what is answered in the place of what was met
-pub ok-told : {A D : Type 0} (E : Type 0) (a : Result A D) (b : A) (Q : D → Type 0) → true ≡ is_ok a → MatchResult a (λ x. ◌≡◌ {A = Result A E} (Ok b) (Ok x)) Q → a ≡ Ok b
-ok-told E (Ok x) b Q v m = let y : b ≡ x = cc in ap Ok (sym y)
-ok-told E (Err d) b Q v m = absurd (true≢false v)
-
 pub err-told : {A D : Type 0} (a : Result A D) (P : A → Type 0) (Q : D → Type 0) → false ≡ is_ok a → MatchResult a P Q → (d : D) × (a ≡ Err d) × Q d
 err-told (Ok x) P Q v m = absurd (true≢false (sym v))
 err-told (Err d) P Q v m = (d, refl, m)
 
--- ---- what an equation needs besides its right side
-flag-ahead : (b : Bool) (c : Clock) (z : Needs) → Ahead z (choose b (with_flag c z) (with_gate c z))
-flag-ahead true c z = ahead-flag c z z.holds z.condact (omega arith)
-flag-ahead false c z = ahead-flag c z z.holds true (omega arith)
-
-several-ahead : (k : ℕ) (c : Clock) (u : Shape) (z : Needs) → Ahead z (several_needs k c u z)
-several-ahead k c bare z = ahead-flag c z z.holds z.condact (omega arith)
-several-ahead k c other z = ahead-flag c z z.holds z.condact (omega arith)
-several-ahead k c (calls f) z = flag-ahead (eqb f k) c z
-
-flagged-ahead : (k : ℕ) (c : Clock) (xs : List ℕ) (u : Shape) (z : Needs) → Ahead z (flagged_needs k c xs u z)
-flagged-ahead k c [] u z = several-ahead k c u z
-flagged-ahead k c (x ∷ []) u z = ahead-flag c z z.holds z.condact (omega arith)
-flagged-ahead k c (x ∷ y ∷ xs) u z = several-ahead k c u z
-
-choose-holds : (b : Bool) (c : Clock) (z : Needs) → (choose b (with_flag c z) (with_gate c z)).holds ≡ z.holds
-choose-holds true c z = refl
-choose-holds false c z = refl
-
-several-holds : (k : ℕ) (c : Clock) (u : Shape) (z : Needs) → (several_needs k c u z).holds ≡ z.holds
-several-holds k c bare z = refl
-several-holds k c other z = refl
-several-holds k c (calls f) z = choose-holds (eqb f k) c z
-
-flagged-holds : (k : ℕ) (c : Clock) (xs : List ℕ) (u : Shape) (z : Needs) → (flagged_needs k c xs u z).holds ≡ z.holds
-flagged-holds k c [] u z = several-holds k c u z
-flagged-holds k c (x ∷ []) u z = refl
-flagged-holds k c (x ∷ y ∷ xs) u z = several-holds k c u z
-
+-- ---- an equation makes the holds of its right side
 module _ (types : List TypeDef) (l : List Node) (node : Node) (k : ℕ) where
-  pub right-ahead : (c : Clock) (xs : List ℕ) (e : Expr) (y : Needs) → Ahead (needed l c e y) (right_needs types l node k c xs e y)
-  unfolding right_needs
-  right-ahead c xs e y = go (is_base c)
-    where
-      go : (b : Bool) → Ahead (needed l c e y) (choose b (needed l c e y) (flagged_needs k c xs (shape_after types l node k c e) (needed l c e y)))
-      go true = ahead-self (needed l c e y)
-      go false = flagged-ahead k c xs (shape_after types l node k c e) (needed l c e y)
-
   pub right-holds : (c : Clock) (xs : List ℕ) (e : Expr) (y : Needs) → (right_needs types l node k c xs e y).holds ≡ (needed l c e y).holds
-  unfolding right_needs
-  right-holds c xs e y = go (is_base c)
-    where
-      go : (b : Bool) → (choose b (needed l c e y) (flagged_needs k c xs (shape_after types l node k c e) (needed l c e y))).holds ≡ (needed l c e y).holds
-      go true = refl
-      go false = flagged-holds k c xs (shape_after types l node k c e) (needed l c e y)
-
-  right-all : (c : Clock) (xs : List ℕ) (e : Expr) (y : Needs) → Ahead y (right_needs types l node k c xs e y)
-  right-all c xs e y = ahead-trans y (needed l c e y) (right_needs types l node k c xs e y) (ahead-needed l e c y) (right-ahead c xs e y)
-
-  old-ahead : (cs : List Clocked) (y : Needs) → Ahead y (old_needs types l node k cs y)
-  unfolding old_needs
-  old-ahead [] y = ahead-self y
-  old-ahead (e ∷ es) y = ahead-trans y (right_needs types l node k e.clock e.equation.left e.equation.right y) _ (right-all e.clock e.equation.left e.equation.right y) (old-ahead es (right_needs types l node k e.clock e.equation.left e.equation.right y))
+  right-holds c xs e y = right-kept (λ v. v.holds ≡ (needed l c e y).holds) k c (record { flag = λ v h. h; gate = λ v h. h }) types l node xs e y refl
 
   right-after : (ids : Ids) (c : Clock) (xs : List ℕ) (e : Expr) (y : Needs) → (right_yield types l node ids c xs y.holds e).after ≡ (right_needs types l node k c xs e y).holds
   unfolding right_yield
@@ -126,14 +73,6 @@ ends-map f (EndedAll.stops g i e) = EndedAll.stops g i e
 ends-then : (types : List TypeDef) (l : List Node) (node : Node) {m x q : ℕ} {r : Result ℕ given.Fault} {r' : Result ℕ value.Found} {P Q R : Type 0} {o : Option Fault} {u : Option NodeFault} (i : ℕ) → r ≡ Ok x → Ended m r P o → (P → x ≡ m → EndedAll q r' Q u) → (P → Q → R) → EndedAll q r' R (or_else (at_equation types l node i o) u)
 ends-then types l node {m} {x} {r = r} i a (Ended.goes h e) k f = ends-map (f h) (k h (ok-same x m r a e))
 ends-then types l node {x = x} {r = r} i a (Ended.stops g j e) k f = absurd (ok-err x g r a e)
-
-later : (p r q n : ℕ) → p ≤ r → (n < p) ⊎ (q ≤ n) → (n < r) ⊎ (q ≤ n)
-later p r q n i (inl h) = inl (omega arith)
-later p r q n i (inr h) = inr h
-
-sooner : (p r q n : ℕ) → r ≤ q → (n < p) ⊎ (q ≤ n) → (n < p) ⊎ (r ≤ n)
-sooner p r q n o (inl h) = inl h
-sooner p r q n o (inr h) = inr (omega arith)
 
 module _ (A : Arrays) (condact : ℕ) where
   -- an equation ends behind its place, and equations do
@@ -183,26 +122,26 @@ module _ (A : Arrays) (condact : ℕ) where
               let z = old_needs T.types T.nodes T.node condact es w in
               let f = sited-on c e.equation p o S.1 in
               let g = all-on es o q S.2 in
-              let up = (right-all T.types T.nodes T.node condact c xs a y).holds in
-              let on = old-ahead T.types T.nodes T.node condact es w in
+              let up = (leads-equation T.types T.nodes T.node condact c xs a y).holds in
+              let on = leads-old T.types T.nodes T.node condact es w in
               let more = on.holds in
               ends-then T.types T.nodes T.node i went (E.walk T end lay L c e.equation o y K R S.1 B)
               (λ P j. subst (λ (u : ℕ). EndedAll q r (EquationsNoted A T condact s' s'' w es u q) (old_fault T.types T.nodes T.node condact (suc i) es)) j
               (F.walk T end lay L es q w (omega arith) K (roomy_after A T s s' L' R) (subst (λ (u : ℕ). EquationsSited A.names A.tags A.values A.sites es u q) (sym j) S.2) P.begun))
               (λ P Q. record {
                 begun = Q.begun;
-                kept = λ j h. Q.kept j (later p o q j (omega arith) h) ∙ P.kept j (sooner p o q j g h);
-                held = λ j h. Q.held j (later y.holds w.holds z.holds j (omega arith) h) ∙ P.held j (sooner y.holds w.holds z.holds j (omega arith) h);
+                kept = λ j h. Q.kept j (before-part p o q j (omega arith) h) ∙ P.kept j (behind-part p o q j g h);
+                held = λ j h. Q.held j (before-part y.holds w.holds z.holds j (omega arith) h) ∙ P.held j (behind-part y.holds w.holds z.holds j (omega arith) h);
                 say = λ v k H I J W G plan'' agree.
                     let ids = ids_in v.flags v.firsts H I J k in (
                       o,
-                      P.say v k H I J W (ahead-trans w z v on G) plan'' (λ j d t. agree j d (omega arith) ∙ Q.kept j (inl t)),
+                      P.say v k H I J W (leads-trans w z v on G) plan'' (λ j d t. agree j d (omega arith) ∙ Q.kept j (inl t)),
                       subst (λ (u : ℕ). EquationsPlanned A.names A.tags A.values (writer (ground_of A T) k H I J) plan'' condact ids u es o q) (sym (right-after T.types T.nodes T.node condact ids c xs a y)) (Q.say v k H I J W G plan'' (λ j d t. agree j (omega arith) t)),
                     );
                 hold = λ v k H I J W G plan'' holds'' agree same.
                     let ids = ids_in v.flags v.firsts H I J k in
                     held-append A.names A.tags A.values (writer (ground_of A T) k H I J) plan'' holds'' (right_yield T.types T.nodes T.node ids c xs y.holds a).holds _ y.holds w.holds (right-count T.types T.nodes T.node condact ids c xs a y)
-                    (P.hold v k H I J W (ahead-trans w z v on G) plan'' holds'' (λ j d t. agree j d (omega arith) ∙ Q.kept j (inl t)) (λ j d t. same j d (omega arith) ∙ Q.held j (inl t)))
+                    (P.hold v k H I J W (leads-trans w z v on G) plan'' holds'' (λ j d t. agree j d (omega arith) ∙ Q.kept j (inl t)) (λ j d t. same j d (omega arith) ∙ Q.held j (inl t)))
                     (subst (λ (u : ℕ). HeldFrom A.names A.tags A.values (writer (ground_of A T) k H I J) plan'' holds'' w.holds (old_yield T.types T.nodes T.node ids u es).holds) (sym (right-after T.types T.nodes T.node condact ids c xs a y)) (Q.hold v k H I J W G plan'' holds'' (λ j d t. agree j (omega arith) t) (λ j d t. same j (omega arith) t)));
               })
 

@@ -24,7 +24,7 @@ use Rattle.stateless.specs.Whole.{no_needs, old_needs}
 use Rattle.skeleton.specs.Sites.{EquationsSited}
 use Rattle.plan.specs.Tables.{Arrays, Tables, Begun}
 use Rattle.plan.specs.Walks.{Setting, Known}
-use Rattle.plan.proofs.Growth.{ahead-self}
+use Rattle.stateless.proofs.Growth.{leads-self}
 use Rattle.plan.proofs.Walk.{Sized}
 use Rattle.planned.specs.declared.HeldOperand.{HeldOperand}
 use Rattle.node_plan.specs.Equations.{EquationsNoted, EndedAll, WalksEquations}
@@ -79,8 +79,8 @@ module _ (A : Arrays) (condact : ℕ) (s s' : Tables) (Z : Sized s s') (l : Node
           planned = λ t z. record {
             declares = K.declares;
             counted = subst (λ (k : Counts). Counted s'.flags s'.firsts k w) (sym e ∙ same a t z) P.begun;
-            planned = λ x F f H W. P.say w x F f H W (ahead-self w) s'.plan (λ i a b. refl);
-            held = λ x F f H W. P.hold w x F f H W (ahead-self w) s'.plan s'.holds (λ i a b. refl) (λ i a b. refl);
+            planned = λ x F f H W. P.say w x F f H W (leads-self w) s'.plan (λ i a b. refl);
+            held = λ x F f H W. P.hold w x F f H W (leads-self w) s'.plan s'.holds (λ i a b. refl) (λ i a b. refl);
           };
         }
       where

@@ -21,6 +21,7 @@ use Rattle.layout.specs.Spans.{Spanned, Spans}
 use Rattle.layout.proofs.Laws.{span-at}
 use Rattle.typing.proofs.Laws.{label_is}
 use Rattle.stateless.specs.Need.{Needs, needed}
+use Rattle.stateless.specs.Leads.{Leads}
 use Rattle.stateless.specs.Yield.{shape_after, right_yield}
 use Rattle.stateless.specs.Whole.{right_needs}
 use Rattle.stateless.specs.Locals.{ids_in}
@@ -28,15 +29,15 @@ use Rattle.skeleton.specs.Sites.{EquationSited}
 use Rattle.planned.specs.Writes.{Writes}
 use Rattle.planned.specs.declared.HeldOperand.{HeldOperand}
 use Rattle.planned.specs.Held.{hold_at}
-use Rattle.plan.specs.Planned.{Whole, Ahead, Agrees, writer, Planned, tree_codes, tree_holds}
+use Rattle.plan.specs.Planned.{Whole, Agrees, writer, Planned, tree_codes, tree_holds}
 use Rattle.plan.specs.Tables.{Arrays, Tables, Begun}
 use Rattle.plan.specs.Closed.{Beside}
 use Rattle.plan.specs.Walks.{Setting, ground_of}
-use Rattle.plan.proofs.Growth.{ahead-trans}
+use Rattle.stateless.proofs.Growth.{leads-trans, leads-right}
 use Rattle.planned.specs.Planned.{frame_by}
 use Rattle.planned.specs.Framed.{frame_of}
 use Rattle.node_plan.specs.Equations.{EquationNoted}
-use Rattle.node_plan.proofs.Noting.{right-ahead, right-holds}
+use Rattle.node_plan.proofs.Noting.{right-holds}
 
 -- names take a token each
 names-end : (M : ℕ) (gs vs : List ℕ) → length vs ≡ length gs → (n p : ℕ) (xs : List ℕ) (q : ℕ) → times n (name M) (tokens gs vs) p ≡ got xs q → q ≡ p + length xs
@@ -65,7 +66,7 @@ right-stands M gs vs same p l el e q b g =
 module _ (A : Arrays) (T : Setting) (condact : ℕ) (s s' s'' : Tables) (y : Needs) (c : Clock) (e : Equation) (p q : ℕ) (S : EquationSited A.names A.tags A.values A.sites c e p q)
     (P : Planned (ground_of A T) s s' (needed T.nodes c e.right y) (p + 1 + length e.left) 1 q (tree_codes (ground_of A T) c y.holds e.right) y.holds (tree_holds (ground_of A T) c y.holds e.right))
     (beside : Beside s'.plan s''.plan p) (h : s''.holds ≡ s'.holds) (o : p < q) (B : Begun s'' (right_needs T.types T.nodes T.node condact c e.left e.right y))
-    (framed : (w : Needs) (x : ℕ) (F f H : List ℕ) → Whole T.flag_room T.first_room T.hold_room w → Ahead (right_needs T.types T.nodes T.node condact c e.left e.right y) w → (plan'' : List ℕ) → get_or plan'' p 0 ≡ get_or s''.plan p 0 →
+    (framed : (w : Needs) (x : ℕ) (F f H : List ℕ) → Whole T.flag_room T.first_room T.hold_room w → Leads (right_needs T.types T.nodes T.node condact c e.left e.right y) w → (plan'' : List ℕ) → get_or plan'' p 0 ≡ get_or s''.plan p 0 →
     frame_by A.names A.tags A.values (writer (ground_of A T) x F f H) plan'' condact (length e.left) (get_or plan'' p 0) ≡ frame_of (is_base c) condact ((ids_in w.flags w.firsts F f H x).flag c) e.left (shape_after T.types T.nodes T.node condact c e.right)) where
   pub noted : EquationNoted A T condact s s'' y c e p q
   unfolding right_yield
@@ -73,19 +74,19 @@ module _ (A : Arrays) (T : Setting) (condact : ℕ) (s s' s'' : Tables) (y : Nee
       let z = needed T.nodes c e.right y in
       let v = right_needs T.types T.nodes T.node condact c e.left e.right y in
       let n = right-holds T.types T.nodes T.node condact c e.left e.right y in
-      let up = right-ahead T.types T.nodes T.node condact c e.left e.right y in
+      let up = leads-right T.types T.nodes T.node condact c e.left e.right y in
       record {
         begun = B;
         kept = other;
         held = λ i u. ap (λ (l : List HeldOperand). hold_at l i) h ∙ P.held i (same_row i n u);
         say = λ w x F f H W a plan''' agree.
             let ids = ids_in w.flags w.firsts F f H x in
-            let t = P.says.say w x F f H W (ahead-trans z v w up a) plan''' (inside plan''' agree) 0 q [] Writes.done in
+            let t = P.says.say w x F f H W (leads-trans z v w up a) plan''' (inside plan''' agree) 0 q [] Writes.done in
             record { stands = S.stands; framed = framed w x F f H W a plan''' (agree p (omega arith) o); written = subst (λ (l : List TagValue). Writes A.tags A.values (writer (ground_of A T) x F f H) plan''' (p + 1 + length e.left) 1 q l) (append-nil (tree_codes (ground_of A T) c y.holds e.right ids)) t };
-        hold = λ w x F f H W a plan''' holds''' agree same. P.says.hold w x F f H W (ahead-trans z v w up a) plan''' holds''' (inside plan''' agree) (λ i d t. same i d (omega arith) ∙ ap (λ (l : List HeldOperand). hold_at l i) h);
+        hold = λ w x F f H W a plan''' holds''' agree same. P.says.hold w x F f H W (leads-trans z v w up a) plan''' holds''' (inside plan''' agree) (λ i d t. same i d (omega arith) ∙ ap (λ (l : List HeldOperand). hold_at l i) h);
       }
     where
-      inside : (plan''' : List ℕ) → Agrees s''.plan plan''' p q → Agrees s'.plan plan''' (p + 1 + length e.left) q
+      inside : (plan''' : List ℕ) → Agrees 0 s''.plan plan''' p q → Agrees 0 s'.plan plan''' (p + 1 + length e.left) q
       inside plan''' agree i d t = agree i (omega arith) t ∙ beside i (λ z. omega arith)
 
       other : (i : ℕ) → (i < p) ⊎ (q ≤ i) → get_or s''.plan i 0 ≡ get_or s.plan i 0

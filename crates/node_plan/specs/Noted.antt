@@ -9,10 +9,9 @@ use Rattle.definitions.specs.InferClocks.{Fault}
 use Rattle.findings.specs.declared.Fault as value
 use Rattle.findings.specs.Value.{fault_of}
 use Rattle.definitions.specs.Declock.{Shape, bare, other, calls, clock_place, add_with_parents, declared}
-use Rattle.layout.specs.Table.{Table}
 use Rattle.layout.specs.declared.NodeLayout.{NodeLayout}
 use Rattle.layout.specs.Laid.{LaidNode}
-use Rattle.defaults.specs.Has.{DefaultsKnown}
+use Rattle.index.specs.Callees.{TypesStand}
 use Rattle.typing.specs.Found.{Declares}
 use Rattle.stateless.specs.Need.{Needs, with_flag, with_gate}
 use Rattle.plan.specs.Tables.{Arrays, Tables, Begun}
@@ -38,8 +37,7 @@ pub record Typed (A : Arrays) (types : List TypeDef) (node : Node) : Type 0 wher
   pub end : ℕ
   pub layout : NodeLayout
   pub laid : LaidNode A.names (tokens A.tags A.values) node end layout
-  pub table : Table A.names (tokens A.tags A.values) A.defs A.types types
-  pub defaulted : DefaultsKnown types A.types A.types A.has
+  pub typed : TypesStand A.names A.tags A.values A.defs A.types A.has types
   pub declares : Declares A.names (tokens A.tags A.values) A.typed (declared node)
 
 -- an equation at p on this clock, with so many left names, gated or not

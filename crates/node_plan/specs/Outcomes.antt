@@ -8,10 +8,8 @@ use Rattle.definitions.specs.Declock.{declared}
 use Rattle.grammar.specs.Read.{tokens_of}
 use Rattle.layout.specs.declared.NodeLayout.{NodeLayout}
 use Rattle.layout.specs.Laid.{LaidNode}
-use Rattle.layout.specs.Table.{Table}
 use Rattle.index.specs.declared.Index.{Index}
-use Rattle.index.specs.Callees.{NodesStand}
-use Rattle.defaults.specs.Has.{DefaultsKnown}
+use Rattle.index.specs.Indexed.{NodesIn, TypesIn}
 use Rattle.skeleton.specs.Sites.{EquationsSited}
 use Rattle.findings.specs.declared.Found.{Found}
 use Rattle.findings.specs.Value.{node_fault_of}
@@ -31,9 +29,8 @@ use Rattle.planned.specs.Planned.{EquationsPlanned}
 pub record NodeSited (index : Index) (sites : List ℕ) (l : NodeLayout) (types : List TypeDef) (nodes : List Node) (node : Node) (cs : List Clocked) : Type 0 where
   pub end : ℕ
   pub laid : LaidNode index.source.names (tokens_of index.source) node end l
-  pub standing : NodesStand index.source.names index.source.tags.now index.source.values.now index.nodes.at index.nodes.count nodes
-  pub table : Table index.source.names (tokens_of index.source) index.types.at index.types.count types
-  pub defaulted : DefaultsKnown types index.types.count index.types.count index.has
+  pub standing : NodesIn index nodes
+  pub typed : TypesIn index types
   pub sited : EquationsSited index.source.names index.source.tags.now index.source.values.now sites cs l.equations.at l.equations.end
   pub many : length cs ≡ l.equations.count
 

@@ -33,7 +33,7 @@ pub spread_end : (M : ℕ) (ts : List TagValue) (g : Gap) (k p : ℕ) (es : Expr
 spread_end M ts g zero p es q i h = sym (spread-nil M (tree M) ts g zero p es q refl h).1
 spread_end M ts g (suc k) p es q i h =
     let c = spread-cons M (tree M) ts g (suc k) p es q (λ z. omega (arith, z)) h in
-    let z : ◌≡◌ {A = ℕ} 0 1 = cc c.11 in absurd (omega arith)
+    absurd (cc c.11)
 
 -- n operands es with the gap g from p to q, the first of them at a place, the others by where it ends
 pub record Apart (M : ℕ) (gs vs : List ℕ) (g : Gap) (n p : ℕ) (es : Exprs) (q place : ℕ) : Type 0 where

@@ -4,7 +4,6 @@ use mathlib.Core.Path.{◌≡◌}
 use mathlib.Core.List.{List}
 use mathlib.Core.Bool.{false}
 use Prim.Native.Nat.{ℕ, zero, suc, ◌+◌, ◌-◌, ◌<◌}
-use native.Mathlib.Omega.{arith}
 use native.Mathlib.Numerals.{sub-one}
 use native.Mathlib.Nat.{zero-add, suc-add}
 use lib.ListN.{length}
@@ -83,7 +82,7 @@ unfolding expr limited
 expr-none M ts p e q g =
     let m = after-got (limited (λ h. false) (token (expr_token_of M)) ts p) _ e q g in
     let n = after-got (token (expr_token_of M) ts p) _ m.0 m.1 m.2 in
-    let z : ◌≡◌ {A = ℕ} 0 1 = cc n.3 in omega arith
+    cc n.3
 
 -- one level deeper
 pub expr-lifts : (M d : ℕ) → Lifts (expr M d) (expr M (suc d))

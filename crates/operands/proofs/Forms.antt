@@ -3,7 +3,6 @@
 use mathlib.Core.Path.{◌≡◌, refl, ◌∙◌, ap}
 use mathlib.Core.List.{List}
 use Prim.Native.Nat.{ℕ}
-use native.Mathlib.Omega.{arith}
 use Rattle.definitions.specs.declared.Literal.{Literal}
 use Rattle.definitions.specs.declared.ExprToken.{ExprToken}
 use Rattle.definitions.specs.Tokens.{TagValue}
@@ -34,11 +33,11 @@ module _ (e : Expr) (q : ℕ) (ρ : Role) where
 
   has-after : {A : Type 0} (x : Got A) (f : A → ℕ → Got Expr) (g : A → ℕ → Got Exprs) → ((a : A) (s : ℕ) → f a s ≡ got e q → Has (g a s)) → after x f ≡ got e q → Has (after x g)
   has-after (got a s) f g h i = h a s i
-  has-after (rejected t) f g h i = let z : ◌≡◌ {A = ℕ} 0 1 = cc in absurd (omega arith)
+  has-after (rejected t) f g h i = absurd cc
 
   has_all : (x : Got Exprs) (H : Exprs → Expr) → ((es : Exprs) → ρ ≡ role_of_expr (H es)) → ((es : Exprs) → es ≡ operands_of (H es)) → after x (λ es s. got (H es) s) ≡ got e q → Has x
   has_all (got es s) H a b g = has (H es) es s (a es) (b es) g
-  has_all (rejected t) H a b g = let z : ◌≡◌ {A = ℕ} 0 1 = cc in absurd (omega arith)
+  has_all (rejected t) H a b g = absurd cc
 
 module _ (M : ℕ) (r : Reader Expr) (ts : List TagValue) (p : ℕ) (e : Expr) (q : ℕ) where
   has-literal : (l : Literal) → constant M l ts p ≡ got e q → Has e q Role.Constant (laid M (literal_shape l) r ts p)
@@ -58,7 +57,7 @@ module _ (M : ℕ) (r : Reader Expr) (ts : List TagValue) (p : ℕ) (e : Expr) (
     where
       go : (x : Expr) (y : Got Expr) → after y (λ b u. got (H x b) u) ≡ got e q → Has e q ρ (after (after y (λ b u. got (one b) u)) (λ es u. got (Exprs.and x es) u))
       go x (got y u) h = has e q ρ (H x y) _ u (a x y) (b x y) h
-      go x (rejected t) h = let z : ◌≡◌ {A = ℕ} 0 1 = cc in absurd (omega arith)
+      go x (rejected t) h = absurd cc
 
   has-items : (ρ : Role) (H : Exprs → Expr) → ((es : Exprs) → ρ ≡ role_of_expr (H es)) → ((es : Exprs) → es ≡ operands_of (H es)) → after (count most_counted ts p) (λ n s. after (exprs n r ts s) (λ es u. got (H es) u)) ≡ got e q → Has e q ρ (laid M Shape.Items r ts p)
   unfolding laid

@@ -62,8 +62,8 @@ counted-place tag low most ts p n q g =
   where
     go : (k s : ℕ) (a b : Bool) → leb k most ≡ b → (s ≡ p + 1) × (p < length ts) → choose (a && b) (got k s) (rejected (Refusal.Limit p)) ≡ got n q → (q ≡ p + 1) × (p < length ts) × (n ≤ most)
     go k s true true e h g = let i : k ≡ n = cc in let j : s ≡ q = cc in let l = leb-true k most e in (omega arith, omega arith, omega arith)
-    go k s true false e h g = let z : ◌≡◌ {A = ℕ} 0 1 = cc in absurd (omega arith)
-    go k s false b e h g = let z : ◌≡◌ {A = ℕ} 0 1 = cc in absurd (omega arith)
+    go k s true false e h g = absurd cc
+    go k s false b e h g = absurd cc
 
 pub count-place : (most : ℕ) (ts : List TagValue) (p n q : ℕ) → count most ts p ≡ got n q → (q ≡ p + 1) × (p < length ts) × (n ≤ most)
 unfolding count
@@ -259,7 +259,7 @@ token-there f gs vs same p a q g =
     go (f (get_or gs p 0) (get_or vs p 0)) (sym (there f gs vs p same (omega arith)) ∙ g)
   where
     go : (x : Option _) → allowed x p ≡ got a q → x ≡ some a
-    go none g = let z : ◌≡◌ {A = ℕ} 0 1 = cc in absurd (omega arith)
+    go none g = absurd cc
     go (some b) g = cc
 
 -- what the code finds for an expression, and for tokens that are none
@@ -281,7 +281,7 @@ pub unviewed : (M : ℕ) (ts : List TagValue) (p : ℕ) (t : Refusal) (v : View)
 unviewed M ts p t v g i = record { role = λ e q h. absurd (no e q h); operands = λ e q h. absurd (no e q h); past = λ e q h. absurd (no e q h); within = λ e q h. absurd (no e q h); inside = λ h. absurd (omega (arith, h, i)) }
   where
     no : (e : Expr) (q : ℕ) → tree M ts p ≡ got e q → ⊥
-    no e q h = let a = tree-head M ts p e q h in let z : ◌≡◌ {A = ℕ} 0 1 = cc a.1 in omega arith
+    no e q h = let a = tree-head M ts p e q h in cc a.1
 
 -- where something is viewed, there are tokens left
 pub left_there : (M : ℕ) (gs vs : List ℕ) → length vs ≡ length gs → (p : ℕ) (v : View) → Viewed M (tokens gs vs) p v → p < v.operands.rest.next → p < length gs

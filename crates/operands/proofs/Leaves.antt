@@ -33,7 +33,7 @@ module _ (M : ℕ) (gs vs : List ℕ) (same : length vs ≡ length gs) (p : ℕ)
 
   given_is : (b : Bool) (t u : ExprToken) → given b u ≡ some t → u ≡ t
   given_is true t u h = cc
-  given_is false t u h = let z : ◌≡◌ {A = ℕ} 0 1 = cc in absurd (omega arith)
+  given_is false t u h = absurd cc
 
   name-tree : get_or gs p 0 ≡ 54 → (e ≡ Expr.var (get_or vs p 0)) × (q ≡ p + 1)
   unfolding expr_token_of form

@@ -258,7 +258,7 @@ pub fn view_at(source: &Source<'_>, at: usize) -> View
 }
 
 // The leaf that stands there, if one does, by its first token.
-// Stays (speed): by tags: `rewrite` of names used as clocks takes 5.02 million instructions, 5.3 by whole tokens; the bar is 5.12.
+// Stays (speed): by tags: by whole tokens `rewrite` of names used as clocks takes 0.3 million instructions more, past its bar of 5.12.
 pub fn leaf_at(source: &Source<'_>, at: usize) -> Option<Leaf>
     ensures { result ≡ leaf_at (length source.now.tags.now) (get_or source.now.tags.now at 0) (get_or source.now.values.now at 0) at }
 {

@@ -2,6 +2,7 @@
 -- Laws on a sheet's bytes.
 -- Laws on the bytes written.
 pub mod NamesLaws
+pub mod Walked
 pub mod BucketLaws
 pub mod Words
 pub mod Laws

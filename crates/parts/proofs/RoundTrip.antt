@@ -3,13 +3,14 @@ use Prim.Native.Nat.{ℕ, ◌+◌, ◌*◌, ◌^◌, ◌<◌}
 use mathlib.Core.Path.{◌≡◌, refl, sym, ap, ◌∙◌}
 use mathlib.Core.List.{List, [], ◌∷◌, ◌++◌, map}
 use native.Mathlib.Omega.{arith}
-use lib.ListN.{length, get_or, take, drop, take-append-drop, length-drop, length-map}
+use lib.ListN.{length, take, drop, take-append-drop, length-drop, length-map}
 use lib.Seq.{drop-drop, take-append_seam, drop-append_seam, length-take-le}
 use Rattle.definitions.specs.Lists.{join, Letters}
 use Rattle.definitions.specs.Tokens.{TagValue}
 use Rattle.definitions.specs.Refusals.{accepted}
 use Rattle.definitions.specs.Bytes.{Parts, size, M, L, T, lengths, letters, tags, values, tokens, four_byte_words, cut, parts}
 use Rattle.definitions.specs.Output.{word_bytes, sheet_bytes}
+use Rattle.shapes.proofs.ReadBytes.{three}
 use Rattle.parts.specs.Answers.{parts_of, sizes_of, SizedParts, Accepted}
 use Rattle.parts.proofs.Laws.{accepted-is, accepted-only, accepted-parts, lengths-long, letters-long, tags-long, values-long}
 use Rattle.parts.proofs.Words.{words-length}
@@ -133,13 +134,6 @@ module _ (names : List Letters) (ks : List TagValue) where
     read_back = ap parts bytes-are ∙ (accepted-is bytes bytes-accepted ∙ rw (names-again, tokens-again))
 
 -- ---- from bytes to names and tokens and back
-three : (l : List ℕ) → length l ≡ 3 → get_or l 0 0 ∷ get_or l 1 0 ∷ get_or l 2 0 ∷ [] ≡ l
-three [] h = absurd (omega arith)
-three (a ∷ []) h = absurd (omega arith)
-three (a ∷ b ∷ []) h = absurd (omega arith)
-three (a ∷ b ∷ c ∷ []) h = refl
-three (a ∷ b ∷ c ∷ d ∷ l) h = absurd (omega arith)
-
 -- a part and what follows it
 seam : (n k : ℕ) (b : List ℕ) → take n (drop k b) ++ drop (k + n) b ≡ drop k b
 seam n k b = rw (← drop-drop n k b) (take-append-drop n (drop k b))

@@ -10,6 +10,7 @@ use Rattle.std.specs.List.{sum_by}
 use Rattle.std.proofs.lemmas.List.Sums.{sum_by-cons}
 use Rattle.definitions.specs.Lists.{sum, over}
 use Rattle.definitions.specs.Bytes.{four_byte_words}
+pub use Rattle.shapes.proofs.ReadBytes.{words-length}
 use Rattle.parts.specs.Answers.{word_at}
 
 -- ---- words
@@ -42,16 +43,6 @@ word_of (a ∷ b ∷ c ∷ d ∷ l) zero h = refl
 word_of (a ∷ b ∷ c ∷ d ∷ l) (suc k) h =
     let e : 4 * suc k ≡ suc (suc (suc (suc (4 * k)))) = omega arith in
     rw e (word_of l k (omega arith))
-
-pub words-length : (n : ℕ) (l : List ℕ) → length l ≡ 4 * n → length (four_byte_words l) ≡ n
-unfolding four_byte_words
-words-length zero [] h = refl
-words-length (suc n) [] h = absurd (omega arith)
-words-length n (a ∷ []) h = absurd (omega arith)
-words-length n (a ∷ b ∷ []) h = absurd (omega arith)
-words-length n (a ∷ b ∷ c ∷ []) h = absurd (omega arith)
-words-length zero (a ∷ b ∷ c ∷ d ∷ l) h = absurd (omega arith)
-words-length (suc n) (a ∷ b ∷ c ∷ d ∷ l) h = ap suc (words-length n l (omega arith))
 
 -- ---- sums
 pub sum_all : (l : List ℕ) → sum_by (λ n. n) l ≡ sum l

@@ -4,10 +4,11 @@
 mod accepted;
 mod buckets;
 mod naming;
+mod sheet_parts;
 
-ghost use Rattle.std.specs.Prelude.{◌≡◌, IfOk, map, ◌+◌, ◌*◌, ◌≤◌, ◌<◌, ◌^◌, length};
+ghost use Rattle.std.specs.Prelude.{◌≡◌, IfOk, map, ◌+◌, ◌*◌, ◌≤◌, ◌<◌, ◌^◌, length, replicate};
 ghost use Rattle.definitions.specs.Lists.{sum, join};
-ghost use Rattle.definitions.specs.Bytes.{cut, four_byte_words, lengths, letters, parts, tokens};
+ghost use Rattle.definitions.specs.Bytes.{cut, four_byte_words, parts, tokens};
 ghost use Rattle.parts.specs.Answers.{word_at, SizedParts, SizesTold, parts_answer, tags_after, values_after};
 ghost use Rattle.definitions.specs.Output.{word_bytes, sheet_bytes};
 ghost use Rattle.parts.specs.Bytes.{written_answer, written_bytes};
@@ -15,6 +16,7 @@ ghost use Rattle.parts.specs.Bytes.{written_answer, written_bytes};
 pub use accepted::AcceptedSheet;
 use definitions::{MOST_LETTERS, MOST_NAMES, MOST_TOKENS, Refusal};
 pub use naming::{EachName, Names};
+pub use sheet_parts::SheetParts;
 
 // ---- A sheet's sizes, length and names are checked, and its tokens go into working arrays.
 
@@ -71,35 +73,13 @@ fn read_sizes(sheet: &[u8]) -> Result<Sizes, Refusal>
     })
 }
 
-// "Then M name lengths (a byte each)", of a sheet of these sizes.
-// Stays (no plainer): sheet and sizes, here and below: of a struct with `sized`, `AcceptedSheet` would make one at each call.
-pub(crate) fn lengths_of(sheet: &[u8], sizes: Sizes) -> &[u8]
-    requires { SizedParts sheet.now sizes }
-    ensures value { result.now ≡ lengths sheet.now }
-    ensures count { length result.now ≡ sizes.names }
-{
-    let to = 12 + sizes.names;
-    &sheet[12..to]
-}
-
-// "And the L letters", of a sheet of these sizes.
-pub(crate) fn letters_of(sheet: &[u8], sizes: Sizes) -> &[u8]
-    requires { SizedParts sheet.now sizes }
-    ensures value { result.now ≡ letters sheet.now }
-    ensures count { length result.now ≡ sizes.letters }
-{
-    let from = 12 + sizes.names;
-    let to = from + sizes.letters;
-    &sheet[from..to]
-}
-
 // The names of a sheet whose sizes are right.
-fn check_names(sheet: &[u8], sizes: Sizes) -> Result<Sizes, Refusal>
-    requires { SizedParts sheet.now sizes }
-    ensures { result ≡ parts_answer sheet.now }
+fn check_names(sheet: SheetParts<'_>) -> Result<Sizes, Refusal>
+    ensures { result ≡ parts_answer sheet.entry.bytes.now }
 {
-    let lengths = lengths_of(sheet, sizes);
-    let letters = letters_of(sheet, sizes);
+    let lengths = sheet.lengths();
+    let letters = sheet.letters();
+    let sizes = sheet.sizes;
     if total(lengths) != sizes.letters {
         return Err(Refusal::Name(sizes.names));
     }
@@ -117,7 +97,10 @@ fn check_parts(sheet: &[u8]) -> Result<Sizes, Refusal>
     ensures sized { IfOk result (λ s. SizedParts sheet.now s) }
 {
     let sizes = read_sizes(sheet)?;
-    check_names(sheet, sizes)
+    check_names(SheetParts {
+        bytes: sheet,
+        sizes,
+    })
 }
 
 // The words that the bytes are, low byte first.
@@ -137,6 +120,18 @@ fn read_words(bytes: &[u8], words: &mut [u32])
 pub struct TokenArrays {
     pub tags: [u8; MOST_TOKENS],
     pub values: [u32; MOST_TOKENS],
+}
+
+impl TokenArrays {
+    // No sheet's tokens yet.
+    pub fn none() -> TokenArrays
+        ensures { (result.tags ≡ replicate 4096 0) × (result.values ≡ replicate 4096 0) }
+    {
+        TokenArrays {
+            tags: [0; MOST_TOKENS],
+            values: [0; MOST_TOKENS],
+        }
+    }
 }
 
 // A sheet's parts: turned down by 1 to 4, or its tokens stand in the working arrays.
@@ -168,7 +163,7 @@ fn put_words(bytes: &mut [u8], words: &[u32])
 }
 
 // A sheet of these names, and of the tokens that the tags and values are: how many bytes are written, or how many are needed.
-// Stays (no plainer): tags beside values of any count are `grammar` `Source`, which stands above; a struct here had this use alone.
+// Stays (no plainer): tags beside values are `grammar` `Source`, and neither crate stands on the other; a struct here had this use alone.
 pub fn write(
     names: Names<'_>,
     tags: &[u8],
@@ -202,6 +197,7 @@ pub fn write(
 
 // As many items as there is room for, each in its place.
 // Stays (C interface): `copy_from_slice` calls memmove where both are parameters after inlining; the library calls memcpy and memset alone.
+// Stays (proof): by places: behind a loop over `to.iter_mut().zip(from)` (tried) nothing is known of `to` (goal `returns`).
 pub fn copy_items<T: Copy>(to: &mut [T], from: &[T])
     requires { length from.now ≡ length to.old }
     ensures { to.new ≡ from.now }

@@ -15,7 +15,8 @@ use Rattle.definitions.specs.Clock.{Clock, is_base}
 use Rattle.definitions.specs.Declock.{operator_outputs}
 use Rattle.std.specs.declared.option.Option as code
 use Rattle.std.specs.declared.option.Option.TheVariants.{None, Some}
-use Rattle.index.specs.Callees.{OutputsStand, is_there}
+use Rattle.index.specs.Callees.{OutputsStand}
+use Rattle.defaults.specs.Has.{is_some}
 use Rattle.stateless.specs.Need.{Needs}
 use Rattle.stateless.specs.Yield.{gate_of}
 use Rattle.stateless.specs.Faults.{outputs_fault, gate_fault}
@@ -38,22 +39,22 @@ some-from M ts none u h a i = let z : ⊥ = rw i at h in absurd z
 some-from M ts (some ds) u h a i = (ds, refl, rw i at h)
 
 module _ (types : List TypeDef) (l : List Node) (node : Node) (s : Tables) (p : ℕ) (c : Clock) (end f : ℕ) where
-  pub close-plain : (plan' : List ℕ) → plan' ≡ set s.plan p 0 → is_base c ≡ true → (y : Needs) → Begun s y → Ended end (Ok end) (Gated s (record s { plan = plan' }) c (is_there (operator_outputs l f)) y p) (gate_fault types l node f (gate_of types l node c f))
-  close-plain plan' e k y B = call-plain types l node s p f c end plan' e k (is_there (operator_outputs l f)) y B
+  pub close-plain : (plan' : List ℕ) → plan' ≡ set s.plan p 0 → is_base c ≡ true → (y : Needs) → Begun s y → Ended end (Ok end) (Gated s (record s { plan = plan' }) c (is_some (operator_outputs l f)) y p) (gate_fault types l node f (gate_of types l node c f))
+  close-plain plan' e k y B = call-plain types l node s p f c end plan' e k (is_some (operator_outputs l f)) y B
 
   -- g is the value that the code reads
   module _ (g : ℕ) (v : g ≡ f) where
     pub close-function : (plan' : List ℕ) → plan' ≡ set s.plan p 0 → is_base c ≡ false → (M : ℕ) (ts : List TagValue) (u : code.Option Span) → OutputsStand M ts (operator_outputs l g) u → u ≡ None → (y : Needs) → Begun s y →
-        Ended end (Ok end) (Gated s (record s { plan = plan' }) c (is_there (operator_outputs l f)) y p) (gate_fault types l node f (gate_of types l node c f))
+        Ended end (Ok end) (Gated s (record s { plan = plan' }) c (is_some (operator_outputs l f)) y p) (gate_fault types l node f (gate_of types l node c f))
     close-function plan' e k M ts u h i y B =
-        subst (λ (z : ℕ). Ended end (Ok end) (Gated s (record s { plan = plan' }) c (is_there (operator_outputs l z)) y p) (gate_fault types l node z (gate_of types l node c z))) v (call-function types l node s p g c end plan' e k (none_from M ts (operator_outputs l g) u h i) y B)
+        subst (λ (z : ℕ). Ended end (Ok end) (Gated s (record s { plan = plan' }) c (is_some (operator_outputs l z)) y p) (gate_fault types l node z (gate_of types l node c z))) v (call-function types l node s p g c end plan' e k (none_from M ts (operator_outputs l g) u h i) y B)
 
     module _ (b : is_base c ≡ false) (M : ℕ) (ts : List TagValue) (u : code.Option Span) (h : OutputsStand M ts (operator_outputs l g) u) (a : Span) (i : u ≡ Some a) (m : code.Option ℕ)
         (o : (ds : List Declared) → Spans (declaration M) ts ds a → lack_fault g m ≡ outputs_fault types l node g ds) where
-      pub close-gated : (s' : Tables) → m ≡ None → (y : Needs) → Gated s s' c true y p → Ended end (Ok end) (Gated s s' c (is_there (operator_outputs l f)) y p) (gate_fault types l node f (gate_of types l node c f))
+      pub close-gated : (s' : Tables) → m ≡ None → (y : Needs) → Gated s s' c true y p → Ended end (Ok end) (Gated s s' c (is_some (operator_outputs l f)) y p) (gate_fault types l node f (gate_of types l node c f))
       close-gated s' j y D =
           let r = some-from M ts (operator_outputs l g) u h a i in
-          subst (λ (z : ℕ). Ended end (Ok end) (Gated s s' c (is_there (operator_outputs l z)) y p) (gate_fault types l node z (gate_of types l node c z))) v
+          subst (λ (z : ℕ). Ended end (Ok end) (Gated s s' c (is_some (operator_outputs l z)) y p) (gate_fault types l node z (gate_of types l node c z))) v
           (call-gated types l node s p g c end s' b r.0 r.1 (sym (o r.0 r.2) ∙ ap (lack_fault g) j) y D)
 
 -- an output lacks a default

@@ -2,14 +2,13 @@
 -- Assumes nothing.
 use mathlib.Core.Path.{◌≡◌, refl, sym, ◌∙◌, ap, subst}
 use mathlib.Core.Bool.{Bool, true, false, false≢true, true≢false}
-use mathlib.Core.List.{List, [], ◌∷◌}
+use mathlib.Core.List.{List}
 use mathlib.Core.Logic.{◌⊎◌, inl, inr}
 use mathlib.Core.Option.{Option, none, some}
 use Prim.Native.Nat.{ℕ, suc, ◌+◌, ◌*◌, ◌≤◌, ◌<◌}
 use native.Mathlib.Omega.{arith}
 use lib.ListN.{length, get_or, set}
 use lib.Seq.{get_or-set_same, get_or-set_other}
-use Rattle.definitions.specs.Lists.{choose, place_by}
 use Rattle.definitions.specs.Tree.{Ty, Declared, TypeDef, Node}
 use Rattle.definitions.specs.Clock.{Clock, is_base, same_clock}
 use Rattle.definitions.specs.InferClocks.{Fault, no_output_default, pre_untyped}
@@ -18,23 +17,16 @@ use Rattle.findings.specs.Value.{fault_of}
 use Rattle.std.specs.Prelude.{Ok, Err}
 use Rattle.definitions.specs.Declock.{clock_place, add, add_with_parents, operator_outputs}
 use Rattle.clock_tables.specs.Rows.{RowsHold}
-use Rattle.index.specs.Callees.{is_there}
+use Rattle.layout.proofs.TypedefsLaws.{place-few}
+use Rattle.defaults.specs.Has.{is_some}
 use Rattle.stateless.specs.Need.{Turn, Needs, pre_turn, settled}
 use Rattle.stateless.specs.Yield.{gate_of}
 use Rattle.stateless.specs.Faults.{pre_fault, outputs_fault, gate_fault}
 use Rattle.plan.specs.Tables.{Tables, Begun}
 use Rattle.planned.specs.declared.HeldOperand.{HeldOperand}
 use Rattle.planned.specs.Held.{hold_at}
-use Rattle.plan.specs.Planned.{HoldsKept, Ended}
+use Rattle.plan.specs.Planned.{Kept, Ended, no_hold}
 use Rattle.plan.specs.Closed.{Beside, Followed, Gated, Preceded}
-
-place-least : (p : Clock → Bool) (l : List Clock) → place_by p l ≤ length l
-place-least p [] = omega arith
-place-least p (a ∷ l) = go (p a) (place-least p l)
-  where
-    go : (b : Bool) → place_by p l ≤ length l → choose b 0 (suc (place_by p l)) ≤ suc (length l)
-    go true h = omega arith
-    go false h = omega arith
 
 has-fits : (t : List ℕ) (n : ℕ) (cs : List Clock) → 17 * length cs ≤ length t → RowsHold t n cs → 17 * n ≤ length t
 unfolding RowsHold
@@ -76,7 +68,7 @@ module _ (rows : List ℕ) (n i w : ℕ) (d : Clock) (finds : (cs : List Clock) 
   row-found cs h f = finds cs (has-fits rows n cs f h) h
 
   pub row-least : (cs : List Clock) → RowsHold rows n cs → 17 * length cs ≤ length rows → i ≤ length cs
-  row-least cs h f = omega (arith, row-found cs h f, place-least (same_clock d) cs)
+  row-least cs h f = omega (arith, row-found cs h f, place-few (same_clock d) cs)
 
 -- ---- a `->` on a clock
 pub follow-clock : (s : Tables) (plan' flags' firsts' : List ℕ) (p w n m i : ℕ) → plan' ≡ set s.plan p w → (i < 4294967295 → w ≡ suc i) → (d c : Clock) → d ≡ c → is_base c ≡ false →
@@ -126,7 +118,7 @@ module _ (s : Tables) (flags' : List ℕ) (p n : ℕ) (d : Clock) (A : (cs : Lis
     alike : j ≡ y.holds
     alike = let h = B.held in omega arith
 
-    apart : HoldsKept s.holds holds' y.holds (y.holds + 1)
+    apart : Kept no_hold s.holds holds' y.holds (y.holds + 1)
     apart k m = ap (λ (l : List HeldOperand). hold_at l k) f ∙ get_or-set_other s.holds j k one _ (λ z. out k m (omega (arith, alike)) (omega (arith, alike)))
       where
         out : (k : ℕ) → (k < y.holds) ⊎ (y.holds + 1 ≤ k) → y.holds ≤ k → k < y.holds + 1 → ⊥
@@ -158,19 +150,19 @@ module _ (s : Tables) (plan' : List ℕ) (p : ℕ) (e : plan' ≡ set s.plan p 0
   pub previous-bare : is_base c ≡ false → (bare : Bool) → bare ≡ true → (o : Option Ty) (y : Needs) → Begun s y → Ended end (Ok end) (Preceded s (record s { plan = plan' }) c bare y p) (pre_fault (pre_turn c bare) o)
   previous-bare k bare b o y B = ended-none end _ _ (rw (k, b)) (pre-bare s plan' p e c k bare b y B)
 
-held-fault : (o : Option Ty) → is_there o ≡ true → pre_fault Turn.Hold o ≡ none
+held-fault : (o : Option Ty) → is_some o ≡ true → pre_fault Turn.Hold o ≡ none
 held-fault none h = absurd (false≢true h)
 held-fault (some t) h = refl
 
-pub previous-held : (s s' : Tables) (p : ℕ) (c : Clock) (end : ℕ) → is_base c ≡ false → (bare : Bool) → bare ≡ false → (o : Option Ty) → is_there o ≡ true → (y : Needs) → Preceded s s' c false y p →
+pub previous-held : (s s' : Tables) (p : ℕ) (c : Clock) (end : ℕ) → is_base c ≡ false → (bare : Bool) → bare ≡ false → (o : Option Ty) → is_some o ≡ true → (y : Needs) → Preceded s s' c false y p →
     Ended end (Ok end) (Preceded s s' c bare y p) (pre_fault (pre_turn c bare) o)
 previous-held s s' p c end k bare b o t y P = ended-none end _ _ (rw (k, b) (held-fault o t)) (subst (λ (z : Bool). Preceded s s' c z y p) (sym b) P)
 
-untyped-fault : (o : Option Ty) → is_there o ≡ false → pre_fault Turn.Hold o ≡ some pre_untyped
+untyped-fault : (o : Option Ty) → is_some o ≡ false → pre_fault Turn.Hold o ≡ some pre_untyped
 untyped-fault none h = refl
 untyped-fault (some t) h = absurd (true≢false h)
 
-pub previous-untyped : (P : Type 0) (end : ℕ) (c : Clock) → is_base c ≡ false → (bare : Bool) → bare ≡ false → (o : Option Ty) → is_there o ≡ false → Ended end (Err value.Fault.PreUntyped) P (pre_fault (pre_turn c bare) o)
+pub previous-untyped : (P : Type 0) (end : ℕ) (c : Clock) → is_base c ≡ false → (bare : Bool) → bare ≡ false → (o : Option Ty) → is_some o ≡ false → Ended end (Err value.Fault.PreUntyped) P (pre_fault (pre_turn c bare) o)
 previous-untyped P end c k bare b o t = ended_some end P _ pre_untyped value.Fault.PreUntyped (rw (k, b) (untyped-fault o t)) refl
 
 -- ---- the ends of a call of f
@@ -178,11 +170,11 @@ module _ (types : List TypeDef) (l : List Node) (node : Node) (s : Tables) (p f 
   pub call-plain : (plan' : List ℕ) → plan' ≡ set s.plan p 0 → is_base c ≡ true → (o : Bool) (y : Needs) → Begun s y → Ended end (Ok end) (Gated s (record s { plan = plan' }) c o y p) (gate_fault types l node f (gate_of types l node c f))
   call-plain plan' e k o y B = ended-none end _ _ (rw k) (call-base s plan' p e c k o y B)
 
-  pub call-function : (plan' : List ℕ) → plan' ≡ set s.plan p 0 → is_base c ≡ false → operator_outputs l f ≡ none → (y : Needs) → Begun s y → Ended end (Ok end) (Gated s (record s { plan = plan' }) c (is_there (operator_outputs l f)) y p) (gate_fault types l node f (gate_of types l node c f))
-  call-function plan' e k o y B = ended-none end _ _ (rw (k, o)) (call-other s plan' p e c k _ (ap is_there o) y B)
+  pub call-function : (plan' : List ℕ) → plan' ≡ set s.plan p 0 → is_base c ≡ false → operator_outputs l f ≡ none → (y : Needs) → Begun s y → Ended end (Ok end) (Gated s (record s { plan = plan' }) c (is_some (operator_outputs l f)) y p) (gate_fault types l node f (gate_of types l node c f))
+  call-function plan' e k o y B = ended-none end _ _ (rw (k, o)) (call-other s plan' p e c k _ (ap is_some o) y B)
 
-  pub call-gated : (s' : Tables) → is_base c ≡ false → (os : List Declared) → operator_outputs l f ≡ some os → outputs_fault types l node f os ≡ none → (y : Needs) → Gated s s' c true y p → Ended end (Ok end) (Gated s s' c (is_there (operator_outputs l f)) y p) (gate_fault types l node f (gate_of types l node c f))
-  call-gated s' k os o z y D = ended-none end _ _ (rw (k, o) z) (subst (λ (b : Bool). Gated s s' c b y p) (sym (ap is_there o)) D)
+  pub call-gated : (s' : Tables) → is_base c ≡ false → (os : List Declared) → operator_outputs l f ≡ some os → outputs_fault types l node f os ≡ none → (y : Needs) → Gated s s' c true y p → Ended end (Ok end) (Gated s s' c (is_some (operator_outputs l f)) y p) (gate_fault types l node f (gate_of types l node c f))
+  call-gated s' k os o z y D = ended-none end _ _ (rw (k, o) z) (subst (λ (b : Bool). Gated s s' c b y p) (sym (ap is_some o)) D)
 
 pub call-lacks : (types : List TypeDef) (l : List Node) (node : Node) (f : ℕ) (c : Clock) (end x : ℕ) → is_base c ≡ false → (os : List Declared) → operator_outputs l f ≡ some os → outputs_fault types l node f os ≡ some (no_output_default x f) → (P : Type 0) → Ended end (Err (value.Fault.NoOutputDefault x f)) P (gate_fault types l node f (gate_of types l node c f))
 call-lacks types l node f c end x k os o z P = ended_some end P _ (no_output_default x f) (value.Fault.NoOutputDefault x f) (rw (k, o) z) refl

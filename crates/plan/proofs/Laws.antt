@@ -8,7 +8,6 @@ use mathlib.Core.Option.{Option, none, some}
 use Prim.Native.Nat.{ℕ, zero, suc, ◌+◌, ◌-◌, ◌*◌, ◌≤◌, ◌<◌}
 use native.Mathlib.Omega.{arith}
 use lib.ListN.{length, get_or}
-use borrow.Author.Tests.{ne_eqb}
 use Rattle.definitions.specs.Bytes.{tokens}
 use Rattle.definitions.specs.Lists.{choose, join}
 use Rattle.definitions.specs.Tokens.{TagValue, tag_value, code_of}
@@ -17,48 +16,34 @@ use Rattle.definitions.specs.Reading.{got}
 use Rattle.definitions.specs.Clock.{Clock, is_base}
 use Rattle.definitions.specs.Declock.{Hold, clock_place, add_with_parents, operator_outputs, declared, operand_type, if_of}
 use Rattle.definitions.specs.Output.{expr_tokens, operand_tokens}
+use Rattle.shapes.proofs.Added.{has-add, has-parents}
 use Rattle.layout.specs.Owed.{follows, Owed}
 use Rattle.operands.specs.Spread.{tree}
-use Rattle.index.specs.Callees.{is_there}
+use Rattle.defaults.specs.Has.{is_some}
 use Rattle.stateless.specs.Need.{Turn, Needs, pre_turn, arrow_turn, call_turn, settled}
+use Rattle.stateless.specs.Leads.{Leads}
 use Rattle.stateless.specs.Yield.{Ids, output_trees, gate_of}
 use Rattle.stateless.specs.Faults.{outputs_fault, gate_fault}
 use Rattle.stateless.specs.Locals.{ids_in}
-use Rattle.stateless.proofs.Growth.{has-add, has-parents}
 use Rattle.skeleton.specs.Lies.{code_at, parts_at}
 use Rattle.planned.specs.declared.Plan.{Plan}
+use Rattle.planned.proofs.Arms.{arm-hold, arm-first, arm-gate, arm-when, arm-when-not, arm-merge, arm-other}
+use Rattle.planned.proofs.Laws.{change}
 use Rattle.planned.specs.Writes.{Writer, plan_of, named, gate_codes, default_codes, Writes}
 use Rattle.planned.specs.declared.HeldOperand.{HeldOperand}
 use Rattle.planned.specs.Held.{hold_at, HeldAt, HeldFrom}
-use Rattle.plan.specs.Planned.{Whole, Ahead, Agrees, Kept, HoldsAgree, HoldsKept, Ground, writer, Says}
+use Rattle.plan.specs.Planned.{Whole, Agrees, Kept, Ground, writer, Says, no_hold}
 use Rattle.plan.specs.Closed.{arrow_word, pre_word, call_word, Beside}
-use Rattle.plan.proofs.Growth.{ahead-trans, ahead-settled, arrow-holds, call-holds}
+use Rattle.stateless.proofs.Growth.{leads-trans, leads-settled}
+use Rattle.plan.proofs.Growth.{arrow-holds, call-holds}
 
 -- ---- tags whose tokens stay whatever their word
-stays-other : (flags firsts holds : List ℕ) (t v w : ℕ) → (t ≡ 58 → ⊥) → (t ≡ 59 → ⊥) → (t ≡ 60 → ⊥) → (t ≡ 67 → ⊥) → (t ≡ 68 → ⊥) → (t ≡ 69 → ⊥) → plan_of flags firsts holds t v w ≡ Plan.Stay
-unfolding plan_of
-stays-other flags firsts holds t v w a b g c d e = rw (ne_eqb t 58 a, ne_eqb t 59 b, ne_eqb t 60 g, ne_eqb t 67 c, ne_eqb t 68 d, ne_eqb t 69 e)
-
 pub Stays : ℕ → Type 0
 Stays t = (flags firsts holds : List ℕ) (v w : ℕ) → plan_of flags firsts holds t v w ≡ Plan.Stay
 
 pub stays-but : (t : ℕ) → (t ≡ 58 → ⊥) → (t ≡ 59 → ⊥) → (t ≡ 60 → ⊥) → (t ≡ 67 → ⊥) → (t ≡ 68 → ⊥) → (t ≡ 69 → ⊥) → Stays t
 unfolding Stays
-stays-but t a b g c d e flags firsts holds v w = stays-other flags firsts holds t v w a b g c d e
-
--- by the word of a `pre`, a `->` and a call
-module _ (flags firsts holds : List ℕ) (tag v w : ℕ) (z : w ≡ 0 → ⊥) (x : ℕ) where
-  plan-hold : tag ≡ 58 → x ≡ get_or holds (w - 1) 0 → plan_of flags firsts holds tag v w ≡ Plan.Hold x
-  unfolding plan_of
-  plan-hold e i = rw (e, ne_eqb w 0 z, i)
-
-  plan-first : tag ≡ 59 → x ≡ get_or firsts (w - 1) 0 → plan_of flags firsts holds tag v w ≡ Plan.Choose x
-  unfolding plan_of
-  plan-first e i = rw (e, ne_eqb w 0 z, i)
-
-  plan-gate : tag ≡ 60 → x ≡ get_or flags (w - 1) 0 → plan_of flags firsts holds tag v w ≡ Plan.Gate x
-  unfolding plan_of
-  plan-gate e i = rw (e, ne_eqb w 0 z, i)
+stays-but t a b g c d e flags firsts holds v w = sym (arm-other flags firsts holds t v w c d e a b g)
 
 -- what a `->` on this clock is written as, before what its operands are; ids say the first-tick flag
 abbrev pub arrow_codes : Clock → Ids → List TagValue → List TagValue
@@ -93,9 +78,6 @@ module _ (M : ℕ) (gs vs : List ℕ) (W : Writer) (plan : List ℕ) (holds : Li
   held_one j h a = (a, tt)
 
 module _ (G : Ground) where
-  change : {W : Writer} {plan : List ℕ} {p k m q : ℕ} {l : List TagValue} → k ≡ m → Writes G.tags G.values W plan p k q l → Writes G.tags G.values W plan p m q l
-  change {W} {plan} {p} {k} {m} {q} {l} e h = subst (λ (n : ℕ). Writes G.tags G.values W plan p n q l) e h
-
   retold : {W : Writer} {plan : List ℕ} {p k q : ℕ} {l m : List TagValue} → l ≡ m → Writes G.tags G.values W plan p k q l → Writes G.tags G.values W plan p k q m
   retold {W} {plan} {p} {k} {q} {l} {m} e h = subst (λ (n : List TagValue). Writes G.tags G.values W plan p k q n) e h
 
@@ -114,19 +96,19 @@ module _ (G : Ground) where
 
   -- some parts, then others
   pub says_then : (plan plan' : List ℕ) (holds holds' : List HeldOperand) (y z : Needs) (p a r b q : ℕ) (t u : Ids → List TagValue) (j : ℕ) (hs ks : Ids → List Hold) → ((ids : Ids) → j + length (hs ids) ≡ y.holds) → Says G plan holds y p a r t j hs → Says G plan' holds' z r b q u y.holds ks →
-      Kept plan plan' r q → HoldsKept holds holds' y.holds z.holds → Ahead y z → p ≤ r → r ≤ q → Says G plan' holds' z p (a + b) q (λ ids. t ids ++ u ids) j (λ ids. hs ids ++ ks ids)
+      Kept 0 plan plan' r q → Kept no_hold holds holds' y.holds z.holds → Leads y z → p ≤ r → r ≤ q → Says G plan' holds' z p (a + b) q (λ ids. t ids ++ u ids) j (λ ids. hs ids ++ ks ids)
   says_then plan plan' holds holds' y z p a r b q t u j hs ks count S T kept kept_h A i o = record {
     say = λ w x F f H W B plan'' agree k s m h.
         let ids = ids_in w.flags w.firsts F f H x in
         let back = T.say w x F f H W B plan'' (λ n f g. agree n (omega arith) g) k s m h in
-        let front = S.say w x F f H W (ahead-trans y z w A B) plan'' (λ n f g. agree n f (omega arith) ∙ kept n (inl g)) (b + k) s (u ids ++ m) back in
+        let front = S.say w x F f H W (leads-trans y z w A B) plan'' (λ n f g. agree n f (omega arith) ∙ kept n (inl g)) (b + k) s (u ids ++ m) back in
         retold (sym (append_assoc (t ids) (u ids) m)) (change (omega arith) front);
     hold = λ w x F f H W B plan'' holds'' agree same.
         let ids = ids_in w.flags w.firsts F f H x in
         let c = count ids in
         let n = A.holds in
         let back = T.hold w x F f H W B plan'' holds'' (λ n f g. agree n (omega arith) g) (λ n f g. same n (omega arith) g) in
-        let front = S.hold w x F f H W (ahead-trans y z w A B) plan'' holds'' (λ n f g. agree n f (omega arith) ∙ kept n (inl g)) (λ n f g. same n f (omega arith) ∙ kept_h n (inl g)) in
+        let front = S.hold w x F f H W (leads-trans y z w A B) plan'' holds'' (λ n f g. agree n f (omega arith) ∙ kept n (inl g)) (λ n f g. same n f (omega arith) ∙ kept_h n (inl g)) in
         held-append G.names G.tags G.values (writer G x F f H) plan'' holds'' (hs ids) (ks ids) j y.holds c front back;
   }
 
@@ -150,19 +132,16 @@ module _ (G : Ground) where
       drops flags firsts holds t v w a b = go (t - 67) refl
         where
           go : (d : ℕ) → t - 67 ≡ d → plan_of flags firsts holds t v w ≡ Plan.Drop
-          go zero e = let i : t ≡ 67 = omega arith in rw i
-          go (suc zero) e = let i : t ≡ 68 = omega arith in rw i
+          go zero e = sym (arm-when flags firsts holds t v w (omega arith))
+          go (suc zero) e = sym (arm-when-not flags firsts holds t v w (omega arith))
           go (suc (suc d)) e = absurd (omega arith)
 
   pub says-join : (plan : List ℕ) (holds : List HeldOperand) (y : Needs) (p q x : ℕ) (t : Ids → List TagValue) (j : ℕ) (hs : Ids → List Hold) → p < length G.tags → get_or G.tags p 0 ≡ 69 → get_or G.values p 0 ≡ x → Says G plan holds y (p + 1) 2 q t j hs → Says G plan holds y p 1 q (λ ids. named 57 x (t ids)) j hs
   unfolding plan_of
   says-join plan holds y p q x t j hs b i o S = record {
-    say = λ w z F f H W A plan' agree k s m h. change (omega arith) (Writes.choice {k = k} b (joins F f H (get_or G.tags p 0) (get_or G.values p 0) (get_or plan' p 0) i o) (change (omega arith) (S.say w z F f H W A plan' (λ i u v. agree i (omega arith) v) k s m h)));
+    say = λ w z F f H W A plan' agree k s m h. change (omega arith) (Writes.choice {k = k} b (sym (arm-merge F f H (get_or G.tags p 0) (get_or G.values p 0) (get_or plan' p 0) i) ∙ ap Plan.Choose o) (change (omega arith) (S.say w z F f H W A plan' (λ i u v. agree i (omega arith) v) k s m h)));
     hold = λ w z F f H W A plan' holds' agree same. S.hold w z F f H W A plan' holds' (λ i u v. agree i (omega arith) v) same;
   }
-    where
-      joins : (flags firsts holds : List ℕ) (t v w : ℕ) → t ≡ 69 → v ≡ x → plan_of flags firsts holds t v w ≡ Plan.Choose x
-      joins flags firsts holds t v w a b = rw (a, b)
 
   -- ---- a `->`, a `pre` and a call by their words
   module _ (W : Writer) (plan : List ℕ) (p k s : ℕ) (b : p < length G.tags) (l : List TagValue) where
@@ -184,7 +163,7 @@ module _ (G : Ground) where
           let g : get_or G.tags p 0 ≡ 59 = ap (λ (x : TagValue). x.tag) i in
           let n : get_or plan p 0 ≡ suc (clock_place c cs) = z in
           let e : clock_place c ds ≡ get_or plan p 0 - 1 = omega (arith, place refl) in
-          Writes.choice {x = ids.first c} b (plan-first W.flag_ids W.first_ids W.hold_ids (get_or G.tags p 0) (get_or G.values p 0) (get_or plan p 0) (λ o. omega arith) (ids.first c) g (f ∙ ap (λ (a : ℕ). get_or W.first_ids a 0) e)) h
+          Writes.choice {x = ids.first c} b (sym (arm-first W.flag_ids W.first_ids W.hold_ids (get_or G.tags p 0) (get_or G.values p 0) (get_or plan p 0) g (λ o. omega arith) (ids.first c) (f ∙ ap (λ (a : ℕ). get_or W.first_ids a 0) e))) h
 
   hold-writes : (W : Writer) (plan : List ℕ) (c : Clock) (bare : Bool) (n : ℕ) (ids : Ids) → ids.hold n ≡ get_or W.hold_ids n 0 → (p k r s : ℕ) → p < length G.tags → code_at G.tags G.values p ≡ tag_value 58 0 → get_or plan p 0 ≡ pre_word c bare n → Owed G.tags G.values (p + 1) 1 r →
       (l m : List TagValue) → Writes G.tags G.values W plan r k s m → Writes G.tags G.values W plan (p + 1) (suc k) s (l ++ m) → Writes G.tags G.values W plan p (suc k) s (pre_codes c bare n ids l ++ m)
@@ -198,14 +177,14 @@ module _ (G : Ground) where
           let g : get_or G.tags p 0 ≡ 58 = ap (λ (x : TagValue). x.tag) i in
           let a : get_or plan p 0 ≡ suc n = z in
           let e : n ≡ get_or plan p 0 - 1 = omega arith in
-          Writes.hold {x = ids.hold n} b (plan-hold W.flag_ids W.first_ids W.hold_ids (get_or G.tags p 0) (get_or G.values p 0) (get_or plan p 0) (λ o. omega arith) (ids.hold n) g (f ∙ ap (λ (a : ℕ). get_or W.hold_ids a 0) e)) o h
+          Writes.hold {x = ids.hold n} b (sym (arm-hold W.flag_ids W.first_ids W.hold_ids (get_or G.tags p 0) (get_or G.values p 0) (get_or plan p 0) g (λ o. omega arith) (ids.hold n) (f ∙ ap (λ (a : ℕ). get_or W.hold_ids a 0) e))) o h
 
   -- the outputs of a gated call have their defaults
   Outputs : Writer → ℕ → List Declared → Type 0
   Outputs W f os = (operator_outputs W.nodes f ≡ some os) × (outputs_fault W.types W.nodes W.node f os ≡ none)
 
   call-writes : (W : Writer) (plan : List ℕ) (c : Clock) (u : Option (List Declared)) (cs ds : List Clock) (f : ℕ) (ids : Ids) → ids.flag c ≡ get_or W.flag_ids (clock_place c ds) 0 → ids.condact ≡ W.condact → ((os : List Declared) → u ≡ some os → Outputs W f os) →
-      (p k r s : ℕ) → p < length G.tags → code_at G.tags G.values p ≡ tag_value 60 f → get_or plan p 0 ≡ choose (is_there u) (suc (clock_place c cs)) 0 → (is_there u ≡ true → clock_place c cs ≡ clock_place c ds) →
+      (p k r s : ℕ) → p < length G.tags → code_at G.tags G.values p ≡ tag_value 60 f → get_or plan p 0 ≡ choose (is_some u) (suc (clock_place c cs)) 0 → (is_some u ≡ true → clock_place c cs ≡ clock_place c ds) →
       (l m : List TagValue) → Writes G.tags G.values W plan r k s m → Writes G.tags G.values W plan (p + 1) 1 r l → Writes G.tags G.values W plan (p + 1) (suc k) s (l ++ m) → Writes G.tags G.values W plan p (suc k) s (call_codes (λ os. default_codes W os) u c f ids l ++ m)
   unfolding plan_of follows Outputs
   call-writes W plan c none cs ds f ids n x outs p k r s b i word place l m h j t = stay-with W plan p k s b (l ++ m) 60 f i 1 refl refl word (change (omega arith) t)
@@ -218,21 +197,21 @@ module _ (G : Ground) where
       let codes : gate_codes W.condact (length os + 2) (ids.flag c) (code_at G.tags G.values p ∷ (l ++ (default_codes W os ++ m))) ≡ gate_codes ids.condact (length os + 2) (ids.flag c) (tag_value 60 f ∷ (l ++ default_codes W os)) ++ m =
       ap (λ (z : TagValue). gate_codes W.condact (length os + 2) (ids.flag c) (z ∷ (l ++ (default_codes W os ++ m)))) i ∙ (ap (λ (z : List TagValue). gate_codes W.condact (length os + 2) (ids.flag c) (tag_value 60 f ∷ z)) (sym (append_assoc l (default_codes W os) m)) ∙
       ap (λ (z : ℕ). gate_codes z (length os + 2) (ids.flag c) (tag_value 60 f ∷ ((l ++ default_codes W os) ++ m))) (sym x)) in
-      retold codes (Writes.gate {x = ids.flag c} {os = os} {a = l} b (plan-gate W.flag_ids W.first_ids W.hold_ids (get_or G.tags p 0) (get_or G.values p 0) (get_or plan p 0) (λ o. omega arith) (ids.flag c) g (n ∙ ap (λ (a : ℕ). get_or W.flag_ids a 0) e)) (ap (operator_outputs W.nodes) v ∙ o.0)
+      retold codes (Writes.gate {x = ids.flag c} {os = os} {a = l} b (sym (arm-gate W.flag_ids W.first_ids W.hold_ids (get_or G.tags p 0) (get_or G.values p 0) (get_or plan p 0) g (λ o. omega arith) (ids.flag c) (n ∙ ap (λ (a : ℕ). get_or W.flag_ids a 0) e))) (ap (operator_outputs W.nodes) v ∙ o.0)
       (ap (λ (z : ℕ). outputs_fault W.types W.nodes W.node z os) v ∙ o.1) j h)
 
   -- a clock that a flag was added for is there
-  first-there : (c : Clock) (y w : Needs) → Ahead (settled (arrow_turn c) c y) w → is_base c ≡ false → clock_place c (settled (arrow_turn c) c y).firsts ≡ clock_place c w.firsts
-  first-there c y w A e = let B : Ahead (settled Turn.First c y) w = rw e at A in rw e (B.first-place c (has-add c y.firsts))
+  first-there : (c : Clock) (y w : Needs) → Leads (settled (arrow_turn c) c y) w → is_base c ≡ false → clock_place c (settled (arrow_turn c) c y).firsts ≡ clock_place c w.firsts
+  first-there c y w A e = let B : Leads (settled Turn.First c y) w = rw e at A in rw e (B.firsts.place c (has-add c y.firsts))
 
-  held-there : (c : Clock) (y w : Needs) → Ahead (settled Turn.Hold c y) w → is_base c ≡ false → clock_place c (add_with_parents c y.flags) ≡ clock_place c w.flags
-  held-there c y w A e = A.flag-place c (has-parents c y.flags e)
+  held-there : (c : Clock) (y w : Needs) → Leads (settled Turn.Hold c y) w → is_base c ≡ false → clock_place c (add_with_parents c y.flags) ≡ clock_place c w.flags
+  held-there c y w A e = A.flags.place c (has-parents c y.flags e)
 
-  gate-there : (c : Clock) (y w : Needs) → Ahead (settled Turn.Gate c y) w → is_base c ≡ false → clock_place c (add_with_parents c y.flags) ≡ clock_place c w.flags
-  gate-there c y w A e = A.flag-place c (has-parents c y.flags e)
+  gate-there : (c : Clock) (y w : Needs) → Leads (settled Turn.Gate c y) w → is_base c ≡ false → clock_place c (add_with_parents c y.flags) ≡ clock_place c w.flags
+  gate-there c y w A e = A.flags.place c (has-parents c y.flags e)
 
   module _ (plan plan' : List ℕ) (y : Needs) (c : Clock) (p q : ℕ) (t : Ids → List TagValue) (j : ℕ) (hs : Ids → List Hold) (b : p < length G.tags) (o : p < q) (beside : Beside plan plan' p) where
-    inside : (plan'' : List ℕ) → Agrees plan' plan'' p q → Agrees plan plan'' (p + 1) q
+    inside : (plan'' : List ℕ) → Agrees 0 plan' plan'' p q → Agrees 0 plan plan'' (p + 1) q
     inside plan'' agree i f g = agree i (omega arith) g ∙ beside i (λ z. omega arith)
 
     pub says-follow : (holds : List HeldOperand) → code_at G.tags G.values p ≡ tag_value 59 0 → (17 * length (settled (arrow_turn c) c y).firsts ≤ G.first_room → length (settled (arrow_turn c) c y).firsts < 4294967295 → get_or plan' p 0 ≡ arrow_word c (settled (arrow_turn c) c y).firsts) →
@@ -240,57 +219,57 @@ module _ (G : Ground) where
     says-follow holds i word S = record {
       say = λ w x F f H W A plan'' agree k s m h.
           let ids = ids_in w.flags w.firsts F f H x in
-          let n = A.firsts in
+          let n = A.firsts.many in
           let u = W.firsts-fit in
           let g = W.few-firsts in
           let v = agree p (omega arith) o ∙ word (omega arith) (omega arith) in
-          let inner = S.say w x F f H W (ahead-trans y (settled (arrow_turn c) c y) w (ahead-settled (arrow_turn c) c y) A) plan'' (inside plan'' agree) k s m h in
+          let inner = S.say w x F f H W (leads-trans y (settled (arrow_turn c) c y) w (leads-settled (arrow_turn c) c y) A) plan'' (inside plan'' agree) k s m h in
           change (omega arith) (follow-writes (writer G x F f H) plan'' c (settled (arrow_turn c) c y).firsts w.firsts ids refl p k s b i v (first-there c y w A) (t ids) m (change (omega arith) inner));
       hold = λ w x F f H W A plan'' holds'' agree same.
           let n = arrow-holds c y in
-          S.hold w x F f H W (ahead-trans y (settled (arrow_turn c) c y) w (ahead-settled (arrow_turn c) c y) A) plan'' holds'' (inside plan'' agree) (λ i u v. same i u (omega arith));
+          S.hold w x F f H W (leads-trans y (settled (arrow_turn c) c y) w (leads-settled (arrow_turn c) c y) A) plan'' holds'' (inside plan'' agree) (λ i u v. same i u (omega arith));
     }
 
     -- the call's flag keeps its row
-    gate-place : (o : Option (List Declared)) (w : Needs) → Ahead (settled (call_turn c (is_there o)) c y) w → is_there (choose (is_base c) none o) ≡ true → clock_place c (settled (call_turn c (is_there o)) c y).flags ≡ clock_place c w.flags
+    gate-place : (o : Option (List Declared)) (w : Needs) → Leads (settled (call_turn c (is_some o)) c y) w → is_some (choose (is_base c) none o) ≡ true → clock_place c (settled (call_turn c (is_some o)) c y).flags ≡ clock_place c w.flags
     gate-place o w A h = go (is_base c) refl o A h
       where
-        go : (u : Bool) → is_base c ≡ u → (o : Option (List Declared)) → Ahead (settled (choose u Turn.Keep (choose (is_there o) Turn.Gate Turn.Keep)) c y) w → is_there (choose u none o) ≡ true → clock_place c (settled (choose u Turn.Keep (choose (is_there o) Turn.Gate Turn.Keep)) c y).flags ≡ clock_place c w.flags
+        go : (u : Bool) → is_base c ≡ u → (o : Option (List Declared)) → Leads (settled (choose u Turn.Keep (choose (is_some o) Turn.Gate Turn.Keep)) c y) w → is_some (choose u none o) ≡ true → clock_place c (settled (choose u Turn.Keep (choose (is_some o) Turn.Gate Turn.Keep)) c y).flags ≡ clock_place c w.flags
         go true e o A h = absurd (false≢true h)
         go false e none A h = absurd (false≢true h)
         go false e (some os) A h = gate-there c y w A e
 
-    gate-word : (n : ℕ) (u : Bool) (o : Option (List Declared)) → choose u 0 (choose (is_there o) n 0) ≡ choose (is_there (choose u none o)) n 0
+    gate-word : (n : ℕ) (u : Bool) (o : Option (List Declared)) → choose u 0 (choose (is_some o) n 0) ≡ choose (is_some (choose u none o)) n 0
     gate-word n true o = refl
     gate-word n false o = refl
 
     gate-outputs : (W : Writer) (f : ℕ) (u : Bool) (o : Option (List Declared)) → operator_outputs W.nodes f ≡ o → gate_fault W.types W.nodes W.node f (choose u none o) ≡ none → (os : List Declared) → choose u none o ≡ some os → Outputs W f os
     unfolding Outputs
-    gate-outputs W f true o i z os e = let n : ◌≡◌ {A = Bool} false true = ap is_there e in absurd (false≢true n)
+    gate-outputs W f true o i z os e = let n : ◌≡◌ {A = Bool} false true = ap is_some e in absurd (false≢true n)
     gate-outputs W f false o i z os e = (i ∙ e, sym (ap (gate_fault W.types W.nodes W.node f) e) ∙ z)
 
     pub says-call : (holds : List HeldOperand) (f : ℕ) → code_at G.tags G.values p ≡ tag_value 60 f → gate_fault G.types G.nodes G.node f (gate_of G.types G.nodes G.node c f) ≡ none →
-        (17 * length (settled (call_turn c (is_there (operator_outputs G.nodes f))) c y).flags ≤ G.flag_room → length (settled (call_turn c (is_there (operator_outputs G.nodes f))) c y).flags < 4294967295 → get_or plan' p 0 ≡ call_word c (is_there (operator_outputs G.nodes f)) (settled (call_turn c (is_there (operator_outputs G.nodes f))) c y).flags) →
-        Says G plan holds y (p + 1) 1 q t j hs → Says G plan' holds (settled (call_turn c (is_there (operator_outputs G.nodes f))) c y) p 1 q (λ ids. call_codes (defaults_in G) (gate_of G.types G.nodes G.node c f) c f ids (t ids)) j hs
+        (17 * length (settled (call_turn c (is_some (operator_outputs G.nodes f))) c y).flags ≤ G.flag_room → length (settled (call_turn c (is_some (operator_outputs G.nodes f))) c y).flags < 4294967295 → get_or plan' p 0 ≡ call_word c (is_some (operator_outputs G.nodes f)) (settled (call_turn c (is_some (operator_outputs G.nodes f))) c y).flags) →
+        Says G plan holds y (p + 1) 1 q t j hs → Says G plan' holds (settled (call_turn c (is_some (operator_outputs G.nodes f))) c y) p 1 q (λ ids. call_codes (defaults_in G) (gate_of G.types G.nodes G.node c f) c f ids (t ids)) j hs
     says-call holds f i z word S =
         let o' : p < q = o in
         let o = operator_outputs G.nodes f in
-        let v = settled (call_turn c (is_there o)) c y in
+        let v = settled (call_turn c (is_some o)) c y in
         record {
           say = λ w x F u H W A plan'' agree k s m h.
               let ids = ids_in w.flags w.firsts F u H x in
-              let n = A.flags in
+              let n = A.flags.many in
               let a = W.flags-fit in
               let g = W.few-flags in
-              let back = ahead-trans y v w (ahead-settled (call_turn c (is_there o)) c y) A in
+              let back = leads-trans y v w (leads-settled (call_turn c (is_some o)) c y) A in
               let r = agree p (omega arith) o' ∙ (word (omega arith) (omega arith) ∙ gate-word (suc (clock_place c v.flags)) (is_base c) o) in
               let inner = S.say w x F u H W back plan'' (inside plan'' agree) k s m h in
               let alone = S.say w x F u H W back plan'' (inside plan'' agree) 0 q [] Writes.done in
               change (omega arith) (call-writes (writer G x F u H) plan'' c (gate_of G.types G.nodes G.node c f) v.flags w.flags f ids refl refl (gate-outputs (writer G x F u H) f (is_base c) o refl z)
               p k q s b i r (gate-place o w A) (t ids) m h (retold (append-nil (t ids)) (change (omega arith) alone)) (change (omega arith) inner));
           hold = λ w x F u H W A plan'' holds'' agree same.
-              let n = call-holds c (is_there o) y in
-              S.hold w x F u H W (ahead-trans y v w (ahead-settled (call_turn c (is_there o)) c y) A) plan'' holds'' (inside plan'' agree) (λ i u v. same i u (omega arith));
+              let n = call-holds c (is_some o) y in
+              S.hold w x F u H W (leads-trans y v w (leads-settled (call_turn c (is_some o)) c y) A) plan'' holds'' (inside plan'' agree) (λ i u v. same i u (omega arith));
         }
 
   -- a `pre`, whose hold is the last
@@ -299,19 +278,19 @@ module _ (G : Ground) where
     abbrev pub hold_of : Ids → Hold
     hold_of ids = record { type = type; right = if_of (Expr.var (ids.flag c)) (value ids) (Expr.pre (Expr.var (ids.hold y.holds))) }
 
-    within-pre : (plan'' : List ℕ) → Agrees plan' plan'' p q → Agrees plan plan'' (p + 1) q
+    within-pre : (plan'' : List ℕ) → Agrees 0 plan' plan'' p q → Agrees 0 plan plan'' (p + 1) q
     within-pre plan'' agree i f g = agree i (omega arith) g ∙ beside i (λ z. omega arith)
 
     module _ (count : (ids : Ids) → j + length (hs ids) ≡ y.holds) (S : Says G plan holds y (p + 1) 1 q (λ ids. map code_of (expr_tokens (value ids))) j hs) (stands : tree G.names (tokens G.tags G.values) (p + 1) ≡ got a q)
-        (typed : is_base c ≡ false → bare ≡ false → operand_type (declared G.node) a ≡ some type) (kept : HoldsKept holds holds' y.holds (settled (pre_turn c bare) c y).holds)
+        (typed : is_base c ≡ false → bare ≡ false → operand_type (declared G.node) a ≡ some type) (kept : Kept no_hold holds holds' y.holds (settled (pre_turn c bare) c y).holds)
         (few : length G.tags < 4294967296) (row : is_base c ≡ false → bare ≡ false → p + 1 < 4294967296 → y.holds < 4294967295 → y.holds < G.hold_room → 17 * length (add_with_parents c y.flags) ≤ G.flag_room → length (add_with_parents c y.flags) < 4294967296 → hold_at holds' y.holds ≡ record { at = p + 1; row = clock_place c (add_with_parents c y.flags) }) where
-      held-last : is_base c ≡ false → bare ≡ false → (w : Needs) (x : ℕ) (F f H : List ℕ) → Whole G.flag_room G.first_room G.hold_room w → Ahead (settled Turn.Hold c y) w → (plan'' : List ℕ) (holds'' : List HeldOperand) → Agrees plan plan'' (p + 1) q → HoldsAgree holds' holds'' j (settled Turn.Hold c y).holds →
+      held-last : is_base c ≡ false → bare ≡ false → (w : Needs) (x : ℕ) (F f H : List ℕ) → Whole G.flag_room G.first_room G.hold_room w → Leads (settled Turn.Hold c y) w → (plan'' : List ℕ) (holds'' : List HeldOperand) → Agrees 0 plan plan'' (p + 1) q → Agrees no_hold holds' holds'' j (settled Turn.Hold c y).holds →
           HeldAt G.names G.tags G.values (writer G x F f H) plan'' holds'' y.holds (hold_of (ids_in w.flags w.firsts F f H x))
       held-last e v w x F f H W A plan'' holds'' agree same =
           let ids = ids_in w.flags w.firsts F f H x in
           let k = count ids in
           let n = A.holds in
-          let m = A.flags in
+          let m = A.flags.many in
           let g = W.few-holds in
           let u = W.holds-fit in
           let z = W.flags-fit in
@@ -319,7 +298,7 @@ module _ (G : Ground) where
           let r = same y.holds (omega arith) (omega arith) ∙ row e v (omega arith) (omega arith) (omega arith) (omega arith) (omega arith) in
           let place : (hold_at holds'' y.holds).at ≡ p + 1 = ap (λ (h : HeldOperand). h.at) r in
           let flag : (hold_at holds'' y.holds).row ≡ clock_place c w.flags = ap (λ (h : HeldOperand). h.row) r ∙ held-there c y w A e in
-          let alone = S.say w x F f H W (ahead-trans y (settled Turn.Hold c y) w (ahead-settled Turn.Hold c y) A) plan'' agree 0 q [] Writes.done in
+          let alone = S.say w x F f H W (leads-trans y (settled Turn.Hold c y) w (leads-settled Turn.Hold c y) A) plan'' agree 0 q [] Writes.done in
           let written : Writes G.tags G.values (writer G x F f H) plan'' (p + 1) 1 q (map code_of (expr_tokens (value ids))) = retold (append-nil (map code_of (expr_tokens (value ids)))) (change (omega arith) alone) in
           record {
             operand = a;
@@ -337,19 +316,19 @@ module _ (G : Ground) where
         say = λ w x F f H W A plan'' agree k s m h.
             let ids = ids_in w.flags w.firsts F f H x in
             let n = A.holds in
-            let e = (ahead-settled (pre_turn c bare) c y).holds in
+            let e = (leads-settled (pre_turn c bare) c y).holds in
             let g = W.few-holds in
             let v = agree p (omega arith) o ∙ word (omega arith) in
-            let inner = S.say w x F f H W (ahead-trans y (settled (pre_turn c bare) c y) w (ahead-settled (pre_turn c bare) c y) A) plan'' (within-pre plan'' agree) k s m h in
+            let inner = S.say w x F f H W (leads-trans y (settled (pre_turn c bare) c y) w (leads-settled (pre_turn c bare) c y) A) plan'' (within-pre plan'' agree) k s m h in
             change (omega arith) (hold-writes (writer G x F f H) plan'' c bare y.holds ids refl p k q s b i v owed (map code_of (expr_tokens (value ids))) m h (change (omega arith) inner));
         hold = λ w x F f H W A plan'' holds'' agree same.
-            let e = (ahead-settled (pre_turn c bare) c y).holds in
-            let front = S.hold w x F f H W (ahead-trans y (settled (pre_turn c bare) c y) w (ahead-settled (pre_turn c bare) c y) A) plan'' holds'' (within-pre plan'' agree) (λ i u v. same i u (omega arith) ∙ kept i (inl v)) in
+            let e = (leads-settled (pre_turn c bare) c y).holds in
+            let front = S.hold w x F f H W (leads-trans y (settled (pre_turn c bare) c y) w (leads-settled (pre_turn c bare) c y) A) plan'' holds'' (within-pre plan'' agree) (λ i u v. same i u (omega arith) ∙ kept i (inl v)) in
             all_held w x F f H W plan'' holds'' (within-pre plan'' agree) front (is_base c) bare refl refl A same;
       }
         where
-          all_held : (w : Needs) (x : ℕ) (F f H : List ℕ) → Whole G.flag_room G.first_room G.hold_room w → (plan'' : List ℕ) (holds'' : List HeldOperand) → Agrees plan plan'' (p + 1) q → HeldFrom G.names G.tags G.values (writer G x F f H) plan'' holds'' j (hs (ids_in w.flags w.firsts F f H x)) →
-              (u v : Bool) → is_base c ≡ u → bare ≡ v → Ahead (settled (choose u Turn.Keep (choose v Turn.Keep Turn.Hold)) c y) w → HoldsAgree holds' holds'' j (settled (choose u Turn.Keep (choose v Turn.Keep Turn.Hold)) c y).holds →
+          all_held : (w : Needs) (x : ℕ) (F f H : List ℕ) → Whole G.flag_room G.first_room G.hold_room w → (plan'' : List ℕ) (holds'' : List HeldOperand) → Agrees 0 plan plan'' (p + 1) q → HeldFrom G.names G.tags G.values (writer G x F f H) plan'' holds'' j (hs (ids_in w.flags w.firsts F f H x)) →
+              (u v : Bool) → is_base c ≡ u → bare ≡ v → Leads (settled (choose u Turn.Keep (choose v Turn.Keep Turn.Hold)) c y) w → Agrees no_hold holds' holds'' j (settled (choose u Turn.Keep (choose v Turn.Keep Turn.Hold)) c y).holds →
               HeldFrom G.names G.tags G.values (writer G x F f H) plan'' holds'' j (choose u (hs (ids_in w.flags w.firsts F f H x)) (choose v (hs (ids_in w.flags w.firsts F f H x)) (hs (ids_in w.flags w.firsts F f H x) ++ (hold_of (ids_in w.flags w.firsts F f H x) ∷ []))))
           all_held w x F f H W plan'' holds'' agree front true v e g A same = front
           all_held w x F f H W plan'' holds'' agree front false true e g A same = front

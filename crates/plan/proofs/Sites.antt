@@ -21,7 +21,6 @@ use Rattle.definitions.specs.Types.{default}
 use Rattle.definitions.specs.InferClocks.{Fault, no_output_default}
 use Rattle.clock_tables.specs.Value.{clock_at}
 use Rattle.clock_tables.specs.Flat.{conditions_from, depth_in, clock_in}
-use Rattle.index.specs.Callees.{is_there}
 use Rattle.typing.specs.declared.TypeFound.{TypeFound}
 use Rattle.typing.specs.Found.{IsFound}
 use Rattle.stateless.specs.Faults.{unless, outputs_fault}
@@ -41,7 +40,7 @@ base-depth t b d i = ap (λ (n : ℕ). eqb n 0) i ∙ go (depth_in t b)
     go (suc n) = ne_eqb (suc n) 0 (λ z. omega arith)
 
 -- a type is found where there is one
-pub typed-there : (M : ℕ) (ts : List TagValue) (o : Option Ty) (f : code.Option TypeFound) → IsFound M ts o f → rust.is_some f ≡ is_there o
+pub typed-there : (M : ℕ) (ts : List TagValue) (o : Option Ty) (f : code.Option TypeFound) → IsFound M ts o f → rust.is_some f ≡ is_some o
 unfolding IsFound
 typed-there M ts none None h = refl
 typed-there M ts none (Some (TypeFound.At p)) h = absurd h
@@ -51,7 +50,7 @@ typed-there M ts (some t) (Some (TypeFound.At p)) h = refl
 typed-there M ts (some t) (Some (TypeFound.Basic k)) h = refl
 
 -- ---- outputs without a default
-unless-none : {A : Type 0} (o : Option A) (f : Fault) (b : Bool) → b ≡ is_some o → b ≡ false → unless o f ≡ some f
+pub unless-none : {A : Type 0} (o : Option A) (f : Fault) (b : Bool) → b ≡ is_some o → b ≡ false → some f ≡ unless o f
 unless-none none f b i j = refl
 unless-none (some a) f b i j = let z : ◌≡◌ {A = Bool} true false = sym i ∙ j in absurd (true≢false z)
 
@@ -67,7 +66,7 @@ module _ (types : List TypeDef) (l : List Node) (node : Node) (f : ℕ) (ds : Li
   module _ (d : Declared) (rest : List Declared) (w : ds ≡ d ∷ rest) (b : Bool) (i : b ≡ is_some (default types d.type)) where
     outputs-lack : b ≡ false → (y : ℕ) → y ≡ d.name → some (no_output_default y f) ≡ outputs_fault types l node f ds
     unfolding outputs_fault
-    outputs-lack j y k = rw (w, k) (sym (ap (λ (o : Option Fault). or_else o (outputs_fault types l node f rest)) (unless-none (default types d.type) (no_output_default d.name f) b i j)))
+    outputs-lack j y k = rw (w, k) (ap (λ (o : Option Fault). or_else o (outputs_fault types l node f rest)) (unless-none (default types d.type) (no_output_default d.name f) b i j))
 
     outputs-more : b ≡ true → outputs_fault types l node f ds ≡ outputs_fault types l node f rest
     unfolding outputs_fault

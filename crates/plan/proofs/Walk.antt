@@ -23,12 +23,12 @@ use Rattle.shapes.specs.Shape.{many}
 use Rattle.clock_tables.specs.Flat.{clock_in}
 use Rattle.layout.specs.Owed.{follows}
 use Rattle.layout.proofs.Owed.{owed-on, owed-few}
-use Rattle.layout.specs.Table.{Table}
 use Rattle.operands.specs.Spread.{tree}
-use Rattle.index.specs.Callees.{NodesStand, is_there}
-use Rattle.defaults.specs.Has.{DefaultsKnown}
+use Rattle.index.specs.Callees.{NodesStand, TypesStand}
+use Rattle.defaults.specs.Has.{is_some}
 use Rattle.typing.specs.Found.{Declares}
 use Rattle.stateless.specs.Need.{Turn, Needs, is_bare, pre_turn, arrow_turn, call_turn, settled, needed, needed_all}
+use Rattle.stateless.specs.Leads.{Leads}
 use Rattle.stateless.specs.Yield.{Ids, Yield, type_or, gate_of, output_trees, pre_yield, call_tree, yield, yields}
 use Rattle.stateless.specs.Faults.{pre_fault, gate_fault, fault_in, fault_among}
 use Rattle.skeleton.specs.Around.{around}
@@ -44,16 +44,26 @@ use Rattle.plan.specs.declared.Notes.{Notes}
 use Rattle.plan.specs.Tables.{Arrays, Tables, tables_of, StillLent, Begun}
 use Rattle.planned.specs.declared.HeldOperand.{HeldOperand}
 use Rattle.planned.specs.Held.{hold_at}
-use Rattle.plan.specs.Planned.{Ahead, HoldsKept, Ground, Says, Planned, Ended, tree_codes, tree_holds, both_codes, both_holds, frame_codes, frame_holds}
+use Rattle.plan.specs.Planned.{Kept, Ground, Says, Planned, Ended, tree_codes, tree_holds, both_codes, both_holds, frame_codes, frame_holds, no_hold}
 use Rattle.plan.specs.Closed.{Beside, Followed, Gated, Preceded}
 use Rattle.plan.specs.Walks.{Setting, ground_of, Known, Roomy, Site, Leaves, Walks, WalksBoth, WalksAll}
-use Rattle.plan.proofs.Growth.{ahead-needed, ahead-all, ahead-settled, arrow-holds, call-holds, yield-holds, yield-count}
+use Rattle.stateless.proofs.Growth.{leads-needed, leads-all, leads-settled}
+use Rattle.plan.proofs.Growth.{arrow-holds, call-holds, yield-holds, yield-count}
 use Rattle.plan.proofs.Laws.{stays-but, says_none, says-as, says_then, says-stay, says-drop, says-join, says-follow, says-call, says-previous, arrow_codes, pre_codes, call_codes, defaults_in, pre_holds}
 
 -- an end of a walk that met no fault, or met one, tells which
 with_none : (o : Option Fault) → {q : ℕ} {r : Result ℕ value.Fault} {P : Type 0} → Ended q r P o → Ended q r ((o ≡ none) × P) o
 with_none o (Ended.goes a b) = Ended.goes (refl, a) b
 with_none o (Ended.stops g a b) = Ended.stops g a b
+
+-- a place outside a part is outside what stands further inside
+pub before-part : (p r q n : ℕ) → p ≤ r → (n < p) ⊎ (q ≤ n) → (n < r) ⊎ (q ≤ n)
+before-part p r q n i (inl h) = inl (omega arith)
+before-part p r q n i (inr h) = inr h
+
+pub behind-part : (p r q n : ℕ) → r ≤ q → (n < p) ⊎ (q ≤ n) → (n < p) ⊎ (r ≤ n)
+behind-part p r q n o (inl h) = inl h
+behind-part p r q n o (inr h) = inr (omega arith)
 
 -- ---- tokens and holds of rewritten expressions
 module _ (G : Ground) where
@@ -167,24 +177,16 @@ module _ (G : Ground) where
       wider i (inr h) = inr h
 
   -- one walk after another
-  followed-by : (s s' s'' : Tables) (y z : Needs) (p a r b q : ℕ) (t u : Ids → List TagValue) (j : ℕ) (hs ks : Ids → List Hold) → ((ids : Ids) → j + length (hs ids) ≡ y.holds) → j ≤ y.holds → Ahead y z → p ≤ r → r ≤ q →
+  followed-by : (s s' s'' : Tables) (y z : Needs) (p a r b q : ℕ) (t u : Ids → List TagValue) (j : ℕ) (hs ks : Ids → List Hold) → ((ids : Ids) → j + length (hs ids) ≡ y.holds) → j ≤ y.holds → Leads y z → p ≤ r → r ≤ q →
       Planned G s s' y p a r t j hs → Planned G s' s'' z r b q u y.holds ks → Planned G s s'' z p (a + b) q (λ ids. t ids ++ u ids) j (λ ids. hs ids ++ ks ids)
   followed-by s s' s'' y z p a r b q t u j hs ks count f A i o P Q =
       let g = A.holds in
       record {
         begun = Q.begun;
-        kept = λ n h. Q.kept n (later p r q n i h) ∙ P.kept n (sooner p r q n o h);
-        held = λ n h. Q.held n (later j y.holds z.holds n f h) ∙ P.held n (sooner j y.holds z.holds n g h);
+        kept = λ n h. Q.kept n (before-part p r q n i h) ∙ P.kept n (behind-part p r q n o h);
+        held = λ n h. Q.held n (before-part j y.holds z.holds n f h) ∙ P.held n (behind-part j y.holds z.holds n g h);
         says = says_then G s'.plan s''.plan s'.holds s''.holds y z p a r b q t u j hs ks count P.says Q.says Q.kept Q.held A i o;
       }
-    where
-      later : (p r q n : ℕ) → p ≤ r → (n < p) ⊎ (q ≤ n) → (n < r) ⊎ (q ≤ n)
-      later p r q n i (inl h) = inl (omega arith)
-      later p r q n i (inr h) = inr h
-
-      sooner : (p r q n : ℕ) → r ≤ q → (n < p) ⊎ (q ≤ n) → (n < p) ⊎ (r ≤ n)
-      sooner p r q n o (inl h) = inl h
-      sooner p r q n o (inr h) = inr (omega arith)
 
   -- other tokens, holds and needs that are the same
   retold : (s s' : Tables) (y z : Needs) (p n q : ℕ) (t u : Ids → List TagValue) (j : ℕ) (hs ks : Ids → List Hold) → y ≡ z → ((ids : Ids) → t ids ≡ u ids) → ((ids : Ids) → hs ids ≡ ks ids) → Planned G s s' y p n q t j hs → Planned G s s' z p n q u j ks
@@ -193,7 +195,7 @@ module _ (G : Ground) where
 
   -- a token whose own word is written behind its parts'
   closed : (s s' s'' : Tables) (y z : Needs) (p n q : ℕ) (t u : Ids → List TagValue) (j : ℕ) (hs ks : Ids → List Hold) → p < q → j ≤ y.holds → y.holds ≤ z.holds → Planned G s s' y (p + 1) n q t j hs →
-      Beside s'.plan s''.plan p → HoldsKept s'.holds s''.holds y.holds z.holds → Begun s'' z → Says G s''.plan s''.holds z p 1 q u j ks → Planned G s s'' z p 1 q u j ks
+      Beside s'.plan s''.plan p → Kept no_hold s'.holds s''.holds y.holds z.holds → Begun s'' z → Says G s''.plan s''.holds z p 1 q u j ks → Planned G s s'' z p 1 q u j ks
   closed s s' s'' y z p n q t u j hs ks o f g P beside kept B S = record { begun = B; kept = other; held = row; says = S }
     where
       other : (i : ℕ) → (i < p) ⊎ (q ≤ i) → get_or s''.plan i 0 ≡ get_or s.plan i 0
@@ -277,7 +279,7 @@ module _ (A : Arrays) where
 
   -- how much is needed before and after
   pub grown : (T : Setting) (e : Expr) (c : Clock) (y : Needs) → y.holds ≤ (needed T.nodes c e y).holds
-  grown T e c y = (ahead-needed T.nodes e c y).holds
+  grown T e c y = (leads-needed T.nodes e c y).holds
 
   pub counted : (T : Setting) (e : Expr) (c : Clock) (y : Needs) (ids : Ids) → y.holds + length (tree_holds (ground_of A T) c y.holds e ids) ≡ (needed T.nodes c e y).holds
   counted T e c y ids = yield-count T.types T.nodes T.node ids e c y.holds ∙ yield-holds T.types T.nodes T.node ids e c y.holds y refl
@@ -395,8 +397,8 @@ module _ (A : Arrays) where
 
       -- a call
       pub walks-call : (r : Result ℕ value.Fault) → get_or A.tags p 0 ≡ 60 → WalksAll A s s' 1 (p + 1) r₀ →
-          ((types : List TypeDef) (l : List Node) (node : Node) (y : Needs) → NodesStand A.names A.tags A.values A.places A.nodes l → Table A.names (tokens A.tags A.values) A.defs A.types types → DefaultsKnown types A.types A.types A.has → Begun s' y →
-          Ended x r (Gated s' s'' (clock_in A.sites (17 * p)) (is_there (operator_outputs l (get_or A.values p 0))) y p) (gate_fault types l node (get_or A.values p 0) (gate_of types l node (clock_in A.sites (17 * p)) (get_or A.values p 0)))) → Walks A s s'' p r
+          ((types : List TypeDef) (l : List Node) (node : Node) (y : Needs) → NodesStand A.names A.tags A.values A.places A.nodes l → TypesStand A.names A.tags A.values A.defs A.types A.has types → Begun s' y →
+          Ended x r (Gated s' s'' (clock_in A.sites (17 * p)) (is_some (operator_outputs l (get_or A.values p 0))) y p) (gate_fault types l node (get_or A.values p 0) (gate_of types l node (clock_in A.sites (17 * p)) (get_or A.values p 0)))) → Walks A s s'' p r
       unfolding needed yield fault_in
       walks-call r t E F = record {
         walk = λ T c e q y K R d B.
@@ -414,21 +416,21 @@ module _ (A : Arrays) where
             let W = E.walk T c us ds q y K R o.6 B in
             let room = roomy_after T s' s'' L' (roomy_after T s s' L R) in
             let out = operator_outputs T.nodes f in
-            let k = (ahead-all T.nodes us c c y).holds in
-            let n = call-holds c (is_there out) z in
+            let k = (leads-all T.nodes us c c y).holds in
+            let n = call-holds c (is_some out) z in
             let fits = R.plan in
             let wide = L.plan in
             let there = v.0 in
             let fault = gate_fault T.types T.nodes T.node f (gate_of T.types T.nodes T.node c f) in
             let next : Planned G s s' z (p + 1) 1 q (frame_codes G c y.holds us ds) y.holds (frame_holds G c y.holds us) → x ≡ q →
-            Ended q r ((fault ≡ none) × Gated s' s'' c (is_there out) z p) fault =
-            λ P m. with_none fault (subst (λ (w : ℕ). Ended w r (Gated s' s'' c (is_there out) z p) fault) m
-            (subst (λ (w : ℕ). Ended x r (Gated s' s'' c (is_there (operator_outputs T.nodes w)) z p) (gate_fault T.types T.nodes T.node w (gate_of T.types T.nodes T.node c w))) val
-            (subst (λ (w : Clock). Ended x r (Gated s' s'' w (is_there (operator_outputs T.nodes (get_or A.values p 0))) z p) (gate_fault T.types T.nodes T.node (get_or A.values p 0) (gate_of T.types T.nodes T.node w (get_or A.values p 0)))) on
-            (F T.types T.nodes T.node z K.standing K.table K.defaulted P.begun)))) in
+            Ended q r ((fault ≡ none) × Gated s' s'' c (is_some out) z p) fault =
+            λ P m. with_none fault (subst (λ (w : ℕ). Ended w r (Gated s' s'' c (is_some out) z p) fault) m
+            (subst (λ (w : ℕ). Ended x r (Gated s' s'' c (is_some (operator_outputs T.nodes w)) z p) (gate_fault T.types T.nodes T.node w (gate_of T.types T.nodes T.node c w))) val
+            (subst (λ (w : Clock). Ended x r (Gated s' s'' w (is_some (operator_outputs T.nodes (get_or A.values p 0))) z p) (gate_fault T.types T.nodes T.node (get_or A.values p 0) (gate_of T.types T.nodes T.node w (get_or A.values p 0)))) on
+            (F T.types T.nodes T.node z K.standing K.typed P.begun)))) in
             rw o.3 (ended-then went W next (λ P Q.
             let D = Q.1 in
-            let w = settled (call_turn c (is_there out)) c z in
+            let w = settled (call_turn c (is_some out)) c z in
             retold G s s'' w w p 1 q _ _ y.holds _ _ refl (call-codes G f us p ds o.4 (subst (λ (w : Expr). Framed A.tags A.values w us p ds) o.3 o.5) c y.holds) (λ ids. refl)
             (closed G s s' s'' z w p 1 q _ _ y.holds _ _ u k (omega arith) P D.beside (λ i a. ap (λ (l : List HeldOperand). hold_at l i) D.held) D.begun
             (subst (λ (l : List HeldOperand). Says G s''.plan l w p 1 q (λ ids. call_codes (defaults_in G) (gate_of T.types T.nodes T.node c f) c f ids (frame_codes G c y.holds us ds ids)) y.holds (frame_holds G c y.holds us)) (sym D.held)
@@ -456,7 +458,7 @@ module _ (A : Arrays) where
             let room = roomy_after T s' s'' L' (roomy_after T s s' L R) in
             let near = roomy_after T s s' L R in
             let k = grown T a c y in
-            let n = (ahead-settled (pre_turn c bare) c z).holds in
+            let n = (leads-settled (pre_turn c bare) c z).holds in
             let fits = R.plan in
             let wide = L.plan in
             let few = K.few in
@@ -482,7 +484,7 @@ module _ (A : Arrays) where
           typed-when c bare o z b f = go o (rw (b, f) at z)
             where
               go : (o : Option Ty) → pre_fault Turn.Hold o ≡ none → o ≡ some (type_or o)
-              go none h = let m : ◌≡◌ {A = Bool} true false = ap is_there h in let w : ◌≡◌ {A = ℕ} 0 1 = cc in absurd (omega arith)
+              go none h = let m : ◌≡◌ {A = Bool} true false = ap is_some h in absurd cc
               go (some t) h = refl
 
   -- ---- two expressions, and parts
@@ -529,7 +531,7 @@ module _ (A : Arrays) where
             (λ ids. ap (λ (u : ℕ). tree_codes G c y.holds a ids ++ tree_codes G d u b ids) (sym (yield-holds T.types T.nodes T.node ids a c y.holds y refl)))
             (λ ids. ap (λ (u : ℕ). tree_holds G c y.holds a ids ++ tree_holds G d u b ids) (sym (yield-holds T.types T.nodes T.node ids a c y.holds y refl)))
             (followed-by G s s' s'' w z p 1 m 1 q (tree_codes G c y.holds a) (tree_codes G d w.holds b) y.holds (tree_holds G c y.holds a) (tree_holds G d w.holds b)
-            (counted T a c y) (grown T a c y) (ahead-needed T.nodes b d w) (omega arith) (omega arith) P Q));
+            (counted T a c y) (grown T a c y) (leads-needed T.nodes b d w) (omega arith) (omega arith) P Q));
       }
 
       item : (n : ℕ) → WalksAll A s' s'' n x r → (T : Setting) (c : Clock) (e : Expr) (es : Exprs) (fs : Frame) (m q : ℕ) (y : Needs) → Known A T → Roomy A T s → LiesAt A.tags A.values (Site A) c e p m → Lies A.tags A.values (Site A) c es fs m n q → Begun s y →
@@ -548,7 +550,7 @@ module _ (A : Arrays) where
           (λ ids. ap (λ (u : ℕ). tree_codes G c y.holds e ids ++ frame_codes G c u es fs ids) (sym (yield-holds T.types T.nodes T.node ids e c y.holds y refl)))
           (λ ids. ap (λ (u : ℕ). tree_holds G c y.holds e ids ++ frame_holds G c u es ids) (sym (yield-holds T.types T.nodes T.node ids e c y.holds y refl)))
           (followed-by G s s' s'' w z p 1 m n q (tree_codes G c y.holds e) (frame_codes G c w.holds es fs) y.holds (tree_holds G c y.holds e) (frame_holds G c w.holds es)
-          (counted T e c y) (grown T e c y) (ahead-all T.nodes es c c w) (omega arith) (omega arith) P Q))
+          (counted T e c y) (grown T e c y) (leads-all T.nodes es c c w) (omega arith) (omega arith) P Q))
 
       pub walks-item : 50 ≤ get_or A.tags p 0 → (n : ℕ) → 0 < n → WalksAll A s' s'' (n - 1) x r → WalksAll A s s'' n p r
       walks-item t n z F = record {

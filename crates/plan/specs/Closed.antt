@@ -9,11 +9,10 @@ use Rattle.definitions.specs.Clock.{Clock, is_base}
 use Rattle.definitions.specs.InferClocks.{Fault, no_output_default}
 use Rattle.definitions.specs.Declock.{clock_place, add_with_parents, operand_type, operator_outputs}
 use Rattle.clock_tables.specs.Flat.{clock_in}
-use Rattle.layout.specs.Table.{Table}
 use Rattle.operands.specs.Spread.{tree}
 use Rattle.findings.specs.declared.Fault as value
-use Rattle.index.specs.Callees.{NodesStand, is_there}
-use Rattle.defaults.specs.Has.{DefaultsKnown}
+use Rattle.index.specs.Callees.{NodesStand, TypesStand}
+use Rattle.defaults.specs.Has.{is_some}
 use Rattle.typing.specs.Found.{Declares}
 use Rattle.stateless.specs.Yield.{gate_of}
 use Rattle.stateless.specs.Faults.{pre_fault, gate_fault}
@@ -22,7 +21,7 @@ use Rattle.std.specs.declared.option.Option as code
 use Rattle.std.specs.declared.option.Option.TheVariants.{None, Some}
 use Rattle.plan.specs.Tables.{Arrays, Tables, Begun}
 use Rattle.planned.specs.Held.{hold_at}
-use Rattle.plan.specs.Planned.{HoldsKept, Ended}
+use Rattle.plan.specs.Planned.{Kept, Ended, no_hold}
 
 -- the words: of a `->`, of a `pre` before which there are n holds, of a call of an operator or of anything else
 abbrev pub arrow_word : Clock → List Clock → ℕ
@@ -61,14 +60,14 @@ pub record Gated (s s' : Tables) (c : Clock) (operator : Bool) (y : Needs) (p : 
 pub record Preceded (s s' : Tables) (c : Clock) (bare : Bool) (y : Needs) (p : ℕ) : Type 0 where
   pub begun : Begun s' (settled (pre_turn c bare) c y)
   pub beside : Beside s.plan s'.plan p
-  pub kept : HoldsKept s.holds s'.holds y.holds (settled (pre_turn c bare) c y).holds
+  pub kept : Kept no_hold s.holds s'.holds y.holds (settled (pre_turn c bare) c y).holds
   pub word : p < length s.plan → y.holds < 4294967295 → get_or s'.plan p 0 ≡ pre_word c bare y.holds
   pub row : is_base c ≡ false → bare ≡ false → p + 1 < 4294967296 → y.holds < 4294967295 → y.holds < length s.holds → 17 * length (add_with_parents c y.flags) ≤ length s'.flags → length (add_with_parents c y.flags) < 4294967296 → hold_at s'.holds y.holds ≡ record { at = p + 1; row = clock_place c (add_with_parents c y.flags) }
 
 -- closing a call at p whose arguments end there; r is the answer
 pub record ClosesCall (A : Arrays) (s s' : Tables) (end p : ℕ) (r : Result ℕ value.Fault) : Type 0 where
-  pub close : (types : List TypeDef) (l : List Node) (node : Node) (y : Needs) → NodesStand A.names A.tags A.values A.places A.nodes l → Table A.names (tokens A.tags A.values) A.defs A.types types → DefaultsKnown types A.types A.types A.has → Begun s y →
-      Ended end r (Gated s s' (clock_in A.sites (17 * p)) (is_there (operator_outputs l (get_or A.values p 0))) y p) (gate_fault types l node (get_or A.values p 0) (gate_of types l node (clock_in A.sites (17 * p)) (get_or A.values p 0)))
+  pub close : (types : List TypeDef) (l : List Node) (node : Node) (y : Needs) → NodesStand A.names A.tags A.values A.places A.nodes l → TypesStand A.names A.tags A.values A.defs A.types A.has types → Begun s y →
+      Ended end r (Gated s s' (clock_in A.sites (17 * p)) (is_some (operator_outputs l (get_or A.values p 0))) y p) (gate_fault types l node (get_or A.values p 0) (gate_of types l node (clock_in A.sites (17 * p)) (get_or A.values p 0)))
 
 -- closing a `pre` at p whose operand ends there
 pub record ClosesPrevious (A : Arrays) (s s' : Tables) (end p : ℕ) (r : Result ℕ value.Fault) : Type 0 where

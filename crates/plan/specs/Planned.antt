@@ -1,17 +1,17 @@
 -- A plan by place that is right: what it says is what rewriting yields, whatever else is needed in the end and whatever ids the new names
 -- get.
-use Rattle.std.specs.Prelude.{ℕ, ◌+◌, ◌*◌, ◌≤◌, ◌<◌, ◌≡◌, true, List, ◌++◌, map, ◌⊎◌, length, get_or, Result, Ok, Err}
+use Rattle.std.specs.Prelude.{ℕ, ◌+◌, ◌*◌, ◌≤◌, ◌<◌, ◌≡◌, List, [], ◌++◌, map, ◌⊎◌, length, get_or, Result, Ok, Err}
 use Rattle.std.proofs.Math.Option.{Option, none, some}
-use Rattle.definitions.specs.Lists.{any}
 use Rattle.definitions.specs.Tokens.{TagValue, code_of}
 use Rattle.definitions.specs.Tree.{TypeDef, Expr, Exprs, Node}
-use Rattle.definitions.specs.Clock.{Clock, same_clock}
+use Rattle.definitions.specs.Clock.{Clock}
 use Rattle.definitions.specs.InferClocks.{Fault}
 use Rattle.findings.specs.declared.Fault as value
 use Rattle.findings.specs.Value.{fault_of}
-use Rattle.definitions.specs.Declock.{Hold, clock_place}
+use Rattle.definitions.specs.Declock.{Hold}
 use Rattle.definitions.specs.Output.{expr_tokens, operand_tokens}
 use Rattle.stateless.specs.Need.{Needs}
+use Rattle.stateless.specs.Leads.{Leads}
 use Rattle.stateless.specs.Yield.{Ids, yield, yields}
 use Rattle.stateless.specs.Locals.{ids_in}
 use Rattle.skeleton.specs.Lies.{Frame, weave}
@@ -29,29 +29,16 @@ pub record Whole (flag_room first_room hold_room : ℕ) (w : Needs) : Type 0 whe
   pub few-firsts : length w.firsts < 4294967295
   pub few-holds : w.holds < 4294967295
 
--- y is needed on the way to w: clocks with flags keep their rows
-pub record Ahead (y w : Needs) : Type 0 where
-  pub flag-there : (c : Clock) → any (same_clock c) y.flags ≡ true → any (same_clock c) w.flags ≡ true
-  pub flag-place : (c : Clock) → any (same_clock c) y.flags ≡ true → clock_place c y.flags ≡ clock_place c w.flags
-  pub first-there : (c : Clock) → any (same_clock c) y.firsts ≡ true → any (same_clock c) w.firsts ≡ true
-  pub first-place : (c : Clock) → any (same_clock c) y.firsts ≡ true → clock_place c y.firsts ≡ clock_place c w.firsts
-  pub flags : length y.flags ≤ length w.flags
-  pub firsts : length y.firsts ≤ length w.firsts
-  pub holds : y.holds ≤ w.holds
+-- two tables, with d past their ends, agree from p up to q; the second is the first but for rows from p up to q
+abbrev pub Agrees : {A : Type 0} → A → List A → List A → ℕ → ℕ → Type 0
+Agrees d t t' p q = (i : ℕ) → p ≤ i → i < q → get_or t' i d ≡ get_or t i d
 
--- two tables agree from p up to q; the second is the first but for words from p up to q
-abbrev pub Agrees : List ℕ → List ℕ → ℕ → ℕ → Type 0
-Agrees t t' p q = (i : ℕ) → p ≤ i → i < q → get_or t' i 0 ≡ get_or t i 0
+abbrev pub Kept : {A : Type 0} → A → List A → List A → ℕ → ℕ → Type 0
+Kept d t t' p q = (i : ℕ) → (i < p) ⊎ (q ≤ i) → get_or t' i d ≡ get_or t i d
 
-abbrev pub Kept : List ℕ → List ℕ → ℕ → ℕ → Type 0
-Kept t t' p q = (i : ℕ) → (i < p) ⊎ (q ≤ i) → get_or t' i 0 ≡ get_or t i 0
-
--- two tables of holds, likewise
-abbrev pub HoldsAgree : List HeldOperand → List HeldOperand → ℕ → ℕ → Type 0
-HoldsAgree t t' p q = (i : ℕ) → p ≤ i → i < q → hold_at t' i ≡ hold_at t i
-
-abbrev pub HoldsKept : List HeldOperand → List HeldOperand → ℕ → ℕ → Type 0
-HoldsKept t t' p q = (i : ℕ) → (i < p) ⊎ (q ≤ i) → hold_at t' i ≡ hold_at t i
+-- what `hold_at` says past the end
+abbrev pub no_hold : HeldOperand
+no_hold = hold_at [] 0
 
 -- what a sheet and its arrays are: the number of names, tags and values, types, nodes, the node that is planned; how much room its tables
 -- have
@@ -74,17 +61,17 @@ writer G condact flag_ids first_ids hold_ids =
 -- n parts from p up to q are planned, y being needed then: every plan with these words writes them as t says, before whatever follows; and
 -- the holds hs that they make, numbered from j on, are written as every plan and table of holds with these words say
 pub record Says (G : Ground) (plan : List ℕ) (holds : List HeldOperand) (y : Needs) (p n q : ℕ) (t : Ids → List TagValue) (j : ℕ) (hs : Ids → List Hold) : Type 0 where
-  pub say : (w : Needs) (condact : ℕ) (flag_ids first_ids hold_ids : List ℕ) → Whole G.flag_room G.first_room G.hold_room w → Ahead y w → (plan' : List ℕ) → Agrees plan plan' p q →
+  pub say : (w : Needs) (condact : ℕ) (flag_ids first_ids hold_ids : List ℕ) → Whole G.flag_room G.first_room G.hold_room w → Leads y w → (plan' : List ℕ) → Agrees 0 plan plan' p q →
       (k s : ℕ) (m : List TagValue) → Writes G.tags G.values (writer G condact flag_ids first_ids hold_ids) plan' q k s m →
       Writes G.tags G.values (writer G condact flag_ids first_ids hold_ids) plan' p (n + k) s (t (ids_in w.flags w.firsts flag_ids first_ids hold_ids condact) ++ m)
-  pub hold : (w : Needs) (condact : ℕ) (flag_ids first_ids hold_ids : List ℕ) → Whole G.flag_room G.first_room G.hold_room w → Ahead y w → (plan' : List ℕ) (holds' : List HeldOperand) → Agrees plan plan' p q → HoldsAgree holds holds' j y.holds →
+  pub hold : (w : Needs) (condact : ℕ) (flag_ids first_ids hold_ids : List ℕ) → Whole G.flag_room G.first_room G.hold_room w → Leads y w → (plan' : List ℕ) (holds' : List HeldOperand) → Agrees 0 plan plan' p q → Agrees no_hold holds holds' j y.holds →
       HeldFrom G.names G.tags G.values (writer G condact flag_ids first_ids hold_ids) plan' holds' j (hs (ids_in w.flags w.firsts flag_ids first_ids hold_ids condact))
 
 -- what a walk over n parts from p up to q leaves where no fault is met: y is needed then, j holds were there before
 pub record Planned (G : Ground) (s s' : Tables) (y : Needs) (p n q : ℕ) (t : Ids → List TagValue) (j : ℕ) (hs : Ids → List Hold) : Type 0 where
   pub begun : Begun s' y
-  pub kept : Kept s.plan s'.plan p q
-  pub held : HoldsKept s.holds s'.holds j y.holds
+  pub kept : Kept 0 s.plan s'.plan p q
+  pub held : Kept no_hold s.holds s'.holds j y.holds
   pub says : Says G s'.plan s'.holds y p n q t j hs
 
 -- by the first fault that is met: there is none, and the answer is the end; or the answer is the fault

@@ -8,6 +8,7 @@ use Rattle.plan.specs.declared.Notes.{Notes}
 
 -- what it reads: how many names, nodes and types' definitions there are; the tokens; the clocks of sites; the places of nodes and of
 -- definitions, which of these have a default; the names' types
+-- Stays (no plainer): beside `Planning`, of which every law would say `index.now.source.tags.now` for `tags`.
 pub record Arrays : Type 0 where
   pub names : ℕ
   pub nodes : ℕ
@@ -21,6 +22,7 @@ pub record Arrays : Type 0 where
   pub typed : List ℕ
 
 -- what it writes, and what is counted
+-- Stays (no plainer): laws make later states (`record s { plan = .. }`), of which a `Notes` would have to name its references too.
 pub record Tables : Type 0 where
   pub plan : List ℕ
   pub flags : List ℕ

@@ -9,9 +9,7 @@ use Rattle.definitions.specs.Clock.{Clock}
 use Rattle.definitions.specs.InferClocks.{Fault}
 use Rattle.findings.specs.declared.Fault as value
 use Rattle.definitions.specs.Declock.{Hold, declared}
-use Rattle.layout.specs.Table.{Table}
-use Rattle.index.specs.Callees.{NodesStand}
-use Rattle.defaults.specs.Has.{DefaultsKnown}
+use Rattle.index.specs.Callees.{NodesStand, TypesStand}
 use Rattle.typing.specs.Found.{Declares}
 use Rattle.stateless.specs.Need.{Needs, needed, needed_all}
 use Rattle.stateless.specs.Yield.{Ids}
@@ -38,8 +36,7 @@ ground_of A T =
 pub record Known (A : Arrays) (T : Setting) : Type 0 where
   pub few : length A.tags < 4294967296
   pub standing : NodesStand A.names A.tags A.values A.places A.nodes T.nodes
-  pub table : Table A.names (tokens A.tags A.values) A.defs A.types T.types
-  pub defaulted : DefaultsKnown T.types A.types A.types A.has
+  pub typed : TypesStand A.names A.tags A.values A.defs A.types A.has T.types
   pub declares : Declares A.names (tokens A.tags A.values) A.typed (declared T.node)
 
 -- the tables have this room

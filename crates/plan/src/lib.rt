@@ -12,10 +12,9 @@ ghost use Rattle.definitions.specs.Clock.{is_base};
 ghost use Rattle.definitions.specs.Declock.{operand_type};
 ghost use Rattle.clock_tables.specs.Flat.{clock_in};
 ghost use Rattle.layout.specs.Spans.{Spans};
-ghost use Rattle.layout.specs.Table.{Table};
 ghost use Rattle.operands.specs.Spread.{tree};
-ghost use Rattle.index.specs.Callees.{is_there};
-ghost use Rattle.defaults.specs.Has.{DefaultsKnown};
+ghost use Rattle.defaults.specs.Has.{is_some};
+ghost use Rattle.index.specs.Indexed.{TypesIn};
 ghost use Rattle.typing.specs.Found.{Declares};
 ghost use Rattle.stateless.specs.Need.{Needs};
 ghost use Rattle.stateless.specs.Faults.{outputs_fault};
@@ -83,7 +82,7 @@ pub fn on_base(sites: &[u32], at: usize) -> bool
 }
 
 // Is the token there a name?
-// Stays (speed): tags, here and below: `rewrite` of names used as clocks takes 5.02 million instructions, 5.2 by tokens; the bar is 5.12.
+// Stays (speed): tags, here and below: by tokens names used as clocks take 0.2 million instructions more, past their bar of 5.12.
 fn is_name(source: &Source<'_>, at: usize) -> bool
     ensures { at < length source.now.tags.now → result ≡ eqb (get_or source.now.tags.now at 0) 54 }
 {
@@ -92,14 +91,14 @@ fn is_name(source: &Source<'_>, at: usize) -> bool
 
 // Does the expression that stands there have a type?
 fn is_typed(source: &Source<'_>, types: &[u32], at: usize) -> bool
-    ensures { (e : Expr) (q : ℕ) (ds : List Declared) → tree source.now.names (tokens_of source.now) at ≡ got e q → Declares source.now.names (tokens_of source.now) types.now ds → result ≡ is_there (operand_type ds e) }
+    ensures { (e : Expr) (q : ℕ) (ds : List Declared) → tree source.now.names (tokens_of source.now) at ≡ got e q → Declares source.now.names (tokens_of source.now) types.now ds → result ≡ is_some (operand_type ds e) }
 {
     typing::type_of(source, types, at).is_some()
 }
 
 // The first of these outputs that lacks a default.
 fn output_lack(index: &Index<'_>, outputs: Span) -> Option<u32>
-    ensures { (ds : List Declared) (f : ℕ) (types : List TypeDef) (l : List Node) (node : Node) → Spans (declaration index.now.source.names) (tokens_of index.now.source) ds outputs → Table index.now.source.names (tokens_of index.now.source) index.now.types.at index.now.types.count types → DefaultsKnown types index.now.types.count index.now.types.count index.now.has → lack_fault f result ≡ outputs_fault types l node f ds }
+    ensures { (ds : List Declared) (f : ℕ) (types : List TypeDef) (l : List Node) (node : Node) → Spans (declaration index.now.source.names) (tokens_of index.now.source) ds outputs → TypesIn index.now types → lack_fault f result ≡ outputs_fault types l node f ds }
 {
     for declared in layout::declarations(&index.source, outputs) {
         if !index.has_default(declared.type_at) {

@@ -2,11 +2,9 @@
 -- Assumes nothing.
 use mathlib.Core.Path.{◌≡◌}
 use mathlib.Core.List.{List}
-use mathlib.Core.Bool.{Bool, true, false}
+use mathlib.Core.Logic.{◌⊎◌, inl, inr}
 use Prim.Native.Nat.{ℕ, ◌-◌}
-use lib.Dec.{eqb}
 use lib.ListN.{get_or}
-use Rattle.definitions.specs.Lists.{choose}
 use borrow.Author.Tests.{ne_eqb}
 use Rattle.planned.specs.declared.Plan.{Plan}
 use Rattle.planned.specs.Writes.{plan_of}
@@ -36,18 +34,13 @@ module _ (flags firsts holds : List ℕ) (tag v w : ℕ) where
   unfolding plan_of
   arm-merge e = rw e
 
-  module _ (a : tag ≡ 67 → ⊥) (b : tag ≡ 68 → ⊥) (c : tag ≡ 69 → ⊥) where
-    -- without a word a token stays
-    pub arm-bare : w ≡ 0 → Plan.Stay ≡ plan_of flags firsts holds tag v w
-    unfolding plan_of
-    arm-bare z = go (eqb tag 58) (eqb tag 59) (eqb tag 60)
-      where
-        go : (x y t : Bool) → Plan.Stay ≡ choose x (choose (eqb w 0) Plan.Stay (Plan.Hold (get_or holds (w - 1) 0))) (choose y (choose (eqb w 0) Plan.Stay (Plan.Choose (get_or firsts (w - 1) 0))) (choose t (choose (eqb w 0) Plan.Stay (Plan.Gate (get_or flags (w - 1) 0))) (choose (eqb tag 67) Plan.Drop (choose (eqb tag 68) Plan.Drop (choose (eqb tag 69) (Plan.Choose v) Plan.Stay)))))
-        go true y t = rw z
-        go false true t = rw z
-        go false false true = rw z
-        go false false false = rw (ne_eqb tag 67 a, ne_eqb tag 68 b, ne_eqb tag 69 c)
+  -- without a word a token stays
+  pub arm-bare : (tag ≡ 58) ⊎ ((tag ≡ 59) ⊎ (tag ≡ 60)) → w ≡ 0 → Plan.Stay ≡ plan_of flags firsts holds tag v w
+  unfolding plan_of
+  arm-bare (inl e) z = rw (e, z)
+  arm-bare (inr (inl e)) z = rw (e, z)
+  arm-bare (inr (inr e)) z = rw (e, z)
 
-    pub arm-other : (tag ≡ 58 → ⊥) → (tag ≡ 59 → ⊥) → (tag ≡ 60 → ⊥) → Plan.Stay ≡ plan_of flags firsts holds tag v w
-    unfolding plan_of
-    arm-other d e f = rw (ne_eqb tag 58 d, ne_eqb tag 59 e, ne_eqb tag 60 f, ne_eqb tag 67 a, ne_eqb tag 68 b, ne_eqb tag 69 c)
+  pub arm-other : (tag ≡ 67 → ⊥) → (tag ≡ 68 → ⊥) → (tag ≡ 69 → ⊥) → (tag ≡ 58 → ⊥) → (tag ≡ 59 → ⊥) → (tag ≡ 60 → ⊥) → Plan.Stay ≡ plan_of flags firsts holds tag v w
+  unfolding plan_of
+  arm-other a b c d e f = rw (ne_eqb tag 58 d, ne_eqb tag 59 e, ne_eqb tag 60 f, ne_eqb tag 67 a, ne_eqb tag 68 b, ne_eqb tag 69 c)

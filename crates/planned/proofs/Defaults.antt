@@ -38,7 +38,7 @@ use Rattle.emit.proofs.Laws.{emits_none}
 use Rattle.emit.proofs.NodePartsLaws.{after}
 
 default-there : {A : Type 0} (o : Option A) (f : Fault) (r : Option Fault) → or_else (unless o f) r ≡ none → ((a : A) × (o ≡ some a)) × (r ≡ none)
-default-there none f r h = let z : ◌≡◌ {A = ℕ} 0 1 = cc in absurd (omega arith)
+default-there none f r h = absurd cc
 default-there (some a) f r h = ((a, refl), h)
 
 module _ (types : List TypeDef) (nodes : List Node) (node : Node) (f : ℕ) where
@@ -88,7 +88,7 @@ module _ (types : List TypeDef) (nodes : List Node) (node : Node) (f M : ℕ) (t
 
 -- the outputs of an operator are few
 find-there : (p : Node → Bool) (l : List Node) (n : Node) → find p l ≡ some n → (i : ℕ) × (get_elem? l i ≡ some n)
-find-there p [] n h = let z : ◌≡◌ {A = ℕ} 0 1 = cc in absurd (omega arith)
+find-there p [] n h = absurd cc
 find-there p (m ∷ l) n h = go (p m) (λ g. find-there p l n g) h
   where
     go : (b : Bool) → (find p l ≡ some n → (i : ℕ) × (get_elem? l i ≡ some n)) → choose b (some m) (find p l) ≡ some n → (i : ℕ) × (get_elem? (m ∷ l) i ≡ some n)
@@ -96,12 +96,12 @@ find-there p (m ∷ l) n h = go (p m) (λ g. find-there p l n g) h
     go false r h = let s = r h in (suc s.0, s.1)
 
 outputs-of : (o : Option Node) (os : List Declared) → elim o [ none ↦ none | some n ↦ choose (is_operator_kind n.kind) (some n.outputs) none ] ≡ some os → (n : Node) × (o ≡ some n) × (n.outputs ≡ os)
-outputs-of none os h = let z : ◌≡◌ {A = ℕ} 0 1 = cc in absurd (omega arith)
+outputs-of none os h = absurd cc
 outputs-of (some n) os h = go (is_operator_kind n.kind) h
   where
     go : (b : Bool) → choose b (some n.outputs) none ≡ some os → (m : Node) × (some n ≡ some m) × (m.outputs ≡ os)
     go true h = (n, refl, cc)
-    go false h = let z : ◌≡◌ {A = ℕ} 0 1 = cc in absurd (omega arith)
+    go false h = absurd cc
 
 pub few-outputs : (M : ℕ) (gs vs places : List ℕ) (k : ℕ) (l : List Node) → NodesStand M gs vs places k l → (f : ℕ) (os : List Declared) → operator_outputs l f ≡ some os → length os ≤ 128
 unfolding operator_outputs

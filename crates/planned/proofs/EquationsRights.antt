@@ -74,8 +74,8 @@ module _ (w : WriteInput) (W : Writer) (ids : Ids) (n p : ℕ) (c : Clock) (e : 
       (right-framed W.types W.nodes W.node ids c e.left n e.right (ap (λ (k : ℕ). right_fault W.types W.nodes W.node k c e.left e.right) same ∙ free))
       )
 
-  pub equation-written : (left : Span) → PartsAt w.index.now.source.names (tokens_of w.index.now.source) p e left → WriterStands w W → (word : ℕ) → word ≡ get_or w.plan.now p 0 → (f : Frame) → f ≡ frame_in w.flag_ids.now left.count word →
-      (o o₁ o₂ o₃ o₄ : Output) (end : ℕ) → o₁ ≡ emits o (Token.Count (length e.left) ∷ name_tokens e.left) → o₂ ≡ emits o₁ (lead_in w.index.now.condact (two_more left.count) f) → WrittenAs w W left.end 1 o₂ o₃ end →
+  pub equation-written : (left : Span) → PartsAt w.index.now.source.names (tokens_of w.index.now.source) p e left → WriterStands w W → (word : ℕ) → word ≡ get_or w.plan.now p 0 → (f : Frame) → f ≡ frame_in w.ids.flags.now left.count word →
+      (o o₁ o₂ o₃ o₄ : Output) (end : ℕ) → o₁ ≡ emits o (Token.Count (length e.left) ∷ name_tokens e.left) → o₂ ≡ emits o₁ (lead_in w.ids.condact (two_more left.count) f) → WrittenAs w W left.end 1 o₂ o₃ end →
       ((ks : List Token) → LeadOut W.types W.nodes W.node f e.left ks → o₄ ≡ emits o₃ ks) →
       (o₄ ≡ emits o (equation_tokens (record { left = e.left; right = (right_yield W.types W.nodes W.node ids c e.left n e.right).value }))) × (end ≡ q)
   unfolding equation_tokens
@@ -84,11 +84,11 @@ module _ (w : WriteInput) (W : Writer) (ids : Ids) (n p : ℕ) (c : Clock) (e : 
       let is : f ≡ frame_in W.flag_ids (length e.left) (get_or w.plan.now p 0) = v ∙ rw (stands.flags, m, u) in
       let k = d.same q (map code_of inner) (subst (λ (x : ℕ). WritesIn w W x 1 q (map code_of inner)) (sym s.right) h.written) in
       let t : two_more left.count ≡ length e.left + 2 = omega (arith, m, s.few) in
-      let l : lead_in w.index.now.condact (two_more left.count) f ≡ lead_in W.condact (length e.left + 2) (frame_in W.flag_ids (length e.left) (get_or w.plan.now p 0)) = rw (t, stands.condact, is) in
+      let l : lead_in w.ids.condact (two_more left.count) f ≡ lead_in W.condact (length e.left + 2) (frame_in W.flag_ids (length e.left) (get_or w.plan.now p 0)) = rw (t, stands.condact, is) in
       let r = g framed.behind (subst (λ (x : Frame). LeadOut W.types W.nodes W.node x e.left framed.behind) (sym is) framed.leads-out) in
       let z : o₃ ≡ emits o₂ inner = k.0 ∙ emits-codes o₂ (map code_of inner) inner refl in (
         after o o₁ o₄ (Token.Count (length e.left) ∷ name_tokens e.left) whole a
-            (after o₁ o₂ o₄ (lead_in w.index.now.condact (two_more left.count) f) (inner ++ framed.behind) b (after o₂ o₃ o₄ inner framed.behind z r)
+            (after o₁ o₂ o₄ (lead_in w.ids.condact (two_more left.count) f) (inner ++ framed.behind) b (after o₂ o₃ o₄ inner framed.behind z r)
             ∙ ap (emits o₁) (ap (λ (x : List Token). x ++ (inner ++ framed.behind)) l ∙ sym framed.whole)),
         k.1,
       )

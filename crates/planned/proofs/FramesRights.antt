@@ -23,7 +23,7 @@ use Rattle.planned.specs.Framed.{several_frame, flagged_frame, frame_of, LeadOut
 
 no-fault : (o u : Option Fault) → or_else o u ≡ none → (o ≡ none) × (u ≡ none)
 no-fault none u h = (refl, h)
-no-fault (some f) u h = let z : ◌≡◌ {A = ℕ} 0 1 = cc in absurd (omega arith)
+no-fault (some f) u h = absurd cc
 
 module _ (types : List TypeDef) (nodes : List Node) (node : Node) (ids : Ids) where
   -- ---- what an expression is after rewriting
@@ -84,8 +84,8 @@ module _ (types : List TypeDef) (nodes : List Node) (node : Node) (ids : Ids) wh
 
     several-framed : (xs : List ℕ) (a : Expr) (u : Shape) → several_fault types nodes node ids.condact xs u ≡ none
         → Framed types nodes node ids.condact (several_frame ids.condact (ids.flag c) u) xs (expr_tokens a) (expr_tokens (several_tree types nodes node ids c xs a u))
-    several-framed xs a bare h = let z : ◌≡◌ {A = ℕ} 0 1 = cc in absurd (omega arith)
-    several-framed xs a other h = let z : ◌≡◌ {A = ℕ} 0 1 = cc in absurd (omega arith)
+    several-framed xs a bare h = absurd cc
+    several-framed xs a other h = absurd cc
     several-framed xs a (calls f) h = go (eqb f ids.condact) h
       where
         gate : Expr

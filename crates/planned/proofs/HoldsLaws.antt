@@ -116,15 +116,15 @@ module _ (w : WriteInput) (W : Writer) where
   holds = w.holds.now
 
   pub equated-hold : (j x row flag at : ℕ) (h : Hold) (o o₁ o₂ o₃ : Output) (end : ℕ) → WriterStands w W → HeldAt w.index.now.source.names w.index.now.source.tags.now w.index.now.source.values.now W w.plan.now holds j h →
-      x ≡ get_or w.hold_ids.now j 0 → row ≡ (hold_at holds j).row → flag ≡ get_or w.flag_ids.now row 0 → at ≡ (hold_at holds j).at →
+      x ≡ get_or w.ids.holds.now j 0 → row ≡ (hold_at holds j).row → flag ≡ get_or w.ids.flags.now row 0 → at ≡ (hold_at holds j).at →
       o₁ ≡ emits o (hold_tokens x flag) → WrittenAs w W at 1 o₁ o₂ end → o₃ ≡ emits o₂ (Token.Expression ExprToken.Pre ∷ Token.Expression (ExprToken.Var x) ∷ []) →
-      o₃ ≡ emits o (equation_tokens (record { left = get_or w.hold_ids.now j 0 ∷ []; right = h.right }))
+      o₃ ≡ emits o (equation_tokens (record { left = get_or w.ids.holds.now j 0 ∷ []; right = h.right }))
   equated-hold j x row flag at h o o₁ o₂ o₃ end g s i l m n a b c =
       let v = subst (λ (p : ℕ). WritesIn w W p 1 s.end (map code_of (expr_tokens s.rewritten))) (sym n) s.written in
       let d = (b.same s.end (map code_of (expr_tokens s.rewritten)) v).0 ∙ emits-codes o₁ (map code_of (expr_tokens s.rewritten)) (expr_tokens s.rewritten) refl in
       after o o₂ o₃ (hold_tokens x flag ++ expr_tokens s.rewritten) (Token.Expression ExprToken.Pre ∷ Token.Expression (ExprToken.Var x) ∷ []) (after o o₁ o₂ (hold_tokens x flag) (expr_tokens s.rewritten) a d) c
       ∙ ap (emits o) (equation-is x flag s.rewritten
-      ∙ same-equation x (get_or w.hold_ids.now j 0) (get_or W.hold_ids j 0) flag (get_or W.flag_ids (hold_at holds j).row 0) s.rewritten h.right i (i ∙ same_word W.hold_ids w.hold_ids.now j j g.holds refl) (m ∙ same_word W.flag_ids w.flag_ids.now row (hold_at holds j).row g.flags l) s.right)
+      ∙ same-equation x (get_or w.ids.holds.now j 0) (get_or W.hold_ids j 0) flag (get_or W.flag_ids (hold_at holds j).row 0) s.rewritten h.right i (i ∙ same_word W.hold_ids w.ids.holds.now j j g.holds refl) (m ∙ same_word W.flag_ids w.ids.flags.now row (hold_at holds j).row g.flags l) s.right)
 
 -- ---- holds one after another
 module _ (M : ℕ) (gs vs : List ℕ) (W : Writer) (plan : List ℕ) (holds : List HeldOperand) (told : ℕ → List Hold → List Token) where

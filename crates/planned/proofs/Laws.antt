@@ -27,10 +27,11 @@ then o m r a b l i j e = j ∙ (ap (λ (z : Output). puts z b) i ∙ (puts-appen
 behind : (a d f b l : List TagValue) → l ≡ f ++ b → a ++ (d ++ l) ≡ (a ++ (d ++ f)) ++ b
 behind a d f b l e = ap (λ (z : List TagValue). a ++ (d ++ z)) e ∙ sym (append_assoc a (d ++ f) b ∙ ap (λ (z : List TagValue). a ++ z) (append_assoc d f b))
 
-module _ (gs vs : List ℕ) (W : Writer) (plan : List ℕ) where
-  change : {p k m q : ℕ} {l : List TagValue} → k ≡ m → Writes gs vs W plan p k q l → Writes gs vs W plan p m q l
-  change {p} {k} {m} {q} {l} e h = subst (λ (n : ℕ). Writes gs vs W plan p n q l) e h
+-- as many parts by another number
+pub change : {gs vs : List ℕ} {W : Writer} {plan : List ℕ} {p k m q : ℕ} {l : List TagValue} → k ≡ m → Writes gs vs W plan p k q l → Writes gs vs W plan p m q l
+change {gs} {vs} {W} {plan} {p} {k} {m} {q} {l} e h = subst (λ (n : ℕ). Writes gs vs W plan p n q l) e h
 
+module _ (gs vs : List ℕ) (W : Writer) (plan : List ℕ) where
   -- some parts and the others
   pub record Split (p a b q : ℕ) (l : List TagValue) : Type 0 where
     pub end : ℕ
@@ -104,38 +105,38 @@ module _ (gs vs : List ℕ) (W : Writer) (plan : List ℕ) where
       (r : List TagValue) × Writes gs vs W plan (p + 1) (parts_at gs vs p) q r × (l ≡ code_at gs vs p ∷ r)
   stay-in Writes.done e t = absurd (omega arith)
   stay-in (Writes.stay {l = l} i j w) e t = (l, change (omega arith) w, refl)
-  stay-in (Writes.drop i j w) e t = let z : ◌≡◌ {A = ℕ} 0 1 = cc in absurd (omega arith)
-  stay-in (Writes.choice i j w) e t = let z : ◌≡◌ {A = ℕ} 0 1 = cc in absurd (omega arith)
-  stay-in (Writes.hold i j o w) e t = let z : ◌≡◌ {A = ℕ} 0 1 = cc in absurd (omega arith)
-  stay-in (Writes.gate i j f d v w) e t = let z : ◌≡◌ {A = ℕ} 0 1 = cc in absurd (omega arith)
+  stay-in (Writes.drop i j w) e t = absurd cc
+  stay-in (Writes.choice i j w) e t = absurd cc
+  stay-in (Writes.hold i j o w) e t = absurd cc
+  stay-in (Writes.gate i j f d v w) e t = absurd cc
 
   pub drop-in : {p n q : ℕ} {l : List TagValue} → Writes gs vs W plan p n q l → n ≡ 1 → plan_at gs vs W plan p ≡ Plan.Drop → Writes gs vs W plan (p + 1) 1 q l
   drop-in Writes.done e t = absurd (omega arith)
-  drop-in (Writes.stay i j w) e t = let z : ◌≡◌ {A = ℕ} 0 1 = cc in absurd (omega arith)
+  drop-in (Writes.stay i j w) e t = absurd cc
   drop-in (Writes.drop i j w) e t = change (omega arith) w
-  drop-in (Writes.choice i j w) e t = let z : ◌≡◌ {A = ℕ} 0 1 = cc in absurd (omega arith)
-  drop-in (Writes.hold i j o w) e t = let z : ◌≡◌ {A = ℕ} 0 1 = cc in absurd (omega arith)
-  drop-in (Writes.gate i j f d v w) e t = let z : ◌≡◌ {A = ℕ} 0 1 = cc in absurd (omega arith)
+  drop-in (Writes.choice i j w) e t = absurd cc
+  drop-in (Writes.hold i j o w) e t = absurd cc
+  drop-in (Writes.gate i j f d v w) e t = absurd cc
 
   pub choice-in : {p n q : ℕ} {l : List TagValue} → Writes gs vs W plan p n q l → n ≡ 1 → (x : ℕ) → plan_at gs vs W plan p ≡ Plan.Choose x →
       (r : List TagValue) × Writes gs vs W plan (p + 1) 2 q r × (l ≡ named 57 x r)
   choice-in Writes.done e x t = absurd (omega arith)
-  choice-in (Writes.stay i j w) e x t = let z : ◌≡◌ {A = ℕ} 0 1 = cc in absurd (omega arith)
-  choice-in (Writes.drop i j w) e x t = let z : ◌≡◌ {A = ℕ} 0 1 = cc in absurd (omega arith)
+  choice-in (Writes.stay i j w) e x t = absurd cc
+  choice-in (Writes.drop i j w) e x t = absurd cc
   choice-in (Writes.choice {x = y} {l = l} i j w) e x t = let z : y ≡ x = cc in (l, change (omega arith) w, ap (λ (u : ℕ). named 57 u l) z)
-  choice-in (Writes.hold i j o w) e x t = let z : ◌≡◌ {A = ℕ} 0 1 = cc in absurd (omega arith)
-  choice-in (Writes.gate i j f d v w) e x t = let z : ◌≡◌ {A = ℕ} 0 1 = cc in absurd (omega arith)
+  choice-in (Writes.hold i j o w) e x t = absurd cc
+  choice-in (Writes.gate i j f d v w) e x t = absurd cc
 
   pub hold-in : {p n q : ℕ} {l : List TagValue} → Writes gs vs W plan p n q l → n ≡ 1 → (x : ℕ) → plan_at gs vs W plan p ≡ Plan.Hold x → Owed gs vs (p + 1) 1 q × (l ≡ named 58 x [])
   hold-in Writes.done e x t = absurd (omega arith)
-  hold-in (Writes.stay i j w) e x t = let z : ◌≡◌ {A = ℕ} 0 1 = cc in absurd (omega arith)
-  hold-in (Writes.drop i j w) e x t = let z : ◌≡◌ {A = ℕ} 0 1 = cc in absurd (omega arith)
-  hold-in (Writes.choice i j w) e x t = let z : ◌≡◌ {A = ℕ} 0 1 = cc in absurd (omega arith)
+  hold-in (Writes.stay i j w) e x t = absurd cc
+  hold-in (Writes.drop i j w) e x t = absurd cc
+  hold-in (Writes.choice i j w) e x t = absurd cc
   hold-in {p} (Writes.hold {x = y} i j o w) e x t =
       let z : y ≡ x = cc in
       let m = writes-none w (omega arith) in
       (subst (λ (u : ℕ). Owed gs vs (p + 1) 1 u) m.0 o, rw (z, m.1))
-  hold-in (Writes.gate i j f d v w) e x t = let z : ◌≡◌ {A = ℕ} 0 1 = cc in absurd (omega arith)
+  hold-in (Writes.gate i j f d v w) e x t = absurd cc
 
   -- a gated call: its operands are written, its outputs have defaults
   pub record GateIn (p q x : ℕ) (l : List TagValue) : Type 0 where
@@ -148,10 +149,10 @@ module _ (gs vs : List ℕ) (W : Writer) (plan : List ℕ) where
 
   pub gate-in : {p n q : ℕ} {l : List TagValue} → Writes gs vs W plan p n q l → n ≡ 1 → (x : ℕ) → plan_at gs vs W plan p ≡ Plan.Gate x → GateIn p q x l
   gate-in Writes.done e x t = absurd (omega arith)
-  gate-in (Writes.stay i j w) e x t = let z : ◌≡◌ {A = ℕ} 0 1 = cc in absurd (omega arith)
-  gate-in (Writes.drop i j w) e x t = let z : ◌≡◌ {A = ℕ} 0 1 = cc in absurd (omega arith)
-  gate-in (Writes.choice i j w) e x t = let z : ◌≡◌ {A = ℕ} 0 1 = cc in absurd (omega arith)
-  gate-in (Writes.hold i j o w) e x t = let z : ◌≡◌ {A = ℕ} 0 1 = cc in absurd (omega arith)
+  gate-in (Writes.stay i j w) e x t = absurd cc
+  gate-in (Writes.drop i j w) e x t = absurd cc
+  gate-in (Writes.choice i j w) e x t = absurd cc
+  gate-in (Writes.hold i j o w) e x t = absurd cc
   gate-in {p} (Writes.gate {x = y} {os = os} {a = a} {l = l} i j f d v w) e x t =
       let z : y ≡ x = cc in
       let m = writes-none w (omega arith) in

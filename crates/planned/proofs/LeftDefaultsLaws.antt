@@ -29,7 +29,8 @@ use Rattle.std.specs.declared.option.Option as code
 use Rattle.std.specs.declared.option.Option.TheVariants.{None, Some}
 use Rattle.std.specs.Option.{option_map}
 use Rattle.grammar.specs.Read.{tokens_of}
-use Rattle.typing.specs.Found.{IsFound, place_of}
+use Rattle.clock_tables.specs.Words.{place_of}
+use Rattle.typing.specs.Found.{IsFound}
 use Rattle.typing.proofs.Laws.{placed}
 use Rattle.planned.specs.declared.WriteInput.{WriteInput}
 use Rattle.planned.specs.Grounds.{TypesKnown}
@@ -73,11 +74,11 @@ module _ (types : List TypeDef) (nodes : List Node) (node : Node) where
   left_is x h = go (last_type (declared node) x) h
     where
       has : (t : Ty) (d : Option Expr) → unless d (no_default x) ≡ none → (e : Expr) × (d ≡ some e) × (expr_or d ≡ e)
-      has t none k = let z : ◌≡◌ {A = ℕ} 0 1 = cc in absurd (omega arith)
+      has t none k = absurd cc
       has t (some e) k = (e, refl, refl)
 
       go : (o : Option Ty) → left_type_fault types nodes node x o ≡ none → (t : Ty) × (e : Expr) × (o ≡ some t) × (default types t ≡ some e) × (default_or types o ≡ e)
-      go none k = let z : ◌≡◌ {A = ℕ} 0 1 = cc in absurd (omega arith)
+      go none k = absurd cc
       go (some t) k = let a = has t (default types t) k in (t, a.0, refl, a.1, a.2)
 
   -- by where its type was found
@@ -103,7 +104,7 @@ module _ (types : List TypeDef) (nodes : List Node) (node : Node) where
     where
       go : (o : Option Fault) → or_else o (lefts_fault types nodes node xs) ≡ none → (o ≡ none) × (lefts_fault types nodes node xs ≡ none)
       go none k = (refl, k)
-      go (some f) k = let z : ◌≡◌ {A = ℕ} 0 1 = cc in absurd (omega arith)
+      go (some f) k = absurd cc
 
   -- the first, and then the others
   pub cut-left : (x : ℕ) (xs : List ℕ) → join (operand_tokens (left_trees types nodes node (x ∷ xs))) ≡ expr_tokens (left_tree types nodes node x) ++ join (operand_tokens (left_trees types nodes node xs))

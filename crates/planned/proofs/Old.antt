@@ -27,7 +27,7 @@ first-faultless types nodes node k i e es h = go (right_fault types nodes node k
   where
     go : (o : Option Fault) → or_else (at_equation types nodes node i o) (old_fault types nodes node k (suc i) es) ≡ none → (o ≡ none) × (old_fault types nodes node k (suc i) es ≡ none)
     go none j = (refl, j)
-    go (some f) j = let z : ◌≡◌ {A = ℕ} 0 1 = cc in absurd (omega arith)
+    go (some f) j = absurd cc
 
 module _ (M : ℕ) (gs vs : List ℕ) (W : Writer) (plan : List ℕ) (ids : Ids) where
   -- the tokens of equations, n holds being there before

@@ -53,7 +53,7 @@ module _ (w : WriteInput) (W : Writer) where
   M = w.index.now.source.names
 
   -- the word that was found says what becomes of the token
-  pub is-plan : (at u : ℕ) (p : Plan) → WriterStands w W → u ≡ get_or plan at 0 → p ≡ plan_of w.flag_ids.now w.first_ids.now w.hold_ids.now (get_or gs at 0) (get_or vs at 0) u → plan_in w W at ≡ p
+  pub is-plan : (at u : ℕ) (p : Plan) → WriterStands w W → u ≡ get_or plan at 0 → p ≡ plan_of w.ids.flags.now w.ids.firsts.now w.ids.holds.now (get_or gs at 0) (get_or vs at 0) u → plan_in w W at ≡ p
   is-plan at u p s i j = rw (s.flags, s.firsts, s.holds, ← i) (sym j)
 
   -- a token without defaults behind its parts
@@ -99,7 +99,7 @@ module _ (w : WriteInput) (W : Writer) where
     unfolding OutputsStand
     opened-other e = let g = gate-in gs vs W plan x refl flag i in rw (g.found, e) at d
 
-    pub opened-gate : (u : Span) → c ≡ Some u → (o o₁ o₂ : Output) → o₁ ≡ emits o (gate_tokens w.index.now.condact (two_more u.count) flag) → o₂ ≡ puts o₁ (code_at gs vs at ∷ []) →
+    pub opened-gate : (u : Span) → c ≡ Some u → (o o₁ o₂ : Output) → o₁ ≡ emits o (gate_tokens w.ids.condact (two_more u.count) flag) → o₂ ≡ puts o₁ (code_at gs vs at ∷ []) →
         OpenedAs w W q l (record { many = 1; from = at + 1; outputs = Some u }) o o₂
     unfolding OutputsStand Behind code_of
     opened-gate u e o o₁ o₂ a b =
@@ -107,15 +107,15 @@ module _ (w : WriteInput) (W : Writer) where
         let y : Spans (declaration M) (tokens_of w.index.now.source) g.outputs u = rw (g.found, e) at d in
         let m : two_more u.count ≡ length g.outputs + 2 = omega (arith, y.many, few-outputs M gs vs w.index.now.nodes.at w.index.now.nodes.count W.nodes s.standing (get_or vs at 0) g.outputs g.found) in
         record {
-          head = gate_codes w.index.now.condact (two_more u.count) flag (code_at gs vs at ∷ []);
+          head = gate_codes w.ids.condact (two_more u.count) flag (code_at gs vs at ∷ []);
           inner = g.inner;
           called = get_or vs at 0;
           outputs = g.outputs;
-          put = then o o₁ o₂ (gate_codes w.index.now.condact (two_more u.count) flag []) (code_at gs vs at ∷ []) (gate_codes w.index.now.condact (two_more u.count) flag (code_at gs vs at ∷ [])) (a ∙ sym (emits-codes o (gate_codes w.index.now.condact (two_more u.count) flag []) (gate_tokens w.index.now.condact (two_more u.count) flag) refl)) b refl;
+          put = then o o₁ o₂ (gate_codes w.ids.condact (two_more u.count) flag []) (code_at gs vs at ∷ []) (gate_codes w.ids.condact (two_more u.count) flag (code_at gs vs at ∷ [])) (a ∙ sym (emits-codes o (gate_codes w.ids.condact (two_more u.count) flag []) (gate_tokens w.ids.condact (two_more u.count) flag) refl)) b refl;
           written = g.written;
           stand = y;
           faultless = g.faultless;
-          whole = g.whole ∙ same-gate W.condact w.index.now.condact (length g.outputs + 2) (two_more u.count) flag (code_at gs vs at ∷ (g.inner ++ default_codes W g.outputs)) s.condact (sym m);
+          whole = g.whole ∙ same-gate W.condact w.ids.condact (length g.outputs + 2) (two_more u.count) flag (code_at gs vs at ∷ (g.inner ++ default_codes W g.outputs)) s.condact (sym m);
         }
 
   -- without outputs nothing is behind the parts

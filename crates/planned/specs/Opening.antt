@@ -27,10 +27,10 @@ two_more n = min (n + 2) 4294967295
 pub record WriterStands (w : WriteInput) (W : Writer) : Type 0 where
   pub standing : NodesIn w.index.now W.nodes
   pub table : Table w.index.now.source.names (tokens_of w.index.now.source) w.index.now.types.at w.index.now.types.count W.types
-  pub condact : W.condact ≡ w.index.now.condact
-  pub flags : W.flag_ids ≡ w.flag_ids.now
-  pub firsts : W.first_ids ≡ w.first_ids.now
-  pub holds : W.hold_ids ≡ w.hold_ids.now
+  pub condact : W.condact ≡ w.ids.condact
+  pub flags : W.flag_ids ≡ w.ids.flags.now
+  pub firsts : W.first_ids ≡ w.ids.firsts.now
+  pub holds : W.hold_ids ≡ w.ids.holds.now
 
 -- what becomes of the token at p by the plan that is lent, and what this plan writes
 abbrev pub plan_in : WriteInput → Writer → ℕ → Plan

@@ -49,8 +49,17 @@ pub struct HeldOperand {
     pub row: u32,
 }
 
-// What writing a node's equations reads: the sheet's index, the plan, the table of parts, the ids of new names by row and by number, the
-// holds, and the declared types of the node's names.
+// The ids of a node's new names: of its flags and first-tick flags by row, of its holds by number, and of `condact`.
+#[derive(Clone, Copy)]
+pub struct LentIds<'a> {
+    pub flags: &'a [u32],
+    pub firsts: &'a [u32],
+    pub holds: &'a [u32],
+    pub condact: u32,
+}
+
+// What writing a node's equations reads: the sheet's index, the plan, the table of parts, the ids of new names, the holds, and the declared
+// types of the node's names.
 // Stays (fixed memory): `plan` and `types` are words and no options, since they are working tables of words, for other questions too.
 // Stays (no plainer): `output` beside `written`, here and in `declock`: in one struct each would promise besides that what it reads stays.
 #[derive(Clone, Copy)]
@@ -58,9 +67,7 @@ pub struct WriteInput<'a> {
     pub index: &'a Index<'a>,
     pub plan: &'a [u32],
     pub parts: &'a PartsTable,
-    pub flag_ids: &'a [u32],
-    pub first_ids: &'a [u32],
-    pub hold_ids: &'a [u32],
+    pub ids: LentIds<'a>,
     pub holds: &'a [HeldOperand],
     pub types: &'a [u32],
 }
@@ -95,26 +102,18 @@ fn bare(many: u32, from: usize) -> Opened
     }
 }
 
-// The id of a row or a number, one less than the word.
-fn id_of(ids: &[u32], word: u32) -> u32
-    ensures { result ≡ get_or ids.now (word - 1) 0 }
-{
-    clock_tables::word_at(ids, word.saturating_sub(1) as usize)
-}
-
 // What becomes of a token with this tag, value and word. The two `when` are apart, since of `a | b` over numbers the goals are by bounds.
-// Stays (speed): the tag: `rewrite` of names used as clocks takes 5.02 million instructions, 5.2 by whole tokens; the bar is 5.12.
+// Stays (speed): the tag: by whole tokens `rewrite` of names used as clocks takes 0.2 million instructions more, past its bar of 5.12.
 fn plan_of(written: &WriteInput<'_>, tag: u8, value: u32, word: u32) -> Plan
-    ensures { result ≡ plan_of written.now.flag_ids.now written.now.first_ids.now written.now.hold_ids.now tag value word }
+    ensures { result ≡ plan_of written.now.ids.flags.now written.now.ids.firsts.now written.now.ids.holds.now tag value word }
 {
-    match tag {
-        tags::WHEN => Plan::Drop,
-        tags::WHEN_NOT => Plan::Drop,
-        tags::MERGE => Plan::Choose(value),
-        _ if word == 0 => Plan::Stay,
-        tags::PRE => Plan::Hold(id_of(written.hold_ids, word)),
-        tags::ARROW => Plan::Choose(id_of(written.first_ids, word)),
-        tags::CALL => Plan::Gate(id_of(written.flag_ids, word)),
+    match (tag, clock_tables::place_in(word)) {
+        (tags::WHEN, _) => Plan::Drop,
+        (tags::WHEN_NOT, _) => Plan::Drop,
+        (tags::MERGE, _) => Plan::Choose(value),
+        (tags::PRE, Some(j)) => Plan::Hold(clock_tables::word_at(written.ids.holds, j)),
+        (tags::ARROW, Some(row)) => Plan::Choose(clock_tables::word_at(written.ids.firsts, row)),
+        (tags::CALL, Some(row)) => Plan::Gate(clock_tables::word_at(written.ids.flags, row)),
         _ => Plan::Stay,
     }
 }
@@ -177,7 +176,7 @@ fn open_gate(
     let Some(outputs) = index.operator_of(value) else {
         return bare(0, from);
     };
-    put_gate(output, index.condact, outputs.count, flag);
+    put_gate(output, written.ids.condact, outputs.count, flag);
     output.put(tag, value);
     Opened {
         many: 1,
@@ -299,10 +298,10 @@ fn put_declaration(source: &Source<'_>, types: &[u32], at: usize, x: u32, output
 
 // The declarations of the holds.
 pub fn put_hold_declarations(written: &WriteInput<'_>, output: &mut Output)
-    ensures { let s = written.now.index.now.source in (W : Writer) (plan : List ℕ) (hs : List Hold) (ids : Ids) → length hs ≡ length written.now.holds.now → HeldFrom s.names s.tags.now s.values.now W plan written.now.holds.now 0 hs → Declares s.names (tokens_of s) written.now.types.now (declared W.node) → ((j : ℕ) → ids.hold j ≡ get_or written.now.hold_ids.now j 0) → output.new ≡ emits output.old (hold_declarations ids 0 hs) }
+    ensures { let s = written.now.index.now.source in (W : Writer) (plan : List ℕ) (hs : List Hold) (ids : Ids) → length hs ≡ length written.now.holds.now → HeldFrom s.names s.tags.now s.values.now W plan written.now.holds.now 0 hs → Declares s.names (tokens_of s) written.now.types.now (declared W.node) → ((j : ℕ) → ids.hold j ≡ get_or written.now.ids.holds.now j 0) → output.new ≡ emits output.old (hold_declarations ids 0 hs) }
 {
     for (j, held) in written.holds.iter().enumerate() {
-        let x = clock_tables::word_at(written.hold_ids, j);
+        let x = clock_tables::word_at(written.ids.holds, j);
         put_declaration(
             &written.index.source,
             written.types,
@@ -327,10 +326,10 @@ fn put_hold(output: &mut Output, x: u32, flag: u32)
 
 // The equation of hold j: its operand where its flag is true, else the value before.
 fn put_equation(written: &WriteInput<'_>, j: usize, held: HeldOperand, output: &mut Output)
-    ensures { let s = written.now.index.now.source in (W : Writer) (h : Hold) → held ≡ hold_at written.now.holds.now j → WriterStands written.now W → HeldAt s.names s.tags.now s.values.now W written.now.plan.now written.now.holds.now j h → output.new ≡ emits output.old (equation_tokens (record { left = get_or written.now.hold_ids.now j 0 ∷ []; right = h.right })) }
+    ensures { let s = written.now.index.now.source in (W : Writer) (h : Hold) → held ≡ hold_at written.now.holds.now j → WriterStands written.now W → HeldAt s.names s.tags.now s.values.now W written.now.plan.now written.now.holds.now j h → output.new ≡ emits output.old (equation_tokens (record { left = get_or written.now.ids.holds.now j 0 ∷ []; right = h.right })) }
 {
-    let x = clock_tables::word_at(written.hold_ids, j);
-    let flag = clock_tables::word_at(written.flag_ids, held.row as usize);
+    let x = clock_tables::word_at(written.ids.holds, j);
+    let flag = clock_tables::word_at(written.ids.flags, held.row as usize);
     put_hold(output, x, flag);
     expr(written, held.at as usize, output);
     put_named(output, ExprToken::Pre, x);
@@ -338,7 +337,7 @@ fn put_equation(written: &WriteInput<'_>, j: usize, held: HeldOperand, output: &
 
 // The equations of the holds.
 pub fn put_hold_equations(written: &WriteInput<'_>, output: &mut Output)
-    ensures { let s = written.now.index.now.source in (W : Writer) (hs : List Hold) (ids : Ids) → length hs ≡ length written.now.holds.now → WriterStands written.now W → HeldFrom s.names s.tags.now s.values.now W written.now.plan.now written.now.holds.now 0 hs → ((j : ℕ) → ids.hold j ≡ get_or written.now.hold_ids.now j 0) → output.new ≡ emits output.old (hold_equations ids 0 hs) }
+    ensures { let s = written.now.index.now.source in (W : Writer) (hs : List Hold) (ids : Ids) → length hs ≡ length written.now.holds.now → WriterStands written.now W → HeldFrom s.names s.tags.now s.values.now W written.now.plan.now written.now.holds.now 0 hs → ((j : ℕ) → ids.hold j ≡ get_or written.now.ids.holds.now j 0) → output.new ≡ emits output.old (hold_equations ids 0 hs) }
 {
     for (j, &held) in written.holds.iter().enumerate() {
         put_equation(written, j, held, output);
@@ -391,10 +390,10 @@ pub enum Frame {
 fn frame_by(word: u32, count: u32, flag_ids: &[u32]) -> Frame
     ensures { result ≡ frame_in flag_ids.now count word }
 {
-    if word == 0 {
+    let Some(row) = clock_tables::place_in(word) else {
         return Frame::Plain;
-    }
-    let flag = id_of(flag_ids, word);
+    };
+    let flag = clock_tables::word_at(flag_ids, row);
     if count == 1 {
         return Frame::Choose(flag);
     }
@@ -444,9 +443,9 @@ fn one_equation(written: &WriteInput<'_>, at: usize, output: &mut Output) -> usi
 {
     let left = layout::names_at(&written.index.source, at);
     let word = clock_tables::word_at(written.plan, at);
-    let f = frame_by(word, left.count, written.flag_ids);
+    let f = frame_by(word, left.count, written.ids.flags);
     put_left(&written.index.source, left, output);
-    put_before(output, f, written.index.condact, left.count);
+    put_before(output, f, written.ids.condact, left.count);
     let end = expr(written, left.end, output);
     put_behind(written, left, f, output);
     end

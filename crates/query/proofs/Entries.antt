@@ -11,39 +11,37 @@ use lib.ListN.{length, get_or, set, take, length-append, length-map}
 use lib.Seq.{take-suc, take_all, take-append-le, length-take-le}
 use Rattle.definitions.specs.Lists.{join, over, Letters}
 use Rattle.definitions.specs.Clock.{Clock, base}
-use Rattle.definitions.specs.InferClocks.{Clocked, Finding, found, NodeFault, chains, clock_faults}
+use Rattle.definitions.specs.InferClocks.{Clocked, Finding, NodeFault, chains, clock_faults}
 use Rattle.definitions.specs.Output.{ClockedNode}
 use Rattle.definitions.specs.declared.FaultRecord.{FaultRecord}
 use Rattle.definitions.specs.Answer.{fault_record, node_clocks}
 use Rattle.std.specs.Prelude.{Some, None}
+use Rattle.grammar.specs.declared.source.Source.{Source}
+use Rattle.shapes.proofs.Facts.{over-long}
 use Rattle.clock_tables.specs.declared.clock.Clock as value
 use Rattle.clock_tables.specs.Value.{value_of}
 use Rattle.lines.specs.declared.ToldNode.{ToldNode}
+use Rattle.lines.specs.ToldClocks.{NodeWithClocks}
 use Rattle.lines.specs.declared.equation_clocks.EquationClocks.{EquationClocks}
 use Rattle.lines.specs.Walk.{GivesClock, ClocksLeft}
 use Rattle.lines.proofs.Walks.{clocks-next, clocks-end}
 use Rattle.lines.proofs.Laws.{node-many}
 use Rattle.query.specs.declared.NodeCounts.{NodeCounts}
-use Rattle.query.specs.Standing.{NodeWithClocks}
 use Rattle.clock_tables.specs.Flat.{clock_words, with_clock}
-use Rattle.clock_tables.proofs.FlatLaws.{over-long, words_long}
+use Rattle.clock_tables.proofs.FlatLaws.{words_long}
 use Rattle.skeleton.specs.Sites.{EquationsOn}
 use Rattle.infer_clocks.specs.Clocked.{ChainRoom}
 use Rattle.workspace.specs.Room.{Ample}
 use Rattle.workspace.proofs.Kept.{ample-room}
-use Rattle.findings.specs.Findings.{finding_in, findings_in}
-use Rattle.findings.proofs.Laws.{none_yet, count-more, faults-one, faults-no}
+use Rattle.findings.specs.Findings.{findings_in}
+use Rattle.findings.proofs.Laws.{length_from}
+use Rattle.lines.proofs.ListingLengths.{few-faults}
 use Rattle.spelling.specs.Writing.{over_at, last_place}
-use Rattle.spelling.proofs.Writing.{over-front, over-parts, over-set, over-then}
+use Rattle.spelling.proofs.Writing.{over_nothing, over-front, over-parts, over-set, over-then}
 use Rattle.query.specs.Words.{clocks_over, found_counts, Written}
 use Rattle.query.specs.Faults.{Pushed}
 use Rattle.query.specs.declared.fault_list.FaultList.{FaultList}
 use Rattle.query.proofs.Words.{join_last}
-
--- one item more
-map_last : {A B : Type 0} (f : A → B) (l : List A) (a : A) → map f (l ++ (a ∷ [])) ≡ map f l ++ (f a ∷ [])
-map_last f [] a = refl
-map_last f (b ∷ l) a = ap (λ r. f b ∷ r) (map_last f l a)
 
 -- ---- clocks
 clocks-long : (cs : List Clock) → length (join (map clock_words cs)) ≡ 17 * length cs
@@ -182,42 +180,47 @@ set-behind l a lent m now e g =
     ∙ (over-then 0 l (a ∷ []) lent
     ∙ over-front (l ++ (a ∷ [])) lent)))
 
--- the faults of the first i rows are in the list
-pub record Faults (node : ℕ) (t : List ℕ) (lent : List FaultRecord) (i : ℕ) (l : FaultList) : Type 0 where
-  pub few : l.count ≤ i
-  pub count : l.count ≡ length (clock_faults (findings_in t i))
-  pub written : l.records.now ≡ over (map (fault_record node) (clock_faults (findings_in t i))) lent
+-- the records of some faults are in the list, and those of the others, put behind them, make it that of all
+pub record FaultsPut (node : ℕ) (all : List NodeFault) (lent : List FaultRecord) (left : List NodeFault) (l : FaultList) : Type 0 where
+  pub total : l.count + length left ≡ length all
+  pub put : over_at l.count (map (fault_record node) left) l.records.now ≡ over (map (fault_record node) all) lent
 
-module _ (node : ℕ) (t : List ℕ) (lent : List FaultRecord) where
-  pub faults-none : (l : FaultList) → l.count ≡ 0 → l.records.now ≡ lent → Faults node t lent 0 l
-  faults-none l z w = let e = (none_yet t).0 in record { few = omega (arith, z); count = rw e z; written = rw e w }
+module _ (node : ℕ) (all : List NodeFault) (lent : List FaultRecord) where
+  pub faults-none : (l : FaultList) → l.count ≡ 0 → l.records.now ≡ lent → FaultsPut node all lent all l
+  faults-none l z w = record { total = omega (arith, z); put = rw (z, w) (over-front (map (fault_record node) all) lent) }
 
-  module _ (i : ℕ) (l : FaultList) (z : Faults node t lent i l) (f : Finding) (e : f ≡ finding_in t (38 * i)) where
-    pub fault-written : (g : NodeFault) (l₁ : FaultList) → f ≡ found g → i < last_place → Pushed (fault_record node g) l l₁ → Faults node t lent (i + 1) l₁
-    fault-written g l₁ h few p =
-        let s : clock_faults (findings_in t (i + 1)) ≡ clock_faults (findings_in t i) ++ (g ∷ []) = faults-one t i f e h in
-        let n : l₁.count ≡ l.count + 1 = omega (arith, p.next, z.few, few) in
-        record {
-          few = omega (arith, n, z.few);
-          count = rw s (n ∙ count-more (clock_faults (findings_in t i)) g l.count z.count);
-          written = rw s (p.put ∙ (set-behind (map (fault_record node) (clock_faults (findings_in t i))) (fault_record node g) lent l.count l.records.now (z.count ∙ sym (length-map (clock_faults (findings_in t i)) (fault_record node))) z.written ∙ ap (λ (k : List FaultRecord). over k lent) (sym (map_last (fault_record node) (clock_faults (findings_in t i)) g))));
-        }
+  pub fault-written : (l l₁ : FaultList) (f : NodeFault) (rest : List NodeFault) → length all ≤ last_place → FaultsPut node all lent (f ∷ rest) l → Pushed (fault_record node f) l l₁ → FaultsPut node all lent rest l₁
+  fault-written l l₁ f rest few h p =
+      let a = fault_record node f in
+      let more = map (fault_record node) rest in
+      let n : l₁.count ≡ l.count + 1 = omega (arith, p.next, h.total, few) in
+      record {
+        total = omega (arith, n, h.total);
+        put =
+            ap (λ (j : ℕ). over_at j more l₁.records.now) n
+            ∙ (ap (λ (s : List FaultRecord). over_at (l.count + 1) more s) (p.put ∙ sym (over-set l.count a l.records.now))
+            ∙ (over-then l.count (a ∷ []) more l.records.now ∙ h.put));
+      }
 
-    pub fault-passed : clock_faults (f ∷ []) ≡ [] → Faults node t lent (i + 1) l
-    fault-passed h = let s = faults-no t i f e h in record { few = omega (arith, z.few); count = rw s z.count; written = rw s z.written }
+  pub faults-all : (l : FaultList) → FaultsPut node all lent [] l → (l.count ≡ length all) × (l.records.now ≡ over (map (fault_record node) all) lent)
+  faults-all l h = (omega (arith, h.total), sym (over_nothing l.count l.records.now) ∙ h.put)
+
+-- there are no more faults than rows
+pub faults-few : (t : List ℕ) (n : ℕ) → n ≤ last_place → length (clock_faults (findings_in t n)) ≤ last_place
+faults-few t n h = omega (arith, h, few-faults (findings_in t n), length_from t 0 n)
 
 -- ---- a node
 -- tables that have room for chains have it for as many as were found
 pub chain-room : {table rows chain : List ℕ} → Ample table rows chain → (m : ℕ) → 38 * m ≤ length table → ChainRoom m rows chain × (m ≤ 4096)
-chain-room a m h = let w = ample-room _ _ _ a m _ refl h in (record { rowed = w.0; placed = w.1 }, w.2)
+chain-room a m h = let w = ample-room _ _ _ a m _ refl h in (record { rowed = w.0; placed = w.1; numbered = omega (arith, w.2) }, w.2)
 
 counts_same : (a a' b b' c c' d d' e e' : ℕ) → a ≡ a' → b ≡ b' → c ≡ c' → d ≡ d' → e ≡ e'
     → ◌≡◌ {A = NodeCounts} (record { name = a; passes = b; equations = c; chains = d; faults = e }) (record { name = a'; passes = b'; equations = c'; chains = d'; faults = e' })
 counts_same a a' b b' c c' d d' e e' p q r s t = rw (p, q, r, s, t)
 
-module _ (letters : ℕ → Letters) (gs vs t sites : List ℕ) (told : ToldNode) (n : ClockedNode) (z : NodeWithClocks gs vs t sites told n) where
+module _ (letters : ℕ → Letters) (s : Source) (t sites : List ℕ) (told : ToldNode) (n : ClockedNode) (z : NodeWithClocks s t sites told n) where
   pub node-written : (es cs : List ℕ) (fs : List FaultRecord) (es' cs' : List ℕ) (fs' : List FaultRecord) (r : NodeCounts)
-      → ((M : ℕ) (ks : List Clocked) (q : ℕ) → EquationsOn M gs vs sites ks told.layout.equations.at q → length ks ≡ told.layout.equations.count → es' ≡ clocks_over (map (λ (c : Clocked). c.clock) ks) es)
+      → ((M : ℕ) (ks : List Clocked) (q : ℕ) → EquationsOn M s.tags.now s.values.now sites ks told.layout.equations.at q → length ks ≡ told.layout.equations.count → es' ≡ clocks_over (map (λ (c : Clocked). c.clock) ks) es)
       → r ≡ found_counts letters t told → cs' ≡ clocks_over (chains letters (findings_in t told.clocked.findings)) cs → fs' ≡ over (map (fault_record told.number) (clock_faults (findings_in t told.clocked.findings))) fs
       → Written told.number (node_clocks letters n) es cs fs es' cs' fs' r
   unfolding node_clocks
@@ -229,7 +232,7 @@ module _ (letters : ℕ → Letters) (gs vs t sites : List ℕ) (told : ToldNode
         counts =
             R
             ∙ counts_same _ _ _ _ _ _ _ _ _ _ z.laid.named (sym z.tells.made) (sym many ∙ sym (length-map k.equations (λ (c : Clocked). c.clock))) (ap (λ (l : List Finding). length (chains letters l)) all) (ap (λ (l : List Finding). length (clock_faults l)) all);
-        equations = E told.names k.equations told.layout.equations.end z.tells.on many;
+        equations = E s.names k.equations told.layout.equations.end z.tells.on many;
         chains = C ∙ ap (λ (l : List Finding). clocks_over (chains letters l) cs) all;
         faults = F ∙ ap (λ (l : List Finding). over (map (fault_record told.number) (clock_faults l)) fs) all;
       }

@@ -20,28 +20,16 @@ use Rattle.layout.specs.declared.NodeLayout.{NodeLayout}
 use Rattle.layout.specs.Laid.{LaidNode}
 use Rattle.definitions.specs.declared.Refusal.{Refusal}
 use Rattle.lines.specs.declared.ToldNode.{ToldNode}
-use Rattle.lines.specs.declared.ListedNode.{ListedNode}
-use Rattle.chain_order.specs.declared.OrderedClocks.{OrderedClocks}
-use Rattle.lines.specs.Listed.{Lists, AreChains, IsSmall, listed}
-use Rattle.lines.proofs.ListingLengths.{node-fits}
+use Rattle.lines.specs.ToldClocks.{NodeWithClocks}
 use Rattle.spelling.specs.Writing.{over_at, farthest, last_place}
 use Rattle.spelling.specs.Written.{Wrote}
 use Rattle.spelling.specs.declared.text_writer.TextWriter.{TextWriter}
 use Rattle.spelling.proofs.Writers.{wrote_none, wrote_as, wrote_then}
 use Rattle.lines.proofs.Pieces.{numbered-last}
-use Rattle.query.specs.Standing.{NodeWithClocks, ClockedAs}
+use Rattle.query.specs.Standing.{ClockedAs}
 use Rattle.query.specs.Listed.{TextStands, listings_text}
 use Rattle.query.specs.Words.{PutText}
 use Rattle.query.proofs.Nodes.{all_left, node-formed, node-deep}
-
--- ---- a node clocked
--- it is the node that is listed
-pub lists : (l : ListedNode) (n : ClockedNode) → NodeWithClocks l.named.source.tags.now l.named.source.values.now l.table.now l.sites.now l.told n → Lists l n
-lists l n z = record { end = z.end; laid = z.laid; formed = z.formed; tells = z.tells }
-
--- what was written of it is no longer than a node's listing may be
-pub node-short : {l : ListedNode} {w w₁ : TextWriter} (o : OrderedClocks) → ((n : ClockedNode) → Lists l n → AreChains l o → Wrote (listed l n) w w₁) → (n : ClockedNode) → Lists l n → AreChains l o → IsSmall l → length (listed l n) ≤ farthest
-node-short {l} o p = node-fits l o
 
 -- a text that a writer put from the front on
 wrote-put : (text : Letters) {w w₁ : TextWriter} (lent now : List ℕ) → w.at ≡ 0 → lent ≡ w.out.now → now ≡ w₁.out.now → length text ≤ last_place → Wrote text w w₁ → PutText text 0 lent w₁.at now
@@ -80,14 +68,14 @@ module _ (source : Source) (letters : ℕ → Letters) (n q : ℕ) (from : TextW
     lefts = g.0
 
     module _ (k : ℕ) (e : k ≡ i) (table sites : List ℕ) where
-      pub putting-deep : (r : Refusal) → ((x : Node) (e : ℕ) → LaidNode source.names (tokens_of source) x e l → ClockedAs source.names source.tags.now source.values.now table sites k x (Err r)) → v ≡ refused r
+      pub putting-deep : (r : Refusal) → ((x : Node) (e : ℕ) → LaidNode source.names (tokens_of source) x e l → ClockedAs source table sites k x (Err r)) → v ≡ refused r
       unfolding ClockedAs
       putting-deep r C =
           let d = C here.first here.to here.laid in
           let w : clockings i h.rest ≡ refused (Refusal.Deep i) = ap (clockings i) here.whole ∙ node-deep i here.first here.rest d.0 in
           h.whole ∙ (ap (λ (y : Answer (List ClockedNode)). y >>= λ l. accepted (h.so_far ++ l)) w ∙ (ap (λ (j : ℕ). refused (Refusal.Deep j)) (sym e) ∙ ap refused (sym d.1)))
 
-      pub putting-more : (j : ℕ) → j ≡ i + 1 → (told : ToldNode) (after : TextWriter) → ((x : Node) (e : ℕ) → LaidNode source.names (tokens_of source) x e l → ClockedAs source.names source.tags.now source.values.now table sites k x (Ok told)) → ((y : ClockedNode) → NodeWithClocks source.tags.now source.values.now table sites told y → Wrote (node_listing letters told.number y) now after) → ((y : ClockedNode) → NodeWithClocks source.tags.now source.values.now table sites told y → length (node_listing letters told.number y) ≤ farthest)
+      pub putting-more : (j : ℕ) → j ≡ i + 1 → (told : ToldNode) (after : TextWriter) → ((x : Node) (e : ℕ) → LaidNode source.names (tokens_of source) x e l → ClockedAs source table sites k x (Ok told)) → ((y : ClockedNode) → NodeWithClocks source table sites told y → Wrote (node_listing letters told.number y) now after) → ((y : ClockedNode) → NodeWithClocks source table sites told y → length (node_listing letters told.number y) ≤ farthest)
           → Putting source letters n j q t from after v
       unfolding ClockedAs
       putting-more j next told after C P F =

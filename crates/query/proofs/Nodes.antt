@@ -1,6 +1,6 @@
 -- A node found, laid out and clocked. Assumes nothing.
 use mathlib.Core.Path.{◌≡◌, refl, sym, ◌∙◌, ap}
-use mathlib.Core.Bool.{Bool, true, false, true≢false}
+use mathlib.Core.Bool.{Bool, false, true≢false}
 use mathlib.Core.List.{List, [], ◌∷◌, ◌++◌}
 use mathlib.Core.Logic.{inl, inr}
 use Prim.Native.Nat.{ℕ, zero, suc, ◌+◌, ◌-◌, ◌≤◌, ◌<◌, min}
@@ -10,10 +10,8 @@ use lib.ListN.{length, take}
 use lib.Seq.{length-take-le, take-append_seam}
 use Rattle.std.proofs.Common.{Result, Ok, Err}
 use Rattle.std.specs.Prelude.{is_ok}
-use Rattle.std.specs.Result.{MatchResult}
 use Rattle.definitions.specs.declared.Refusal.{Refusal}
 use Rattle.definitions.specs.Tokens.{TagValue}
-use Rattle.definitions.specs.Bytes.{tokens}
 use Rattle.definitions.specs.Tree.{Node}
 use Rattle.definitions.specs.Reading.{Reader, got, times}
 use Rattle.definitions.specs.Grammar.{node}
@@ -29,8 +27,10 @@ use Rattle.clock_tables.specs.declared.TooDeep.{TooDeep}
 use Rattle.infer_clocks.specs.declared.NodeClocked.{NodeClocked}
 use Rattle.infer_clocks.specs.Clocked.{SitesTold, ClockedOrDeep, Deeply}
 use Rattle.grammar.specs.declared.source.Source.{Source}
+use Rattle.grammar.specs.Read.{tokens_of}
 use Rattle.query.specs.declared.FoundNode.{FoundNode}
-use Rattle.query.specs.Standing.{first_from, NodeWithClocks, ClockedAs, FoundAt, NodeFound, NodeTold}
+use Rattle.lines.specs.ToldClocks.{NodeWithClocks}
+use Rattle.query.specs.Standing.{first_from, ClockedAs, FoundAt, NodeFound, NodeTold}
 
 -- ---- an item of a list
 item-missing : {A : Type 0} (l : List A) (k : ℕ) → length l ≤ k → item_at l k ≡ refused Refusal.Missing
@@ -89,10 +89,10 @@ cons-clocked i n ns l h = go (clocking n) (clockings (suc i) ns) refl refl h
 
     go : (v : Formed Clocking) (w : Answer (List ClockedNode)) → clocking n ≡ v → clockings (suc i) ns ≡ w → said v w ≡ accepted l
         → (k : Clocking) × (rest : List ClockedNode) × (clocking n ≡ formed k) × (clockings (suc i) ns ≡ accepted rest) × (l ≡ record { node = n; clocking = k } ∷ rest)
-    go deep w a b e = let z : ◌≡◌ {A = ℕ} 0 1 = cc in absurd (omega arith)
+    go deep w a b e = absurd cc
     go (formed k) (accepted rest) a b e = let x : l ≡ record { node = n; clocking = k } ∷ rest = cc in (k, rest, a, b, x)
-    go (formed k) (refused r) a b e = let z : ◌≡◌ {A = ℕ} 0 1 = cc in absurd (omega arith)
-    go (formed k) (faulty r) a b e = let z : ◌≡◌ {A = ℕ} 0 1 = cc in absurd (omega arith)
+    go (formed k) (refused r) a b e = absurd cc
+    go (formed k) (faulty r) a b e = absurd cc
 
 -- nothing before
 pub all_left : {A : Type 0} (v : Answer (List A)) → v ≡ (v >>= λ l. accepted ([] ++ l))
@@ -211,12 +211,12 @@ module _ (source : Source) (r : Input) (k : ℕ) where
   found-at f h = h
 
 -- what is told is that
-pub told-as : (M : ℕ) (gs vs t sites : List ℕ) (k : ℕ) (a : Result ToldNode Refusal) (v w : Answer ClockedNode) → v ≡ w → NodeTold M gs vs t sites k a w → NodeTold M gs vs t sites k a v
-told-as M gs vs t sites k a v w e h = rw e h
+pub told-as : (s : Source) (t sites : List ℕ) (k : ℕ) (a : Result ToldNode Refusal) (v w : Answer ClockedNode) → v ≡ w → NodeTold s t sites k a w → NodeTold s t sites k a v
+told-as s t sites k a v w e h = rw e h
 
-pub told-refused : (M : ℕ) (gs vs t sites : List ℕ) (k : ℕ) (x : Refusal) (v : Answer ClockedNode) → v ≡ refused x → NodeTold M gs vs t sites k (Err x) v
+pub told-refused : (s : Source) (t sites : List ℕ) (k : ℕ) (x : Refusal) (v : Answer ClockedNode) → v ≡ refused x → NodeTold s t sites k (Err x) v
 unfolding NodeTold
-told-refused M gs vs t sites k x v e = e
+told-refused s t sites k x v e = e
 
 -- node k, which is n, and the nodes behind it
 module _ (k : ℕ) (n : Node) (ns : List Node) where
@@ -239,27 +239,27 @@ module _ (k : ℕ) (n : Node) (ns : List Node) where
         rw (x, y)
 
 -- what clocking it and searching behind it tell
-module _ (M : ℕ) (gs vs t sites : List ℕ) (k : ℕ) (n : Node) (ns : List Node) where
-  pub told-deep : (x : Refusal) → ClockedAs M gs vs t sites k n (Err x) → NodeTold M gs vs t sites k (Err x) (first_from k (n ∷ ns))
+module _ (s : Source) (t sites : List ℕ) (k : ℕ) (n : Node) (ns : List Node) where
+  pub told-deep : (x : Refusal) → ClockedAs s t sites k n (Err x) → NodeTold s t sites k (Err x) (first_from k (n ∷ ns))
   unfolding NodeTold ClockedAs
   told-deep x h = first-deep k n ns h.0 ∙ ap refused (sym h.1)
 
-  module _ (told : ToldNode) (h : ClockedAs M gs vs t sites k n (Ok told)) (q : ℕ) (d : Result ℕ Refusal) (D : Deeply q d (clockings (k + 1) ns)) where
-    this : (c : Clocking) × (clocking n ≡ formed c) × NodeWithClocks gs vs t sites told (record { node = n; clocking = c }) × (told.number ≡ k) × (told.names ≡ M)
+  module _ (told : ToldNode) (h : ClockedAs s t sites k n (Ok told)) (q : ℕ) (d : Result ℕ Refusal) (D : Deeply q d (clockings (k + 1) ns)) where
+    this : (c : Clocking) × (clocking n ≡ formed c) × NodeWithClocks s t sites told (record { node = n; clocking = c }) × (told.number ≡ k)
     unfolding ClockedAs
     this = h
 
-    pub told-behind : (y : Refusal) → d ≡ Err y → NodeTold M gs vs t sites k (Err y) (first_from k (n ∷ ns))
+    pub told-behind : (y : Refusal) → d ≡ Err y → NodeTold s t sites k (Err y) (first_from k (n ∷ ns))
     unfolding NodeTold Deeply
     told-behind y f =
         let x : Deeply q (Err y) (clockings (k + 1) ns) = rw f at D in
         first-behind k n ns this.0 this.1 y x
 
-    pub told-node : (p : ℕ) → d ≡ Ok p → k < 16 → NodeTold M gs vs t sites k (Ok told) (first_from k (n ∷ ns))
+    pub told-node : (p : ℕ) → d ≡ Ok p → k < 16 → NodeTold s t sites k (Ok told) (first_from k (n ∷ ns))
     unfolding NodeTold Deeply
     told-node p f few =
         let x : Deeply q (Ok p) (clockings (k + 1) ns) = rw f at D in
-        (record { node = n; clocking = this.0 }, first-there k n ns this.0 this.1 x.1 x.2, this.2, this.3, this.4, few)
+        (record { node = n; clocking = this.0 }, first-there k n ns this.0 this.1 x.1 x.2, this.2, this.3, few)
 
 -- ---- the part of a working table that names take
 module _ (n w : ℕ) (l : List Bool) (e : n ≡ min w 1024) (f : length l ≡ 1024) where
@@ -270,25 +270,21 @@ module _ (n w : ℕ) (l : List Bool) (e : n ≡ min w 1024) (f : length l ≡ 10
   part-enough M g h = omega (arith, part-long)
 
 -- ---- what is answered in the place of an error
-pub ok-kept : {A D : Type 0} (E : Type 0) (a : Result A D) (b : A) (Q : D → Type 0) → true ≡ is_ok a → MatchResult a (λ x. ◌≡◌ {A = Result A E} (Ok b) (Ok x)) Q → a ≡ Ok b
-ok-kept E (Ok x) b Q v m = let y : b ≡ x = cc in ap Ok (sym y)
-ok-kept E (Err d) b Q v m = absurd (true≢false v)
-
 pub deep-told : (env t : List ℕ) (M : ℕ) (n : Node) (r : Result NodeClocked TooDeep) → ClockedOrDeep env t M r (clocking n) → false ≡ is_ok r → clocking n ≡ deep
 unfolding ClockedOrDeep
 deep-told env t M n (Ok a) h e = absurd (true≢false (sym e))
 deep-told env t M n (Err d) h e = h
 
 -- ---- a node clocked
-module _ (M : ℕ) (gs vs env t sites : List ℕ) (k : ℕ) (n : Node) (r : Result NodeClocked TooDeep) (h : ClockedOrDeep env t M r (clocking n)) where
-  pub clocked-deep : (a : Refusal) → false ≡ is_ok r → a ≡ Refusal.Deep k → ClockedAs M gs vs t sites k n (Err a)
+module _ (s : Source) (env t sites : List ℕ) (k : ℕ) (n : Node) (r : Result NodeClocked TooDeep) (h : ClockedOrDeep env t s.names r (clocking n)) where
+  pub clocked-deep : (a : Refusal) → false ≡ is_ok r → a ≡ Refusal.Deep k → ClockedAs s t sites k n (Err a)
   unfolding ClockedAs
-  clocked-deep a v e = (deep-told env t M n r h v, e)
+  clocked-deep a v e = (deep-told env t s.names n r h v, e)
 
-  pub clocked-node : (q : ℕ) (l : NodeLayout) (a : NodeClocked) → r ≡ Ok a → LaidNode M (tokens gs vs) n q l
-      → ((c : Clocking) → clocking n ≡ formed c → SitesTold M gs vs sites c.findings c.equations l.equations.at l.equations.end)
-      → ClockedAs M gs vs t sites k n (Ok (record { layout = l; number = k; names = M; clocked = a }))
+  pub clocked-node : (q : ℕ) (l : NodeLayout) (a : NodeClocked) → r ≡ Ok a → LaidNode s.names (tokens_of s) n q l
+      → ((c : Clocking) → clocking n ≡ formed c → SitesTold s sites c.findings c.equations l.equations.at l.equations.end)
+      → ClockedAs s t sites k n (Ok (record { layout = l; number = k; clocked = a }))
   unfolding ClockedOrDeep ClockedAs
   clocked-node q l a e d S =
-      let x : ClockedOrDeep env t M (Ok a) (clocking n) = rw e at h in
-      (x.0, x.1, record { end = q; laid = d; formed = x.1; tells = record { made = x.2.made; room = x.2.room; all = x.2.all; on = (S x.0 x.1).on } }, refl, refl)
+      let x : ClockedOrDeep env t s.names (Ok a) (clocking n) = rw e at h in
+      (x.0, x.1, record { end = q; laid = d; formed = x.1; tells = record { made = x.2.made; room = x.2.room; all = x.2.all; on = (S x.0 x.1).on } }, refl)

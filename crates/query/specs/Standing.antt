@@ -2,7 +2,6 @@
 use Rattle.std.specs.Prelude.{ℕ, ◌+◌, ◌≤◌, ◌<◌, ◌≡◌, ◌⊎◌, List, ◌∷◌, length, take, Result, Ok, Err}
 use Rattle.definitions.specs.declared.Refusal.{Refusal}
 use Rattle.definitions.specs.Tree.{Node}
-use Rattle.definitions.specs.Bytes.{tokens}
 use Rattle.definitions.specs.Reading.{got}
 use Rattle.definitions.specs.Grammar.{sheet}
 use Rattle.definitions.specs.Refusals.{Answer, accepted, refused, ◌>>=◌}
@@ -16,7 +15,7 @@ use Rattle.spelling.specs.Places.{letters_in}
 use Rattle.layout.specs.Laid.{LaidNode}
 use Rattle.infer_clocks.specs.Clocked.{Deeply}
 use Rattle.lines.specs.declared.ToldNode.{ToldNode}
-use Rattle.lines.specs.ToldClocks.{ToldClocks}
+use Rattle.lines.specs.ToldClocks.{NodeWithClocks}
 use Rattle.query.specs.declared.FoundNode.{FoundNode}
 
 -- the sheet r stands here: the letters of its names, and its tokens
@@ -47,19 +46,12 @@ unfoldable pub NodeFound : Source → Input → ℕ → Result FoundNode Refusal
 NodeFound source r k (Err e) = (node_at r k ≡ refused e) × (((length r.sheet.nodes ≤ k) × (e ≡ Refusal.Missing)) ⊎ (clockings 0 (take k r.sheet.nodes) ≡ refused e))
 NodeFound source r k (Ok f) = FoundAt source r k f
 
--- a node laid out, with its clocks in the working tables
-pub record NodeWithClocks (gs vs t sites : List ℕ) (told : ToldNode) (n : ClockedNode) : Type 0 where
-  pub end : ℕ
-  pub laid : LaidNode told.names (tokens gs vs) n.node end told.layout
-  pub formed : clocking n.node ≡ formed n.clocking
-  pub tells : ToldClocks gs vs t sites told n.clocking
-
 -- node k, which is n, with its clocks, or 9
-unfoldable pub ClockedAs : ℕ → List ℕ → List ℕ → List ℕ → List ℕ → ℕ → Node → Result ToldNode Refusal → Type 0
-ClockedAs M gs vs t sites k n (Err r) = (clocking n ≡ deep) × (r ≡ Refusal.Deep k)
-ClockedAs M gs vs t sites k n (Ok told) = (c : Clocking) × (clocking n ≡ formed c) × NodeWithClocks gs vs t sites told (record { node = n; clocking = c }) × (told.number ≡ k) × (told.names ≡ M)
+unfoldable pub ClockedAs : Source → List ℕ → List ℕ → ℕ → Node → Result ToldNode Refusal → Type 0
+ClockedAs s t sites k n (Err r) = (clocking n ≡ deep) × (r ≡ Refusal.Deep k)
+ClockedAs s t sites k n (Ok told) = (c : Clocking) × (clocking n ≡ formed c) × NodeWithClocks s t sites told (record { node = n; clocking = c }) × (told.number ≡ k)
 
 -- node k with its clocks, or 8 or 9
-unfoldable pub NodeTold : ℕ → List ℕ → List ℕ → List ℕ → List ℕ → ℕ → Result ToldNode Refusal → Answer ClockedNode → Type 0
-NodeTold M gs vs t sites k (Err r) v = v ≡ refused r
-NodeTold M gs vs t sites k (Ok told) v = (n : ClockedNode) × (v ≡ accepted n) × NodeWithClocks gs vs t sites told n × (told.number ≡ k) × (told.names ≡ M) × (k < 16)
+unfoldable pub NodeTold : Source → List ℕ → List ℕ → ℕ → Result ToldNode Refusal → Answer ClockedNode → Type 0
+NodeTold s t sites k (Err r) v = v ≡ refused r
+NodeTold s t sites k (Ok told) v = (n : ClockedNode) × (v ≡ accepted n) × NodeWithClocks s t sites told n × (told.number ≡ k) × (k < 16)

@@ -23,14 +23,16 @@ ghost use Rattle.layout.specs.Laid.{LaidNode};
 ghost use Rattle.layout.specs.Spans.{Spans};
 ghost use Rattle.skeleton.specs.Sites.{EquationsOn};
 ghost use Rattle.infer_clocks.specs.Clocked.{Deeply, SitesTold, ChainRoom};
-ghost use Rattle.workspace.specs.Room.{SameRoom, Roomy, Ample, RoomToList};
-ghost use Rattle.query.specs.Standing.{NodeWithClocks, ClockedAs, NodeFound, NodeTold};
+ghost use Rattle.workspace.specs.Room.{SameRoom, ChainsStay, Roomy, Ample, RoomToList};
+ghost use Rattle.lines.specs.ToldClocks.{NodeWithClocks};
+ghost use Rattle.lines.specs.Listed.{Lists};
+ghost use Rattle.query.specs.Standing.{ClockedAs, NodeFound, NodeTold};
 ghost use Rattle.query.specs.Listed.{TextStands, listings_text};
 ghost use Rattle.query.specs.Words.{clocks_over, found_counts, Written};
 
 use chain_order::OrderedClocks;
 use definitions::{FaultRecord, MOST_NAMES, Refusal};
-use findings::{Fault, Finding, FindingList, Found};
+use findings::FindingList;
 use grammar::Source;
 use layout::{NodeLayout, Span};
 use lines::{ListedNode, ToldNode};
@@ -61,8 +63,8 @@ fn deep_among(
     working: &mut Working<'_>,
 ) -> Result<usize, Refusal>
     ensures same_room { SameRoom working.old working.new }
-    ensures others_stay { (working.new.rows.now ≡ working.old.rows.now) × (working.new.chain.now ≡ working.old.chain.now) }
-    ensures deeply { (ns : List Node) (q : ℕ) → times count (node source.now.names) (tokens_of source.now) at ≡ got ns q → Roomy source.now.names (length source.now.tags.now) working.old → Deeply q result (clockings number ns) }
+    ensures others_stay { ChainsStay working.old working.new }
+    ensures deeply { (ns : List Node) (q : ℕ) → times count (node source.now.names) (tokens_of source.now) at ≡ got ns q → Roomy source.now working.old → Deeply q result (clockings number ns) }
 {
     let mut marks = [false; MOST_NAMES];
     infer_clocks::first_deep(
@@ -85,11 +87,11 @@ pub fn clock_laid(
     working: &mut Working<'_>,
 ) -> Result<ToldNode, Refusal>
     ensures same_room { SameRoom working.old working.new }
-    ensures others_stay { (working.new.rows.now ≡ working.old.rows.now) × (working.new.chain.now ≡ working.old.chain.now) }
-    ensures clocked_as { (n : Node) (q : ℕ) → LaidNode source.now.names (tokens_of source.now) n q layout → Roomy source.now.names (length source.now.tags.now) working.old → ClockedAs source.now.names source.now.tags.now source.now.values.now working.new.table.now working.new.sites.now k n result }
+    ensures others_stay { ChainsStay working.old working.new }
+    ensures clocked_as { (n : Node) (q : ℕ) → LaidNode source.now.names (tokens_of source.now) n q layout → Roomy source.now working.old → ClockedAs source.now working.new.table.now working.new.sites.now k n result }
     ensures refused_at { IfErr result (λ r. r ≡ Refusal.Deep k) }
     ensures layout_value { IfOk result (λ told. told.layout ≡ layout) }
-    ensures sites_told { IfOk result (λ told. (n : Node) (q : ℕ) (c : Clocking) → LaidNode source.now.names (tokens_of source.now) n q layout → clocking n ≡ formed c → Roomy source.now.names (length source.now.tags.now) working.old → SitesTold source.now.names source.now.tags.now source.now.values.now working.new.sites.now c.findings c.equations layout.equations.at layout.equations.end) }
+    ensures sites_told { IfOk result (λ told. (n : Node) (q : ℕ) (c : Clocking) → LaidNode source.now.names (tokens_of source.now) n q layout → clocking n ≡ formed c → Roomy source.now working.old → SitesTold source.now working.new.sites.now c.findings c.equations layout.equations.at layout.equations.end) }
 {
     let n = (source.names as usize).min(MOST_NAMES);
     let mut marks = [false; MOST_NAMES];
@@ -105,7 +107,6 @@ pub fn clock_laid(
     Ok(ToldNode {
         layout,
         number: k,
-        names: source.names,
         clocked,
     })
 }
@@ -126,8 +127,8 @@ pub fn find_node(
     working: &mut Working<'_>,
 ) -> Result<FoundNode, Refusal>
     ensures same_room { SameRoom working.old working.new }
-    ensures others_stay { (working.new.rows.now ≡ working.old.rows.now) × (working.new.chain.now ≡ working.old.chain.now) }
-    ensures node_found { (i : Input) → Spans (node source.now.names) (tokens_of source.now) i.sheet.nodes nodes → Roomy source.now.names (length source.now.tags.now) working.old → NodeFound source.now i k result }
+    ensures others_stay { ChainsStay working.old working.new }
+    ensures node_found { (i : Input) → Spans (node source.now.names) (tokens_of source.now) i.sheet.nodes nodes → Roomy source.now working.old → NodeFound source.now i k result }
 {
     let n = nodes.count;
     if n as usize <= k {
@@ -148,8 +149,8 @@ pub fn clock_at(
     working: &mut Working<'_>,
 ) -> Result<ToldNode, Refusal>
     ensures same_room { SameRoom working.old working.new }
-    ensures others_stay { (working.new.rows.now ≡ working.old.rows.now) × (working.new.chain.now ≡ working.old.chain.now) }
-    ensures node_told { (i : Input) (q : ℕ) → sheet source.now.names (tokens_of source.now) 0 ≡ got i.sheet q → Roomy source.now.names (length source.now.tags.now) working.old → NodeTold source.now.names source.now.tags.now source.now.values.now working.new.table.now working.new.sites.now k result (node_at i k) }
+    ensures others_stay { ChainsStay working.old working.new }
+    ensures node_told { (i : Input) (q : ℕ) → sheet source.now.names (tokens_of source.now) 0 ≡ got i.sheet q → Roomy source.now working.old → NodeTold source.now working.new.table.now working.new.sites.now k result (node_at i k) }
 {
     let whole = layout::sheet_at(source);
     let FoundNode { layout, behind } = find_node(source, whole.nodes, k, working)?;
@@ -159,6 +160,7 @@ pub fn clock_at(
 }
 
 // The clocks of a node's equations.
+// Stays (proof): no loop with `write_rows` over any iterator of clocks: what `equation_clocks` gives is known of equations that were read.
 fn write_equations(node: &ListedNode<'_>, list: &mut [u32])
     ensures { (M : ℕ) (cs : List Clocked) (q : ℕ) → EquationsOn M node.now.named.source.tags.now node.now.named.source.values.now node.now.sites.now cs node.now.told.layout.equations.at q → length cs ≡ node.now.told.layout.equations.count → list.new ≡ clocks_over (map (λ c. c.clock) cs) list.old }
 {
@@ -185,8 +187,8 @@ fn write_chains(
     chain: &mut [u32],
     list: &mut [u32],
 ) -> usize
-    ensures value { ChainRoom findings.entry.count rows.old chain.old → findings.entry.count < 4294967296 → result ≡ length (chains (letters_in spelling.entry) (findings_in findings.entry.words.now findings.entry.count)) }
-    ensures list_after { ChainRoom findings.entry.count rows.old chain.old → findings.entry.count < 4294967296 → list.new ≡ clocks_over (chains (letters_in spelling.entry) (findings_in findings.entry.words.now findings.entry.count)) list.old }
+    ensures value { ChainRoom findings.entry.count rows.old chain.old → result ≡ length (chains (letters_in spelling.entry) (findings_in findings.entry.words.now findings.entry.count)) }
+    ensures list_after { ChainRoom findings.entry.count rows.old chain.old → list.new ≡ clocks_over (chains (letters_in spelling.entry) (findings_in findings.entry.words.now findings.entry.count)) list.old }
 {
     let ordered = infer_clocks::chain_rows(spelling, findings, rows, chain);
     write_rows(&ordered, list);
@@ -199,11 +201,8 @@ fn write_faults(findings: FindingList<'_>, node: u32, records: &mut [FaultRecord
     ensures list_after { records.new ≡ over (map (fault_record node) (clock_faults (findings_in findings.entry.words.now findings.entry.count))) records.old }
 {
     let mut list = FaultList { records, count: 0 };
-    for i in 0..findings.count {
-        if let Finding::Fault { equation, fault } = findings.finding_at(i) {
-            let fault = Fault::Clock(fault);
-            list.push(node, Found { fault, equation });
-        }
+    for found in findings.faults() {
+        list.push(node, found);
     }
     list.count
 }
@@ -216,8 +215,8 @@ fn write_found(
     chains: &mut [u32],
     faults: &mut [FaultRecord],
 ) -> NodeCounts
-    ensures counted { ChainRoom node.now.told.clocked.findings rows.old chain.old → node.now.told.clocked.findings < 4294967296 → result ≡ found_counts (letters_in node.now.named.spelling) node.now.table.now node.now.told }
-    ensures chains_after { ChainRoom node.now.told.clocked.findings rows.old chain.old → node.now.told.clocked.findings < 4294967296 → chains.new ≡ clocks_over (clocks.chains (letters_in node.now.named.spelling) (findings_in node.now.table.now node.now.told.clocked.findings)) chains.old }
+    ensures counted { ChainRoom node.now.told.clocked.findings rows.old chain.old → result ≡ found_counts (letters_in node.now.named.spelling) node.now.table.now node.now.told }
+    ensures chains_after { ChainRoom node.now.told.clocked.findings rows.old chain.old → chains.new ≡ clocks_over (clocks.chains (letters_in node.now.named.spelling) (findings_in node.now.table.now node.now.told.clocked.findings)) chains.old }
     ensures faults_after { node.now.told.number < 4294967296 → faults.new ≡ over (map (fault_record node.now.told.number) (clock_faults (findings_in node.now.table.now node.now.told.clocked.findings))) faults.old }
 {
     let told = node.told;
@@ -243,7 +242,7 @@ pub fn write_clocks(
     chains: &mut [u32],
     faults: &mut [FaultRecord],
 ) -> NodeCounts
-    ensures { (n : ClockedNode) → NodeWithClocks node.now.named.source.tags.now node.now.named.source.values.now node.now.table.now node.now.sites.now node.now.told n → Ample node.now.table.now rows.old chain.old → node.now.told.number < 16 → Written node.now.told.number (node_clocks (letters_in node.now.named.spelling) n) equations.old chains.old faults.old equations.new chains.new faults.new result }
+    ensures { (n : ClockedNode) → Lists node.now n → Ample node.now.table.now rows.old chain.old → node.now.told.number < 16 → Written node.now.told.number (node_clocks (letters_in node.now.named.spelling) n) equations.old chains.old faults.old equations.new chains.new faults.new result }
 {
     write_equations(node, equations);
     write_found(node, rows, chain, chains, faults)
@@ -261,8 +260,8 @@ fn write_listing(
     sites: &mut [u32],
 )
     ensures same_reference { text.new.out.ghost_name ≡ text.old.out.ghost_name }
-    ensures wrote { (n : ClockedNode) → NodeWithClocks named.entry.source.tags.now named.entry.source.values.now table.old sites.old told n → Ample table.old rows.old chain.old → Wrote (node_listing (letters_in named.entry.spelling) told.number n) text.old text.new }
-    ensures fits { (n : ClockedNode) → NodeWithClocks named.entry.source.tags.now named.entry.source.values.now table.old sites.old told n → Ample table.old rows.old chain.old → Short named.entry → length (node_listing (letters_in named.entry.spelling) told.number n) ≤ farthest }
+    ensures wrote { (n : ClockedNode) → NodeWithClocks named.entry.source table.old sites.old told n → Ample table.old rows.old chain.old → Wrote (node_listing (letters_in named.entry.spelling) told.number n) text.old text.new }
+    ensures fits { (n : ClockedNode) → NodeWithClocks named.entry.source table.old sites.old told n → Ample table.old rows.old chain.old → Short named.entry → length (node_listing (letters_in named.entry.spelling) told.number n) ≤ farthest }
 {
     let node = ListedNode {
         named,
@@ -285,7 +284,7 @@ fn write_listings(
     requires { text.old.at ≡ 0 }
     ensures same_reference { text.new.out.ghost_name ≡ text.old.out.ghost_name }
     ensures same_room { SameRoom working.old working.new }
-    ensures listings_stand { (ns : List Node) (q : ℕ) → times nodes.count (node named.entry.source.names) (tokens_of named.entry.source) nodes.at ≡ got ns q → RoomToList named.entry.source.names (length named.entry.source.tags.now) working.old → Short named.entry → TextStands (listings_text (letters_in named.entry.spelling) ns) text.old.out.now text.new.out.now result }
+    ensures listings_stand { (ns : List Node) (q : ℕ) → times nodes.count (node named.entry.source.names) (tokens_of named.entry.source) nodes.at ≡ got ns q → RoomToList named.entry.source working.old → Short named.entry → TextStands (listings_text (letters_in named.entry.spelling) ns) text.old.out.now text.new.out.now result }
 {
     for (i, layout) in layout::nodes(&named.source, nodes).enumerate() {
         let told = clock_laid(&named.source, layout, i, working)?;
@@ -310,7 +309,7 @@ pub fn put_listings(
     working: &mut Working<'_>,
 ) -> Result<usize, Refusal>
     ensures same_room { SameRoom working.old working.new }
-    ensures listings_stand { (ns : List Node) (q : ℕ) → times nodes.count (node named.entry.source.names) (tokens_of named.entry.source) nodes.at ≡ got ns q → RoomToList named.entry.source.names (length named.entry.source.tags.now) working.old → Short named.entry → TextStands (listings_text (letters_in named.entry.spelling) ns) out.old out.new result }
+    ensures listings_stand { (ns : List Node) (q : ℕ) → times nodes.count (node named.entry.source.names) (tokens_of named.entry.source) nodes.at ≡ got ns q → RoomToList named.entry.source working.old → Short named.entry → TextStands (listings_text (letters_in named.entry.spelling) ns) out.old out.new result }
 {
     let mut text = TextWriter { out, at: 0 };
     write_listings(&mut text, named, nodes, working)

@@ -1,32 +1,24 @@
 -- Demand 3 of what was written. Assumes nothing.
-use Prim.Native.Nat.{ℕ, suc, ◌≤◌, ◌<◌}
-use mathlib.Core.Path.{◌≡◌, refl, sym, ap, ◌∙◌, subst⁻¹}
-use mathlib.Core.List.Memᴰ
-use mathlib.Core.List.{List, [], ◌∷◌}
-use mathlib.Core.Logic.{⊎_elim}
-use native.Mathlib.Omega.{arith}
+use Prim.Native.Nat.{ℕ, ◌≤◌}
+use mathlib.Core.Path.{◌≡◌, refl, sym, ◌∙◌, subst⁻¹}
+use mathlib.Core.List.{List}
 use lib.Dec.{leb}
-use lib.ListN.{length, take, get_or}
+use lib.ListN.{length, take}
 use borrow.Author.Tests.{leb-true}
 use Rattle.std.proofs.Common.{Result, Ok, Err}
 use Rattle.definitions.specs.declared.Refusal.{Refusal}
 use Rattle.definitions.specs.declared.FaultRecord.{FaultRecord}
-use Rattle.definitions.specs.Lists.{over}
 use Rattle.definitions.specs.Refusals.{Answer, accepted, refused, faulty, down, told, must}
 use Rattle.definitions.specs.Output.{names_out, sheet_out, within_limits, written}
 use Rattle.definitions.specs.Answer.{input, clockings, first_faults, unless_faulty, rewrite_answer}
 use Rattle.shapes.specs.Shape.{Bytes}
 use Rattle.shapes.proofs.Accepts.{Accepts, accepts, no-refused, no-faulty, accepts-after, accepts-must, is-accepted}
+use Rattle.shapes.proofs.Facts.{over-there}
 use Rattle.runs.specs.Demand.{DemandThreeAt}
 use Rattle.runs.proofs.Sheet.{demand-three-at}
 use Rattle.stateless.proofs.Answers.{rewrite-refused}
 use Rattle.declock_project.specs.Given.{RewriteGiven}
 use Rattle.declock_project.proofs.Outcomes.{given-refused}
-
--- ---- what a slice of bytes has is below 256
-pub bytes_below : (l : List ℕ) → ((i : ℕ) → get_or l i 0 < 256) → Bytes l
-bytes_below [] h a m = absurd (Memᴰ.not-nil m)
-bytes_below (b ∷ l) h a m = ⊎_elim (λ e. let z : b < 256 = h 0 in omega arith) (λ t. bytes_below l (λ i. h (suc i)) a t) (Memᴰ.cases_cons m)
 
 -- ---- an accepted output has room
 any-accepted : {A : Type 0} (a : Answer A) → Accepts (λ _. Unit {0}) a
@@ -44,24 +36,18 @@ room bytes lent =
     accepts-after _ (accepts-must (leb (length (written (names_out r.names r.sheet ns) (sheet_out r.names r.sheet ns))) lent) _) (λ _ l.
     accepts (leb-true (length (written (names_out r.names r.sheet ns) (sheet_out r.names r.sheet ns))) lent l))))))
 
--- the front of what was written over is what was written
-front-written : (out lent : List ℕ) → length out ≤ length lent → take (length out) (over out lent) ≡ out
-front-written [] lent h = refl
-front-written (b ∷ out) [] h = absurd (omega arith)
-front-written (b ∷ out) (x ∷ lent) h = ap (λ (l : List ℕ). b ∷ l) (front-written out lent (omega arith))
-
 -- THE LAW: where so many bytes were written, they keep every plain node's runs
 pub written-demand : (bytes lent : List ℕ) (list : List FaultRecord) (lent' : List ℕ) (list' : List FaultRecord) (a : Result ℕ Refusal) → Bytes bytes → RewriteGiven (rewrite_answer bytes (length lent)) lent list lent' list' a
     → (n : ℕ) → a ≡ Ok n → DemandThreeAt bytes (take n lent')
 written-demand bytes lent list lent' list' a b g n e = go (rewrite_answer bytes (length lent)) refl g
   where
     go : (v : Answer (List ℕ)) → rewrite_answer bytes (length lent) ≡ v → RewriteGiven v lent list lent' list' a → DemandThreeAt bytes (take n lent')
-    go (refused r) h x = let y = sym e ∙ x.answer in let z : ◌≡◌ {A = ℕ} 0 1 = cc in absurd (omega arith)
-    go (faulty l) h x = let y = sym e ∙ x.answer in let z : ◌≡◌ {A = ℕ} 0 1 = cc in absurd (omega arith)
+    go (refused r) h x = let y = sym e ∙ x.answer in absurd cc
+    go (faulty l) h x = let y = sym e ∙ x.answer in absurd cc
     go (accepted out) h x =
         let y = sym e ∙ x.answer in
         let m : n ≡ length out = cc in
-        let f : take n lent' ≡ out = rw (x.bytes, m) (front-written out lent (is-accepted (rewrite_answer bytes (length lent)) out h (room bytes (length lent)))) in
+        let f : take n lent' ≡ out = rw (x.bytes, m) (over-there out lent (is-accepted (rewrite_answer bytes (length lent)) out h (room bytes (length lent)))) in
         subst⁻¹ (DemandThreeAt bytes) f (demand-three-at bytes (length lent) out b h)
 
 -- refusals 1 to 7

@@ -3,12 +3,13 @@ use Prim.Native.Nat.{ℕ, ◌*◌, ◌≤◌}
 use mathlib.Core.Path.{◌≡◌}
 use native.Mathlib.Omega.{arith}
 use lib.ListN.{length}
+use Rattle.grammar.specs.declared.source.Source.{Source}
 use Rattle.workspace.specs.declared.Working.{Working}
 use Rattle.workspace.specs.Room.{Rooms}
 use Rattle.questions.specs.Asked.{Enough}
 
 -- tables for so many names and tokens
-pub enough : (K N : ℕ) {M many : ℕ} → K ≤ 1024 → N ≤ 4096 → K ≤ 17 * N → M ≤ K → many ≤ N → Enough M many (17 * K) (38 * N) (17 * N) N
+pub enough : (K N : ℕ) {s : Source} → K ≤ 1024 → N ≤ 4096 → K ≤ 17 * N → s.names ≤ K → length s.tags.now ≤ N → Enough s (17 * K) (38 * N) (17 * N) N
 enough K N a b c m n =
     record {
       few = omega (arith, a, m);
@@ -22,8 +23,8 @@ enough K N a b c m n =
       planned = n;
     }
 
-pub rooms-of : {M many clocks findings chains tokens : ℕ} (w : Working) → length w.env.now ≡ clocks → length w.table.now ≡ findings → length w.rows.now ≡ chains → length w.chain.now ≡ tokens → length w.sites.now ≡ chains
-    → Enough M many clocks findings chains tokens → Rooms M many w
+pub rooms-of : {s : Source} {clocks findings chains tokens : ℕ} (w : Working) → length w.env.now ≡ clocks → length w.table.now ≡ findings → length w.rows.now ≡ chains → length w.chain.now ≡ tokens → length w.sites.now ≡ chains
+    → Enough s clocks findings chains tokens → Rooms s w
 rooms-of w a b c d e r =
     record {
       listed = record {

@@ -2,12 +2,7 @@
 use Rattle.std.specs.Prelude.{ℕ, ◌*◌, ◌≤◌, ◌≡◌, List, length, Result, Err}
 use Rattle.std.specs.Borrow.{Bor, MutBor}
 use Rattle.definitions.specs.declared.Refusal.{Refusal}
-use Rattle.definitions.specs.Bytes.{M, lengths, letters, cut}
-use Rattle.definitions.specs.Reading.{got}
-use Rattle.definitions.specs.Grammar.{sheet}
-use Rattle.definitions.specs.Refusals.{accepted, down, told}
-use Rattle.shapes.specs.Shape.{Bytes}
-use Rattle.grammar.specs.Read.{tokens_of}
+use Rattle.definitions.specs.Refusals.{down, told}
 use Rattle.definitions.specs.Answer.{Input, input}
 use Rattle.grammar.specs.declared.source.Source.{Source}
 use Rattle.spelling.specs.declared.sheet_names.SheetNames.{SheetNames}
@@ -22,7 +17,7 @@ pub record CalledOn {F R : Type 0} (step : F → SheetNames → Bor Source → M
   pub before : MutBor Working
   pub after : MutBor Working
   pub read : Read names.lengths.now names.spelling source.now bytes i
-  pub room : Rooms source.now.names (length source.now.tags.now) before.now
+  pub room : Rooms source.now before.now
   pub called : step old names source before r after new
 
 -- the same of bytes that say a sheet
@@ -37,24 +32,15 @@ pub record NotCalled {F T : Type 0} (old new : F) (bytes : List ℕ) (r : Result
   pub answer : r ≡ Err refusal
   pub kept : new ≡ old
 
--- working tables of so many words, for names' clocks, for findings, for rows and sites and for tokens' order, are enough for a sheet of M
--- names and so many tokens
-pub record Enough (M many clocks findings chains tokens : ℕ) : Type 0 where
-  pub few : M ≤ 1024
-  pub named : 17 * M ≤ clocks
-  pub found : 38 * many ≤ findings
-  pub sited : 17 * many ≤ chains
+-- working tables of so many words, for names' clocks, for findings, for rows and sites and for tokens' order, are enough for a sheet of
+-- these tokens
+pub record Enough (s : Source) (clocks findings chains tokens : ℕ) : Type 0 where
+  pub few : s.names ≤ 1024
+  pub named : 17 * s.names ≤ clocks
+  pub found : 38 * length s.tags.now ≤ findings
+  pub sited : 17 * length s.tags.now ≤ chains
   pub few-found : findings ≤ 155648
   pub chained : 17 * findings ≤ 38 * chains
   pub ordered : findings ≤ 38 * tokens
-  pub typed : M ≤ chains
-  pub planned : many ≤ tokens
-
--- these are the tokens of the sheet i, which these bytes say
-pub record TokensRead (bytes : List ℕ) (source : Source) (i : Input) : Type 0 where
-  pub are-bytes : Bytes bytes
-  pub reading : input bytes ≡ accepted i
-  pub names : i.names ≡ cut (lengths bytes) (letters bytes)
-  pub count : source.names ≡ M bytes
-  pub few : length source.tags.now ≤ 4096
-  pub tree : sheet source.names (tokens_of source) 0 ≡ got i.sheet (length source.tags.now)
+  pub typed : s.names ≤ chains
+  pub planned : length s.tags.now ≤ tokens

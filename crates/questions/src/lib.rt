@@ -3,30 +3,29 @@
 // copied. Each question has an entry point. What is answered and written is said for all inputs.
 #![tactic(auto)]
 
-ghost use Rattle.std.specs.Prelude.{◌≡◌, ◌⊎◌, List, false, ℕ, ◌≤◌, ◌<◌, length, take, Ok, IfOk, IfErr};
+ghost use Rattle.std.specs.Prelude.{◌≡◌, ◌⊎◌, List, false, ℕ, ◌≤◌, length, take, Ok};
 ghost use Rattle.definitions.specs.declared.FaultRecord.{FaultRecord};
 ghost use Rattle.definitions.specs.Lists.{any};
-ghost use Rattle.definitions.specs.Bytes.{lengths, letters, cut};
 ghost use Rattle.definitions.specs.InferClocks.{uses_clocks};
-ghost use Rattle.definitions.specs.Output.{letters_of};
-ghost use Rattle.definitions.specs.Refusals.{accepted, told, down};
+ghost use Rattle.definitions.specs.Refusals.{accepted};
 ghost use Rattle.definitions.specs.Answer.{Input, input, rewrite_answer, clocks_answer, listing_answer, listings_answer, text_answer, fault_lines_answer};
-ghost use Rattle.spelling.specs.Places.{letters_at};
 ghost use Rattle.shapes.specs.Shape.{Bytes};
 ghost use Rattle.runs.specs.Demand.{DemandThreeAt};
 ghost use Rattle.listings.specs.Answers.{clocks_of, ClocksGiven, ListingGiven};
 ghost use Rattle.query.specs.Standing.{Standing};
 ghost use Rattle.workspace.specs.Room.{RoomToList, RoomToPlan};
 ghost use Rattle.declock_project.specs.Given.{RewriteGiven, Read};
-ghost use Rattle.questions.specs.Asked.{CalledOn, Called, NotCalled, Enough, TokensRead};
+ghost use Rattle.questions.specs.Asked.{CalledOn, Called, NotCalled, Enough};
+ghost use Rattle.sheet.specs.Answers.{TokensRead};
 
 use definitions::{
-    CHAIN_TABLE, CLOCK_TABLE, FINDING_TABLE, FaultRecord, MOST_NAMES, MOST_TOKENS, Refusal,
-    SMALL_CLOCK_TABLE, SMALL_FINDING_TABLE, SMALL_TOKENS,
+    CHAIN_TABLE, CLOCK_TABLE, FINDING_TABLE, FaultRecord, MOST_TOKENS, Refusal, SMALL_CLOCK_TABLE,
+    SMALL_FINDING_TABLE, SMALL_TOKENS,
 };
 use grammar::Source;
-use parts::{AcceptedSheet, TokenArrays};
+use parts::TokenArrays;
 use query::NodeCounts;
+use sheet::ReadSheet;
 use spelling::{NamedSource, SheetNames, Spelling};
 use workspace::Working;
 
@@ -45,7 +44,7 @@ fn answer_with<
 >(names: SheetNames<'_>, source: &Source<'_>, answer: &mut F) -> Result<T, Refusal>
     requires callable { (n : _) (s : _) (w : _) → F.pre answer.old n s w }
     requires sizes_bound { (CLOCKS ≤ 155648) × (FINDINGS ≤ 155648) × (CHAINS ≤ 155648) × (TOKENS ≤ 155648) }
-    ensures { (bytes : List ℕ) (i : Input) → Read names.entry.lengths.now names.entry.spelling source.now bytes i → Enough source.now.names (length source.now.tags.now) CLOCKS FINDINGS CHAINS TOKENS → CalledOn (λ f n s w r v g. F.step f n s w r v g) answer.old answer.new bytes i result }
+    ensures { (bytes : List ℕ) (i : Input) → Read names.entry.lengths.now names.entry.spelling source.now bytes i → Enough source.now CLOCKS FINDINGS CHAINS TOKENS → CalledOn (λ f n s w r v g. F.step f n s w r v g) answer.old answer.new bytes i result }
 {
     let mut env = [0u32; CLOCKS];
     let mut table = [0u32; FINDINGS];
@@ -83,48 +82,21 @@ fn answer_standing<
     answer_with::<CLOCK_TABLE, FINDING_TABLE, CHAIN_TABLE, MOST_TOKENS, T, F>(names, source, answer)
 }
 
-// Where the letters of an accepted sheet's names start.
-fn starts_of(sheet: AcceptedSheet<'_>) -> [u32; MOST_NAMES + 1]
-    ensures { letters_at result (letters sheet.entry.bytes.now) ≡ letters_of (cut (lengths sheet.entry.bytes.now) (letters sheet.entry.bytes.now)) }
-{
-    let mut starts = [0u32; MOST_NAMES + 1];
-    spelling::fill_starts(sheet.lengths(), &mut starts);
-    starts
-}
-
-// A sheet that is read, and its tokens.
-#[derive(Clone, Copy)]
-struct ReadSheet<'a> {
-    sheet: AcceptedSheet<'a>,
-    source: Source<'a>,
-}
-
-// Reads a sheet's bytes: its tokens stand at the front of the working arrays; or refusals 1 to 7.
-fn read_sheet<'a>(bytes: &'a [u8], tokens: &'a mut TokenArrays) -> Result<ReadSheet<'a>, Refusal>
-    ensures refused { IfErr result (λ r. told (input bytes.now) ≡ down r) }
-    ensures read { IfOk result (λ read. (read.sheet.bytes.now ≡ bytes.now) × (i : Input) × TokensRead bytes.now read.source i) }
-{
-    let sizes = sheet::read(bytes, tokens)?;
-    let source = sheet::source_of(tokens, sizes);
-    let sheet = AcceptedSheet { bytes, sizes };
-    Ok(ReadSheet { sheet, source })
-}
-
 // A question's answer, of a sheet that is read.
 fn answer_read<T, F: FnMut(SheetNames<'_>, &Source<'_>, &mut Working<'_>) -> Result<T, Refusal>>(
     read: ReadSheet<'_>,
     answer: &mut F,
 ) -> Result<T, Refusal>
     requires { (n : _) (s : _) (w : _) → F.pre answer.old n s w }
-    ensures { (i : Input) → TokensRead read.entry.sheet.bytes.now read.entry.source i → CalledOn (λ f n s w r v g. F.step f n s w r v g) answer.old answer.new read.entry.sheet.bytes.now i result }
+    ensures { (i : Input) → TokensRead read.entry.sheet.parts.bytes.now read.entry.source i → CalledOn (λ f n s w r v g. F.step f n s w r v g) answer.old answer.new read.entry.sheet.parts.bytes.now i result }
 {
     let ReadSheet { sheet, source } = read;
-    let starts = starts_of(sheet);
+    let starts = spelling::starts_of(sheet);
     let names = SheetNames {
-        lengths: sheet.lengths(),
+        lengths: sheet.parts.lengths(),
         spelling: Spelling {
             starts: &starts,
-            letters: sheet.letters(),
+            letters: sheet.parts.letters(),
         },
     };
     answer_standing(names, &source, answer)
@@ -138,11 +110,8 @@ fn ask<T, F: FnMut(SheetNames<'_>, &Source<'_>, &mut Working<'_>) -> Result<T, R
     requires { (n : _) (s : _) (w : _) → F.pre answer.old n s w }
     ensures { NotCalled answer.old answer.new sheet.now result ⊎ Called (λ f n s w r v g. F.step f n s w r v g) answer.old answer.new sheet.now result }
 {
-    let mut tokens = TokenArrays {
-        tags: [0; MOST_TOKENS],
-        values: [0; MOST_TOKENS],
-    };
-    let read = read_sheet(sheet, &mut tokens)?;
+    let mut tokens = TokenArrays::none();
+    let read = sheet::read_sheet(sheet, &mut tokens)?;
     answer_read(read, answer)
 }
 
@@ -170,18 +139,15 @@ pub fn rewrite(sheet: &[u8], out: &mut [u8], faults: &mut [FaultRecord]) -> Resu
     ensures rewrite_given { RewriteGiven (rewrite_answer sheet.now (length out.old)) out.old faults.old out.new faults.new result }
     ensures demand_three { (n : ℕ) → result ≡ Ok n → DemandThreeAt sheet.now (take n out.new) }
 {
-    let mut tokens = TokenArrays {
-        tags: [0; MOST_TOKENS],
-        values: [0; MOST_TOKENS],
-    };
-    let read = read_sheet(sheet, &mut tokens)?;
+    let mut tokens = TokenArrays::none();
+    let read = sheet::read_sheet(sheet, &mut tokens)?;
     if !sheet::uses_clocks(&read.source) {
         return as_it_came(sheet, out);
     }
     answer_read(
         read,
         &mut |names: SheetNames<'_>, source: &Source<'_>, working: &mut Working<'_>|
-            ensures { (bytes : List ℕ) (i : Input) → Read names.entry.lengths.now names.entry.spelling source.now bytes i → RoomToPlan source.now.names (length source.now.tags.now) working.old → RewriteGiven (rewrite_answer bytes (length out.entry.now)) out.entry.now faults.entry.now out.exit.now faults.exit.now result }
+            ensures { (bytes : List ℕ) (i : Input) → Read names.entry.lengths.now names.entry.spelling source.now bytes i → RoomToPlan source.now working.old → RewriteGiven (rewrite_answer bytes (length out.entry.now)) out.entry.now faults.entry.now out.exit.now faults.exit.now result }
         { declock_project::rewrite_in(names, source, working, out, faults) },
     )
 }
@@ -200,7 +166,7 @@ pub fn clocks(
     ask(
         sheet,
         &mut |names: SheetNames<'_>, source: &Source<'_>, working: &mut Working<'_>|
-            ensures { (i : Input) → Standing names.entry.spelling source.now i → RoomToList source.now.names (length source.now.tags.now) working.old → ClocksGiven node (clocks_of i node) equations.entry.now chains.entry.now faults.entry.now equations.exit.now chains.exit.now faults.exit.now result }
+            ensures { (i : Input) → Standing names.entry.spelling source.now i → RoomToList source.now working.old → ClocksGiven node (clocks_of i node) equations.entry.now chains.entry.now faults.entry.now equations.exit.now chains.exit.now faults.exit.now result }
         {
             listings::clocks_in(
                 named(names, source),

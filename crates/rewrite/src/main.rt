@@ -62,6 +62,7 @@ fn refuse(errors: &mut impl Write, sheet: &[u8], r: Refusal) -> io::Result<()> {
 }
 
 // Rewrites into the bytes lent.
+// Stays (no plainer): two streams, here and below: a struct of both would name both types still, and each use takes one of them.
 fn rewrite(
     output: &mut impl Write,
     errors: &mut impl Write,
@@ -103,6 +104,7 @@ fn answer(
     rewrite_lent::<ENOUGH>(output, errors, sheet, lent)
 }
 
+// Stays (no plainer): `clocks` has the same but for names and a default: one for both would take the runtime, two texts and what answers.
 fn main(rt: HostRuntime) -> io::Result<()> {
     let mut output = rt.stdout();
     let mut errors = rt.stderr();

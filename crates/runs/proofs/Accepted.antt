@@ -13,11 +13,11 @@ use Rattle.definitions.specs.Tree.{Expr, Exprs, Equation, Node, Sheet}
 use Rattle.definitions.specs.Clock.{Clock, base}
 use Rattle.definitions.specs.InferClocks.{Formed, deep, formed, NodeFault, Clocking, clocking, clock_faults, uses_clocks}
 use Rattle.definitions.specs.Declock.{State, Rewritten, stopped, done, is_operator_kind, new_locals, with_new}
-use Rattle.definitions.specs.Refusals.{Answer, accepted, refused, faulty, ◌>>=◌}
+use Rattle.definitions.specs.Refusals.{Answer, accepted, refused, ◌>>=◌}
 use Rattle.definitions.specs.Output.{letters_of, new_id, ClockedNode, rewritten, stopped_at, node_faults, output_node}
-use Rattle.definitions.specs.Answer.{Input, clockings, first_of, unless_faulty}
+use Rattle.definitions.specs.Answer.{Input, clockings, first_of}
 use Rattle.shapes.specs.Shape.{Shaped, Shapeds}
-use Rattle.shapes.proofs.Accepts.{Accepts, no-refused, no-faulty, accepts, accepts-after}
+use Rattle.shapes.proofs.Accepts.{Accepts, no-refused, accepts, accepts-after}
 use Rattle.runs.specs.Callees.{is_operator}
 use Rattle.runs.specs.Run.{seen, on, Kept}
 use Rattle.runs.specs.Plain.{Part, reads, callee, computes}
@@ -68,17 +68,6 @@ formings i (n ∷ ns) = go (clocking n) refl (formings (suc i) ns)
         → Accepts (Formings (n ∷ ns)) (elim u as (λ x. Answer (List ClockedNode)) [ deep ↦ refused (Refusal.Deep i) | formed k ↦ (clockings (suc i) ns >>= λ rest. accepted (record { node = n; clocking = k } ∷ rest)) ])
     go deep e h = no-refused
     go (formed k) e h = accepts-after _ h (λ cs q. accepts (both k e cs q))
-
--- what is accepted, and that it is
-pub accepts-itself : {A : Type 0} (a : Answer A) → Accepts (λ x. a ≡ accepted x) a
-accepts-itself (accepted a) = accepts refl
-accepts-itself (refused r) = no-refused
-accepts-itself (faulty l) = no-faulty
-
--- no node has a fault
-pub no-fault : (l : List FaultRecord) → Accepts (λ x. l ≡ []) (unless_faulty l)
-no-fault [] = accepts refl
-no-fault (f ∷ l) = no-faulty
 
 module _ (r : Input) where
   abbrev pub faults-of : ClockedNode → List NodeFault

@@ -6,11 +6,11 @@ use mathlib.Core.List.{Memᴰ}
 use mathlib.Core.Option.{some, some-injective}
 use Prim.Native.Nat.{ℕ}
 use lib.Dec.{eqb}
+use Rattle.std.proofs.lemmas.Bool.{eqb-true}
 use Rattle.definitions.specs.Lists.{choose}
 use Rattle.definitions.specs.Tree.{Expr, Exprs, Equation, Node}
 use Rattle.definitions.specs.Clock.{Clock, base, ◌↓◌, parent, is_on, is_not}
 use Rattle.definitions.specs.InferClocks.{Clocks, clock_of, formed, natural, naturals, ◌or◌, parent_of, ports, is_port, Clocked, Clocking}
-use Rattle.runs.proofs.Facts.{eqb-eq}
 use Rattle.runs.proofs.Checked.{Fits, OkName, Ok, Oks}
 use Rattle.runs.proofs.Inferred.{Clockings, AllN, none-n, some-n, or-n, over-n, parent-n, base-n, equation-n, put, inferred-kept, start-only}
 
@@ -97,7 +97,7 @@ module _ (Callable : ℕ → Type 0) (n : Node) (k : Clocking) (d : Clockings n 
         fit = left g.0 g.1 x (subst⁻¹ (λ (z : Equation). Memᴰ x z.left) g.2 j)
 
         go : (u : Bool) → eqb x y ≡ u → choose u (some c) (clock_of cl y) ≡ some i → Common φ i f
-        go true r z = subst (λ (w : Clock). Common φ w f) (some-injective c i z) (subst⁻¹ (λ (w : Clock). Common φ c w) (fit f (subst⁻¹ (λ (w : ℕ). clock_of φ w ≡ some f) (eqb-eq x y r) h)) g.3)
+        go true r z = subst (λ (w : Clock). Common φ w f) (some-injective c i z) (subst⁻¹ (λ (w : Clock). Common φ c w) (fit f (subst⁻¹ (λ (w : ℕ). clock_of φ w ≡ some f) (eqb-true x y r) h)) g.3)
         go false r z = s y i f z h
 
     -- the clock that a right side gives

@@ -12,15 +12,17 @@ use Rattle.definitions.specs.Tree.{TypeDef, Expr, Exprs, Equation, Node}
 use Rattle.definitions.specs.Clock.{Clock, base, ◌↓◌, is_base}
 use Rattle.definitions.specs.InferClocks.{Clocks, clock_of, formed, natural, Clocked, or_base}
 use Rattle.definitions.specs.Declock.{State, Hold, done, clock_place, Stem, ck, first, hold, rewrite, rewrites, right_side, old_equations, if_of}
+use Rattle.shapes.proofs.Added.{has}
 use Rattle.runs.specs.Callees.{is_declared, is_operator, Callees}
 use Rattle.runs.specs.Run.{Meaning, last, Env, Unset, in₀, in₁, on, called_at, value, values, Takes, Holds}
 use Rattle.runs.proofs.Ticks.{last-true, kept}
 use Rattle.runs.proofs.Facts.{Goes}
 use Rattle.runs.proofs.Parts.{Each, Eachs}
-use Rattle.runs.proofs.Yields.{Yields, yields, yields-after, yields-map, yields-all, yielded, done-after}
-use Rattle.runs.proofs.Growth.{has, Leads, leads-trans, leads-flag, with_flag, flag_name, call_on-yields, single-yields, OfClock, Reads, Step, old_equations-steps}
+use Rattle.shapes.proofs.Yields.{Yields, yields, yields-after, yields-map, yields-all, yielded, done-after}
+use Rattle.runs.proofs.Growth.{Leads, leads-trans, leads-flag, with_flag, flag_name, call_on-yields, single-yields, OfClock, Reads, Step, old_equations-steps}
 use Rattle.runs.proofs.Checked.{OkName, Ok, OldParts, Fits}
-use Rattle.runs.proofs.Inferred.{OnNaturals, formed-eq}
+use Rattle.shapes.proofs.Formed.{formed-eq}
+use Rattle.runs.proofs.Inferred.{OnNaturals}
 use Rattle.runs.proofs.Expressions.{one, Callable, Flags, Firsts, under-flag, Same, flag_true, call_gated, main, mains}
 use Rattle.runs.proofs.Settling.{Settled, SettledExpr, SettledExprs, settled-natural}
 use Rattle.runs.proofs.Holding.{on_base, OneHolds, EachHolds, each_from, takes_at, takes_moved}

@@ -13,12 +13,13 @@ use Rattle.definitions.specs.Tree.{Ty, TypeDef, Expr, Exprs, Equation, Node}
 use Rattle.definitions.specs.Clock.{Clock, base, ◌↓◌, parent, is_on, is_not, is_base}
 use Rattle.definitions.specs.InferClocks.{Clocks}
 use Rattle.definitions.specs.Declock.{State, Hold, clock_place, Rewritten, Stem, ck, first, hold, rewrite, rewrites, pre_on, Shape, bare, other, calls, shape_of, if_of}
+use Rattle.shapes.proofs.Added.{has, has-goes, has-add, has-parents, place-goes}
 use Rattle.runs.specs.Callees.{is_operator, Callees}
 use Rattle.runs.specs.Run.{Meaning, last, so_far, since, Env, Unset, in₀, in₁, meets, on, called_at, gated_at, value, values, Holds}
 use Rattle.runs.proofs.Ticks.{none?, so_far-cong, last-true, least, least-is, kept}
 use Rattle.runs.proofs.Facts.{eqb-self, Goes}
-use Rattle.runs.proofs.Yields.{Yields, yields, yields-after, yields-map}
-use Rattle.runs.proofs.Growth.{has, has-goes, has-add, has-parents, place-goes, Leads, leads-trans, leads-flag, leads-first, leads-hold, leads-condact, with_flag, with_first, with_hold, with_condact, flag_name, first_name, hold_name, hold_of, gate, call_on-yields, pre_on-yields, arrow_on-yields}
+use Rattle.shapes.proofs.Yields.{Yields, yields, yields-after, yields-map}
+use Rattle.runs.proofs.Growth.{Leads, leads-trans, leads-flag, leads-first, leads-hold, leads-condact, with_flag, with_first, with_hold, with_condact, flag_name, first_name, hold_name, hold_of, gate, call_on-yields, pre_on-yields, arrow_on-yields}
 use Rattle.runs.proofs.Checked.{OkName, Ok, Oks}
 
 -- unset values joined: one for the place itself, those of the first part, those of the rest

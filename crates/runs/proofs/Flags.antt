@@ -13,14 +13,15 @@ use Rattle.definitions.specs.Lists.{choose, numbered, Letters}
 use Rattle.definitions.specs.Tree.{Expr, Equation}
 use Rattle.definitions.specs.Clock.{Clock, base, ◌↓◌, in_chain_order}
 use Rattle.definitions.specs.Declock.{State, Hold, New, Stem, ck, first, hold, clock_place, not_of, condition_expr, activation, first_tick, new_locals}
+use Rattle.shapes.proofs.Added.{has, member-has}
 use Rattle.runs.specs.Callees.{Callees}
 use Rattle.runs.specs.Run.{Meaning, last, Env, Unset, meets, on, value, values, Holds}
 use Rattle.runs.proofs.Ticks.{none?, and-false, and-true}
 use Rattle.runs.proofs.Facts.{Goes, All}
-use Rattle.runs.proofs.Growth.{has, OfClock, Sound}
+use Rattle.runs.proofs.Growth.{OfClock, Sound}
 use Rattle.runs.proofs.Expressions.{one, Flags, Firsts}
 use Rattle.runs.proofs.Holding.{on_base, EachHolds, each_at}
-use Rattle.runs.proofs.Order.{order-in, has-member, member-has}
+use Rattle.runs.proofs.Order.{order-in, has-member}
 
 -- the equation of a new local
 abbrev pub new_equation : (Stem → ℕ → ℕ) → New → Equation

@@ -1,82 +1,27 @@
 -- What a step of rewriting may do to its state: the lists of flags, first-tick flags and holds only go on,
 -- and the clocks with flags stay closed under parents and made of the node's own names.
 use mathlib.Core.Path.{◌≡◌, refl, sym, ap, ◌∙◌, subst⁻¹}
-use mathlib.Core.Bool.{Bool, true, false, ◌||◌, true≢false, false≢true}
+use mathlib.Core.Bool.{Bool, true, false, false≢true}
 use mathlib.Core.List.{List, [], ◌∷◌, ◌++◌, Memᴰ}
 use mathlib.Core.Option.{Option, none, some}
 use mathlib.Core.Logic.{◌⊎◌, inl, inr}
 use Prim.Native.Nat.{ℕ, suc}
 use lib.Dec.{eqb}
 use lib.ListN.{length}
+use Rattle.std.proofs.lemmas.Bool.{eqb-true}
 use Rattle.definitions.specs.declared.Condition.{Condition}
-use Rattle.definitions.specs.Lists.{choose, any, find}
+use Rattle.definitions.specs.Lists.{choose, find}
 use Rattle.definitions.specs.Tree.{Ty, Declared, TypeDef, Expr, Exprs, Node}
-use Rattle.definitions.specs.Clock.{Clock, base, ◌↓◌, parent, is_on, is_not, same_clock, is_base}
+use Rattle.definitions.specs.Clock.{Clock, base, ◌↓◌, parent, is_on, is_not, is_base}
 use Rattle.definitions.specs.Types.{default}
 use Rattle.definitions.specs.InferClocks.{Fault, pre_untyped, Clocked}
 use Rattle.definitions.specs.Declock.{State, nothing_needed, Hold, Rewritten, done, Rewriter, after, need, clock_place, add, add_with_parents, Stem, ck, first, hold, flag, new_hold, gated, output_defaults, left_default, left_defaults, call_on, pre_on, arrow_on, rewrite, rewrites, gate_several, under_flag, right_side, old_equations, operand_type, last_type, declared, operator_outputs, is_operator_kind, held_pre, Shape, bare, other, calls, shape_of, stop, if_of}
-use Rattle.runs.proofs.Facts.{eqb-eq, clock-eq, clock-self, Goes, goes_self, goes-trans, any-app, or-true}
+use Rattle.shapes.proofs.Added.{has, goes_add, goes-parents, has-goes, has-parents, add-cases}
+use Rattle.runs.proofs.Facts.{Goes, goes_self, goes-trans}
 use Rattle.runs.specs.Callees.{is_operator}
 use Rattle.runs.specs.Plain.{Part, reads, callee, computes}
 use Rattle.runs.proofs.Parts.{Each, Eachs}
-use Rattle.runs.proofs.Yields.{Yields, stops, yields, yields-after, yields-map}
-
--- is a clock among clocks?
-abbrev pub has : Clock → List Clock → Bool
-has c cs = any (same_clock c) cs
-
--- adding clocks
-pub goes_add : (c : Clock) (cs : List Clock) → Goes cs (add c cs)
-goes_add c cs = go (has c cs)
-  where
-    go : (u : Bool) → Goes cs (choose u cs (cs ++ (c ∷ [])))
-    go true = goes_self cs
-    go false = (c ∷ [], refl)
-
-pub goes-parents : (c : Clock) (cs : List Clock) → Goes cs (add_with_parents c cs)
-unfolding add_with_parents
-goes-parents base cs = goes_self cs
-goes-parents (c ↓ k) cs = goes-trans cs (add_with_parents c cs) (add (c ↓ k) (add_with_parents c cs)) (goes-parents c cs) (goes_add (c ↓ k) (add_with_parents c cs))
-
-pub has-goes : (c : Clock) (l m : List Clock) → Goes l m → has c l ≡ true → has c m ≡ true
-has-goes c l m g h = ap (has c) (sym g.1) ∙ (any-app (same_clock c) l g.0 ∙ ap (λ (u : Bool). u || has c g.0) h)
-
-pub has-add : (c : Clock) (cs : List Clock) → has c (add c cs) ≡ true
-has-add c cs = go (has c cs) refl
-  where
-    go : (u : Bool) → has c cs ≡ u → has c (choose u cs (cs ++ (c ∷ []))) ≡ true
-    go true e = e
-    go false e = any-app (same_clock c) cs (c ∷ []) ∙ (ap (λ (u : Bool). has c cs || u) (ap (λ (u : Bool). u || false) (clock-self c)) ∙ or-true (has c cs))
-
-pub has-parents : (c : Clock) (cs : List Clock) → is_base c ≡ false → has c (add_with_parents c cs) ≡ true
-unfolding add_with_parents
-has-parents base cs e = absurd (true≢false e)
-has-parents (c ↓ k) cs e = has-add (c ↓ k) (add_with_parents c cs)
-
--- what is there after adding was there or was added
-add-cases : (c d : Clock) (cs : List Clock) → has d (add c cs) ≡ true → (has d cs ≡ true) ⊎ (d ≡ c)
-add-cases c d cs = go (has c cs)
-  where
-    last : (u v : Bool) → has d cs ≡ u → same_clock d c ≡ v → (u || (v || false)) ≡ true → (has d cs ≡ true) ⊎ (d ≡ c)
-    last true v e f h = inl e
-    last false true e f h = inr (clock-eq d c f)
-    last false false e f h = absurd (false≢true h)
-
-    go : (u : Bool) → has d (choose u cs (cs ++ (c ∷ []))) ≡ true → (has d cs ≡ true) ⊎ (d ≡ c)
-    go true h = inl h
-    go false h = last (has d cs) (same_clock d c) refl refl (sym (any-app (same_clock d) cs (c ∷ [])) ∙ h)
-
--- a clock's place stays where clocks are added
-pub place-goes : (c : Clock) (l m : List Clock) → has c l ≡ true → Goes l m → clock_place c l ≡ clock_place c m
-place-goes c l m h g = go l h ∙ ap (clock_place c) g.1
-  where
-    at : (d : Clock) (l : List Clock) → (u : Bool) → (u || has c l) ≡ true → (has c l ≡ true → clock_place c l ≡ clock_place c (l ++ g.0)) → choose u 0 (suc (clock_place c l)) ≡ choose u 0 (suc (clock_place c (l ++ g.0)))
-    at d l true h ih = refl
-    at d l false h ih = ap suc (ih h)
-
-    go : (l : List Clock) → has c l ≡ true → clock_place c l ≡ clock_place c (l ++ g.0)
-    go [] h = absurd (false≢true h)
-    go (d ∷ l) h = at d l (same_clock c d) h (go l)
+use Rattle.shapes.proofs.Yields.{Yields, stops, yields, yields-after, yields-map}
 
 -- every name of a clock's conditions meets P
 module _ (P : ℕ → Type 0) where
@@ -299,7 +244,7 @@ module _ (types : List TypeDef) (nodes : List Node) (new : Stem → ℕ → ℕ)
       gating f u = choose u (λ s. done e s) (λ s. after (left_defaults types nodes new condact node i xs s) (λ ds s₁. gated condact a e ds s₁))
 
       called : (f : ℕ) → shape_of e ≡ calls f → (u : Bool) → eqb f condact ≡ u → Yields Q (gating f u s)
-      called f p true q = yields (h₀ (p ∙ ap calls (eqb-eq f condact q)))
+      called f p true q = yields (h₀ (p ∙ ap calls (eqb-true f condact q)))
       called f p false q = yields-after _ (lefts-same xs s) (λ ds s₁ z. yields (rw z (h₁ f p q ds)))
 
       go : (u : Shape) → shape_of e ≡ u → Yields Q ((elim u as (λ x. Rewriter Expr) [ bare ↦ stop i Fault.not_single_call | other ↦ stop i Fault.not_single_call | calls f ↦ gating f (eqb f condact) ]) s)

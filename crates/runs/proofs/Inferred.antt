@@ -8,34 +8,16 @@ use mathlib.Core.Option.{Option, none, some, some-injective, none-ne-some}
 use Prim.Native.Nat.{ℕ, zero, suc}
 use lib.Dec.{eqb, ltb}
 use lib.ListN.{length}
+use Rattle.std.proofs.lemmas.Bool.{eqb-true, or_parts}
 use Rattle.definitions.specs.declared.Condition.{Condition}
 use Rattle.definitions.specs.Lists.{choose, any, among, join, numbered}
 use Rattle.definitions.specs.Tree.{Expr, Exprs, Equation, Node}
 use Rattle.definitions.specs.Clock.{Clock, base, ◌↓◌, depth, deepest}
-use Rattle.definitions.specs.InferClocks.{Formed, deep, formed, ◌>>=◌, Clocks, clock_of, Natural, natural, naturals, ◌or◌, condition_over, parent_of, ports, is_port, has_clock, Pass, give, give_natural, pass, Inferred, passes_from, inferred, Finding, Clocked, or_base, clocked_by, Clocking, clocking, check_equation, is_too_deep}
-use Rattle.runs.proofs.Facts.{eqb-eq, eqb-self, eqb-other, or_left}
+use Rattle.definitions.specs.InferClocks.{deep, formed, Clocks, clock_of, Natural, natural, naturals, ◌or◌, condition_over, parent_of, ports, is_port, has_clock, Pass, give, give_natural, pass, Inferred, passes_from, inferred, Clocked, or_base, clocked_by, Clocking, clocking, check_equation, is_too_deep}
+use Rattle.shapes.proofs.Formed.{not-deep, formed-eq, formed-after, node-checks}
+use Rattle.shapes.proofs.Facts.{eqb-sym}
 use Rattle.runs.proofs.Parts.{Each, Eachs}
 use Rattle.runs.proofs.Growth.{OfClock, Reads}
-
--- two different results of forming
-pub not-deep : {A : Type 0} {B : Type 0} (a : A) → deep ≡ formed a → B
-not-deep {A} {B} a e = absurd (subst IsDeep e tt)
-  where
-    IsDeep : Formed A → Type 0
-    IsDeep deep = Unit {0}
-    IsDeep (formed b) = ⊥
-
-pub formed-eq : {A : Type 0} (a b : A) → formed a ≡ formed b → a ≡ b
-formed-eq {A} a b e = ap un e
-  where
-    un : Formed A → A
-    un deep = a
-    un (formed c) = c
-
--- what stands before the end of a forming that was done
-pub formed-after : {A B : Type 0} (a : Formed A) (f : A → Formed B) (b : B) → a >>= f ≡ formed b → (x : A) × (a ≡ formed x) × (f x ≡ formed b)
-formed-after deep f b e = not-deep b e
-formed-after (formed x) f b e = (x, refl, e)
 
 -- an equation is on its natural clock, or base
 abbrev pub OnNatural : Clocks → Clocked → Type 0
@@ -81,22 +63,9 @@ pub record Clockings (n : Node) (k : Clocking) : Type 0 where
   pub shallow : any is_too_deep k.findings ≡ false
 
 pub clocked : (n : Node) (k : Clocking) → clocking n ≡ formed k → Clockings n k
-unfolding clocking
 clocked n k q =
-    let a = formed-after (inferred n) _ k q in
-    let b = formed-after (clocked_by a.0.clocks n.equations) _ k a.2 in
-    end a.0 a.1 b.0 b.1 (any is_too_deep (found a.0 b.0)) refl b.2
-  where
-    found : Inferred → List Clocked → List Finding
-    found r es = join (numbered (check_equation n r.clocks) 0 es)
-
-    whole : Inferred → List Clocked → Clocking
-    whole r es = record { passes = r.passes; names = r.clocks; equations = es; findings = found r es }
-
-    end : (r : Inferred) → inferred n ≡ formed r → (es : List Clocked) → clocked_by r.clocks n.equations ≡ formed es
-        → (u : Bool) → any is_too_deep (found r es) ≡ u → choose u deep (formed (whole r es)) ≡ formed k → Clockings n k
-    end r i es f true d e = not-deep k e
-    end r i es f false d e = subst (Clockings n) (formed-eq (whole r es) k e) (record { inference = i; equations = on-naturals r.clocks n.equations es f; findings = refl; shallow = d })
+    let c = node-checks n k q in
+    record { inference = c.inference; equations = on-naturals k.names n.equations k.equations c.equations; findings = c.findings; shallow = c.shallow }
 
 -- P of a natural clock, where there is one
 abbrev pub AllN : (Clock → Type 0) → Natural → Type 0
@@ -167,7 +136,7 @@ module _ (n : Node) (I Q : Clocks → Type 0) (G : Equation → Clock → Type 0
         go : (u : Bool) → (is_port n x || has_clock p.clocks x c) ≡ u → ((p' : Pass) → Kept p'.clocks (give n c xs p').clocks) → Kept p.clocks (give n c xs (choose u p (changed_by x c p))).clocks
         go true q ih = ih p
         go false q ih = kept_trans p.clocks (put x c p.clocks) (give n c xs (changed_by x c p)).clocks
-            (λ h₁. (down x c p.clocks h₁, λ i. more e m c g x (h x (Memᴰ.head refl)) (or_left (is_port n x) (has_clock p.clocks x c) q) p.clocks i)) (ih (changed_by x c p))
+            (λ h₁. (down x c p.clocks h₁, λ i. more e m c g x (h x (Memᴰ.head refl)) (or_parts (is_port n x) (has_clock p.clocks x c) q).0 p.clocks i)) (ih (changed_by x c p))
 
     -- Q comes back through what is given, whatever the clock
     give-down : (c : Clock) (xs : List ℕ) (p : Pass) → Q (give n c xs p).clocks → Q p.clocks
@@ -213,13 +182,6 @@ module _ (n : Node) (I Q : Clocks → Type 0) (G : Equation → Clock → Type 0
 -- the clocks at the start: ports on base
 abbrev pub on_base : List ℕ → Clocks
 on_base xs = map (λ x. record { name = x; clock = base }) xs
-
-eqb-sym : (a b : ℕ) → eqb a b ≡ eqb b a
-eqb-sym a b = go (eqb a b) refl
-  where
-    go : (u : Bool) → eqb a b ≡ u → eqb a b ≡ eqb b a
-    go true e = e ∙ (sym (eqb-self a) ∙ ap (λ (z : ℕ). eqb z a) (eqb-eq a b e))
-    go false e = e ∙ sym (eqb-other b a (λ q. true≢false (sym (eqb-self a) ∙ (ap (eqb a) (sym q) ∙ e))))
 
 start_has : (xs : List ℕ) (x : ℕ) → among x xs ≡ true → clock_of (on_base xs) x ≡ some base
 unfolding clock_of
@@ -279,11 +241,11 @@ module _ (P : ℕ → Type 0) (n : Node) where
       a y d false q = v.named y d q
 
       b : (y : ℕ) → is_port n y ≡ true → (u : Bool) → eqb x y ≡ u → choose u (some c) (clock_of cl y) ≡ some base
-      b y h true q = absurd (true≢false (sym h ∙ (ap (is_port n) (sym (eqb-eq x y q)) ∙ p)))
+      b y h true q = absurd (true≢false (sym h ∙ (ap (is_port n) (sym (eqb-true x y q)) ∙ p)))
       b y h false q = v.based y h
 
       f : (y : ℕ) (d : Clock) → is_port n y ≡ false → (u : Bool) → eqb x y ≡ u → choose u (some c) (clock_of cl y) ≡ some d → (e : Equation) × Memᴰ e n.equations × Memᴰ y e.left
-      f y d h true q r = (e, m, subst (λ (z : ℕ). Memᴰ z e.left) (eqb-eq x y q) j)
+      f y d h true q r = (e, m, subst (λ (z : ℕ). Memᴰ z e.left) (eqb-true x y q) j)
       f y d h false q r = v.others y d r h
 
   pub placed : (k : Clocking) → Clockings n k → ((e : Equation) → Memᴰ e n.equations → Each (Reads P) e.right) → Placed k.names

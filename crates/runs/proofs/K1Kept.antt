@@ -5,6 +5,7 @@ use mathlib.Core.Option.{some-injective}
 use Prim.Native.Nat.{ℕ}
 use lib.Dec.{ltb}
 use lib.ListN.{get_elem?}
+use Rattle.std.proofs.lemmas.Bool.{ltb-true}
 use Rattle.definitions.specs.Lists.{Letters}
 use Rattle.definitions.specs.Tree.{Node, Sheet}
 use Rattle.definitions.specs.LiteralSheets.{k1}
@@ -13,7 +14,6 @@ use Rattle.definitions.specs.Output.{names_out, sheet_out}
 use Rattle.definitions.specs.Answer.{Input, input, clockings, first_faults}
 use Rattle.shapes.specs.Shape.{Bytes}
 use Rattle.shapes.proofs.Accepts.{is-accepted}
-use Rattle.shapes.proofs.Facts.{ltb-lt}
 use Rattle.shapes.proofs.Source.{read-facts}
 use Rattle.runs.specs.Callees.{callees_of}
 use Rattle.runs.specs.Run.{SourceRun, Kept}
@@ -34,7 +34,7 @@ read = refl
 
 bytes-of-k1 : Bytes k1
 unfolding k1
-bytes-of-k1 b m = ltb-lt b 256 (all_in (λ b. ltb b 256) k1 refl b m)
+bytes-of-k1 b m = ltb-true b 256 (all_in (λ b. ltb b 256) k1 refl b m)
 
 clocked : clockings 0 (start ∷ []) ≡ accepted (source ∷ [])
 unfolding clockings

@@ -2,8 +2,7 @@
 pub mod Facts
 pub mod Ticks
 pub mod Parts
--- What a rewriting yields, and what it may do to its state.
-pub mod Yields
+-- What a rewriting may do to its state.
 pub mod Growth
 -- What checking and inference leave of a node without faults; the order of chains.
 pub mod Checked

@@ -1,30 +1,22 @@
 -- Names and ids: the output's names go on from the input's, names are distinct, and a new name begins with two underscores.
-use mathlib.Core.Path.{◌≡◌, refl, sym, ap, ap₂, ◌∙◌, subst}
-use mathlib.Core.Bool.{Bool, true, false, not, ◌&&◌, true≢false, false≢true}
+use mathlib.Core.Path.{◌≡◌, refl, sym, ap, ◌∙◌, subst}
+use mathlib.Core.Bool.{Bool, true, false, not, ◌&&◌, true≢false}
 use mathlib.Core.List.{List, [], ◌∷◌, ◌++◌}
 use Prim.Native.Nat.{ℕ, zero, suc, ◌<◌, ◌≤◌}
 use native.Mathlib.Omega.{arith}
 use lib.Dec.{eqb}
 use lib.ListN.{length, get_or, length-append, get_or-append}
+use Rattle.std.proofs.lemmas.Bool.{or_parts, ne_eqb}
 use Rattle.definitions.specs.Lists.{choose, any, Letters, same_letters, bytes}
 use Rattle.definitions.specs.Tree.{Node}
 use Rattle.definitions.specs.Bytes.{well_formed, bad_name}
 use Rattle.definitions.specs.Declock.{Stem, ck, first, hold}
 use Rattle.definitions.specs.Output.{id_of, condact_id, letters_of, new_letters, new_id, rewritten}
 use Rattle.runs.specs.Plain.{underscored, is_condact}
-use Rattle.runs.proofs.Facts.{eqb-eq, eqb-self, eqb-other, or_left, or_right, Goes}
+use Rattle.shapes.proofs.Facts.{letters-eq}
+use Rattle.runs.proofs.Facts.{eqb-self, Goes}
 
 -- letters
-pub letters-eq : (k l : Letters) → same_letters k l ≡ true → k ≡ l
-letters-eq [] [] e = refl
-letters-eq [] (b ∷ l) e = absurd (false≢true e)
-letters-eq (a ∷ k) [] e = absurd (false≢true e)
-letters-eq (a ∷ k) (b ∷ l) e = go (eqb a b) refl e (λ q. letters-eq k l q)
-  where
-    go : (u : Bool) → eqb a b ≡ u → (elim u as (λ x. Bool) [ true ↦ same_letters k l | false ↦ false ]) ≡ true → (same_letters k l ≡ true → k ≡ l) → a ∷ k ≡ b ∷ l
-    go true p q ih = ap₂ {C = Letters} (λ x xs. x ∷ xs) (eqb-eq a b p) (ih q)
-    go false p q ih = absurd (false≢true q)
-
 pub letters-self : (k : Letters) → same_letters k k ≡ true
 letters-self [] = refl
 letters-self (a ∷ k) = rw (eqb-self a, same_letters) (letters-self k)
@@ -53,10 +45,10 @@ names_apart before (n ∷ names) e = go (well_formed n) (any (same_letters n) be
       where
         new : (i : ℕ) → i < suc (length names) → any (same_letters (get_or (n ∷ names) i [])) before ≡ false
         new zero h = f
-        new (suc i) h = or_right (same_letters (get_or names i []) n) (any (same_letters (get_or names i [])) before) (r.new i (omega arith))
+        new (suc i) h = (or_parts (same_letters (get_or names i []) n) (any (same_letters (get_or names i [])) before) (r.new i (omega arith))).1
 
         differ : (j : ℕ) → j < length names → get_or names j [] ≡ n → ⊥
-        differ j h q = true≢false (sym (letters-self n) ∙ (ap (λ (z : Letters). same_letters z n) (sym q) ∙ or_left (same_letters (get_or names j []) n) (any (same_letters (get_or names j [])) before) (r.new j h)))
+        differ j h q = true≢false (sym (letters-self n) ∙ (ap (λ (z : Letters). same_letters z n) (sym q) ∙ (or_parts (same_letters (get_or names j []) n) (any (same_letters (get_or names j [])) before) (r.new j h)).0))
 
         distinct : (i j : ℕ) → i < suc (length names) → j < suc (length names) → get_or (n ∷ names) i [] ≡ get_or (n ∷ names) j [] → i ≡ j
         distinct zero zero h k q = refl
@@ -98,4 +90,4 @@ module _ (names all : List Letters) (g : Goes names all) where
   -- a name that is not `condact` has not its id
   pub not-condact : (f : ℕ) → f < length names → is_condact names f ≡ false → eqb f (condact_id all) ≡ false
   unfolding rewritten is_condact
-  not-condact f h u = eqb-other f (condact_id all) (λ e. true≢false (sym (letters-self (bytes "condact")) ∙ (ap (same_letters (bytes "condact")) (sym (placed-old f h (bytes "condact") e)) ∙ u)))
+  not-condact f h u = ne_eqb f (condact_id all) (λ e. true≢false (sym (letters-self (bytes "condact")) ∙ (ap (same_letters (bytes "condact")) (sym (placed-old f h (bytes "condact") e)) ∙ u)))

@@ -7,12 +7,12 @@ use native.Mathlib.Omega.{arith}
 use native.Mathlib.Decide.{ℕ_discrete}
 use lib.ListN.{length, get_or, length-append, get_or-append}
 use lib.Seq.{get_or-append-add}
+use Rattle.std.proofs.lemmas.Bool.{or_parts}
 use Rattle.definitions.specs.Lists.{choose, any, Letters, same_letters, bytes}
 use Rattle.definitions.specs.Tree.{Equation, Node, Sheet}
 use Rattle.definitions.specs.InferClocks.{uses_clocks}
 use Rattle.definitions.specs.Declock.{State, Rewritten, stopped, done, new_locals}
 use Rattle.definitions.specs.Output.{add_name, add_names, letters_of, new_letters, ClockedNode, rewritten, with_names_of, with_new_names, output_names, names_out}
-use Rattle.runs.proofs.Facts.{or_left, or_right}
 use Rattle.runs.proofs.Names.{letters-self}
 
 abbrev pub AllApart : List Letters → Type 0
@@ -21,8 +21,8 @@ AllApart names = (x y : ℕ) → x < length names → y < length names → lette
 -- what is not among names stands nowhere
 absent : (l : Letters) (names : List Letters) → any (same_letters l) names ≡ false → (x : ℕ) → x < length names → get_or names x [] ≡ l → ⊥
 absent l [] h x i e = absurd (omega arith)
-absent l (n ∷ names) h zero i e = true≢false (sym (letters-self l) ∙ (ap (same_letters l) (sym e) ∙ or_left (same_letters l n) (any (same_letters l) names) h))
-absent l (n ∷ names) h (suc x) i e = absent l names (or_right (same_letters l n) (any (same_letters l) names) h) x (omega arith) e
+absent l (n ∷ names) h zero i e = true≢false (sym (letters-self l) ∙ (ap (same_letters l) (sym e) ∙ (or_parts (same_letters l n) (any (same_letters l) names) h).0))
+absent l (n ∷ names) h (suc x) i e = absent l names (or_parts (same_letters l n) (any (same_letters l) names) h).1 x (omega arith) e
 
 apart-add : (names : List Letters) (l : Letters) → AllApart names → AllApart (add_name names l)
 apart-add names l h = go (any (same_letters l) names) refl

@@ -6,6 +6,7 @@ use mathlib.Core.Option.{Option, none, some, some-injective, none-ne-some}
 use mathlib.Core.Logic.{◌⊎◌, inl, inr}
 use Prim.Native.Nat.{ℕ}
 use lib.Dec.{eqb}
+use Rattle.std.proofs.lemmas.Bool.{eqb-true}
 use Rattle.definitions.specs.declared.Condition.{Condition}
 use Rattle.definitions.specs.Lists.{choose, among, Letters}
 use Rattle.definitions.specs.Tree.{Declared, TypeDef, Equation, Node}
@@ -16,10 +17,10 @@ use Rattle.definitions.specs.Output.{ClockedNode}
 use Rattle.runs.specs.Callees.{is_declared, is_operator, Callees}
 use Rattle.runs.specs.Run.{Meaning, Env, SourceRun, RewrittenRun, Kept, seen}
 use Rattle.runs.specs.Plain.{Part, reads, callee, computes, lefts, names_of}
-use Rattle.runs.proofs.Facts.{eqb-eq, any-app, or-false}
+use Rattle.runs.proofs.Facts.{any-app, or-false}
 use Rattle.runs.proofs.Declared.{in-lefts, declared-later, declared-cases, port-declared}
 use Rattle.runs.proofs.Parts.{Each, EachOf, each_map}
-use Rattle.runs.proofs.Yields.{yielded}
+use Rattle.shapes.proofs.Yields.{yielded}
 use Rattle.runs.proofs.Growth.{nothing-sound, OfClock, Sound, Reads, old_equations-steps}
 use Rattle.runs.proofs.Checked.{Clean, clean_of, CleanEquation, clean-equations, Fits, Ok, OldParts, check-ok, lefts-ok}
 use Rattle.runs.proofs.Inferred.{Clockings, Placed, placed, equation-named}
@@ -130,7 +131,7 @@ module _ {Val : Type 0} (types : List TypeDef) (nodes : List Node) (letters : �
         rest = among x (names_of (map (λ l. record { name = new l.stem l.number; type = l.type }) l))
 
         go : (u : Bool) → eqb x (new a.stem a.number) ≡ u → rest ≡ false → (u || rest) ≡ false
-        go true e ih = absurd (h a.stem a.number (eqb-eq x (new a.stem a.number) e))
+        go true e ih = absurd (h a.stem a.number (eqb-true x (new a.stem a.number) e))
         go false e ih = ih
 
     -- the rewritten node declares the node's names, and the new ones

@@ -1,17 +1,19 @@
 -- Putting clocks in chain order loses none, where a name is known by its letters.
-use mathlib.Core.Path.{◌≡◌, refl, sym, ap, ap₂, ◌∙◌, subst, subst⁻¹}
+use mathlib.Core.Path.{◌≡◌, refl, sym, ap, ap₂, ◌∙◌, subst⁻¹}
 use mathlib.Core.Bool.{Bool, true, false, ◌||◌, false≢true}
 use mathlib.Core.List.Memᴰ
 use mathlib.Core.List.{List, [], ◌∷◌, ◌++◌, Memᴰ}
 use mathlib.Core.Logic.{◌⊎◌, inl, inr}
 use Prim.Native.Nat.{ℕ, compare, Ordering}
 use lib.Dec.{compare_is_eq}
+use Rattle.std.proofs.lemmas.Bool.{eqb-true}
 use Rattle.definitions.specs.declared.Test.{Test}
 use Rattle.definitions.specs.declared.Condition.{Condition}
 use Rattle.definitions.specs.Lists.{Letters}
 use Rattle.definitions.specs.Clock.{Clock, base, ◌↓◌, same_clock, conditions, and_then, lexical, test_order, chain_order, insert, in_chain_order}
-use Rattle.runs.proofs.Facts.{eqb-eq, clock-eq, clock-self, or-true, All, all_app}
-use Rattle.runs.proofs.Growth.{has, OfClock}
+use Rattle.shapes.proofs.Added.{has}
+use Rattle.runs.proofs.Facts.{clock-eq, All, all_app}
+use Rattle.runs.proofs.Growth.{OfClock}
 
 abbrev IsEq : Ordering → Type 0
 IsEq Ordering.lt = ⊥
@@ -62,10 +64,6 @@ has-member c (d ∷ cs) h = go (same_clock c d) refl h (λ q. has-member c cs q)
     go true e q ih = Memᴰ.head (clock-eq c d e)
     go false e q ih = Memᴰ.tail (ih q)
 
-pub member-has : (c : Clock) (cs : List Clock) → Memᴰ c cs → has c cs ≡ true
-member-has c cs (Memᴰ.head {x = d} {xs = r} q) = ap (λ (u : Bool). u || has c r) (subst (λ (z : Clock). same_clock c z ≡ true) q (clock-self c))
-member-has c cs (Memᴰ.tail {x = d} {xs = r} i) = ap (λ (u : Bool). same_clock c d || u) (member-has c r i) ∙ or-true (same_clock c d)
-
 -- nothing is added
 module _ (letters : ℕ → Letters) where
   insert-only : (c d : Clock) (cs : List Clock) → Memᴰ d (insert letters c cs) → (d ≡ c) ⊎ Memᴰ d cs
@@ -101,7 +99,7 @@ module _ (letters : ℕ → Letters) where
 
 module _ (letters : ℕ → Letters) (P : ℕ → Type 0) (apart : (x y : ℕ) → P x → P y → letters x ≡ letters y → x ≡ y) where
   letters-eq : (k l : Letters) → lexical compare k l ≡ Ordering.eq → k ≡ l
-  letters-eq k l e = lexical-eq compare (λ a. Unit {0}) (λ a b r s q. eqb-eq a b (ap compare_is_eq q)) k l (λ x m. tt) (λ x m. tt) e
+  letters-eq k l e = lexical-eq compare (λ a. Unit {0}) (λ a b r s q. eqb-true a b (ap compare_is_eq q)) k l (λ x m. tt) (λ x m. tt) e
 
   test-eq : (a b : Test) → test_order a b ≡ Ordering.eq → a ≡ b
   test-eq Test.On Test.On e = refl

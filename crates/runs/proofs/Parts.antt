@@ -2,10 +2,11 @@
 use mathlib.Core.Path.{◌≡◌}
 use mathlib.Core.Bool.{Bool, true, ◌&&◌}
 use mathlib.Core.List.{List}
+use Rattle.std.proofs.lemmas.Bool.{and_parts}
 use Rattle.definitions.specs.Lists.{all}
 use Rattle.definitions.specs.Tree.{Expr, Exprs, Equation}
 use Rattle.runs.specs.Plain.{Part, reads, callee, computes, every_part, every_parts}
-use Rattle.runs.proofs.Facts.{and_left, and_right, All, all_in}
+use Rattle.runs.proofs.Facts.{All, all_in}
 
 -- P holds of each part of an expression
 module _ (P : Part → Type 0) where
@@ -36,18 +37,18 @@ module _ (test : Part → Bool) where
     pub each_of : (e : Expr) → every_part test e ≡ true → Each (λ p. test p ≡ true) e
     each_of (Expr.const l w) h = tt
     each_of (Expr.var x) h = h
-    each_of (Expr.op g es) h = (and_left (test (computes g)) (every_parts test es) h, eachs-of es (and_right (test (computes g)) (every_parts test es) h))
+    each_of (Expr.op g es) h = ((and_parts (test (computes g)) (every_parts test es) h).0, eachs-of es (and_parts (test (computes g)) (every_parts test es) h).1)
     each_of (Expr.pre e) h = each_of e h
-    each_of (Expr.arrow a b) h = (each_of a (and_left (every_part test a) (every_part test b) h), each_of b (and_right (every_part test a) (every_part test b) h))
-    each_of (Expr.call f es) h = (and_left (test (callee f)) (every_parts test es) h, eachs-of es (and_right (test (callee f)) (every_parts test es) h))
-    each_of (Expr.when k e) h = (and_left (test (reads k.name)) (every_part test e) h, each_of e (and_right (test (reads k.name)) (every_part test e) h))
+    each_of (Expr.arrow a b) h = (each_of a (and_parts (every_part test a) (every_part test b) h).0, each_of b (and_parts (every_part test a) (every_part test b) h).1)
+    each_of (Expr.call f es) h = ((and_parts (test (callee f)) (every_parts test es) h).0, eachs-of es (and_parts (test (callee f)) (every_parts test es) h).1)
+    each_of (Expr.when k e) h = ((and_parts (test (reads k.name)) (every_part test e) h).0, each_of e (and_parts (test (reads k.name)) (every_part test e) h).1)
     each_of (Expr.merge x a b) h =
-        let ha = and_left (test (reads x) && every_part test a) (every_part test b) h in
-        (and_left (test (reads x)) (every_part test a) ha, each_of a (and_right (test (reads x)) (every_part test a) ha), each_of b (and_right (test (reads x) && every_part test a) (every_part test b) h))
+        let ha = (and_parts (test (reads x) && every_part test a) (every_part test b) h).0 in
+        ((and_parts (test (reads x)) (every_part test a) ha).0, each_of a (and_parts (test (reads x)) (every_part test a) ha).1, each_of b (and_parts (test (reads x) && every_part test a) (every_part test b) h).1)
 
     eachs-of : (es : Exprs) → every_parts test es ≡ true → Eachs (λ p. test p ≡ true) es
     eachs-of Exprs.end h = tt
-    eachs-of (Exprs.and e es) h = (each_of e (and_left (every_part test e) (every_parts test es) h), eachs-of es (and_right (every_part test e) (every_parts test es) h))
+    eachs-of (Exprs.and e es) h = (each_of e (and_parts (every_part test e) (every_parts test es) h).0, eachs-of es (and_parts (every_part test e) (every_parts test es) h).1)
 
   pub each_right : (es : List Equation) → all (λ e. every_part test e.right) es ≡ true → EachOf (λ p. test p ≡ true) es
   each_right es h e m = each_of e.right (all_in (λ e. every_part test e.right) es h e m)

@@ -6,6 +6,7 @@ use mathlib.Core.Option.{Option, none, some}
 use Prim.Native.Nat.{ℕ, ◌<◌}
 use lib.Dec.{eqb}
 use lib.ListN.{length}
+use Rattle.std.proofs.lemmas.Bool.{and_parts, not-true}
 use Rattle.definitions.specs.Lists.{choose, all, among, Letters}
 use Rattle.definitions.specs.Tree.{Equation, Node, Sheet}
 use Rattle.definitions.specs.Clock.{Clock, is_base}
@@ -17,11 +18,12 @@ use Rattle.runs.specs.Run.{seen, AllHold, SourceRun, RewrittenRun}
 use Rattle.runs.specs.Settled.{no_clock, settled}
 use Rattle.runs.specs.Plain.{Part, reads, callee, computes, lefts, names_of, distinct, own_names, call_if_several, once, locals_settled, is_condact, not_condact, no_condact, several_call, not_underscored, no_underscored, underscored, Plain}
 use Rattle.runs.specs.Demand.{RunsKept, KeptAlone}
-use Rattle.runs.proofs.Facts.{and_left, and_right, or-other, not-true, of-any, all_in, Goes, goes_self}
+use Rattle.runs.proofs.Facts.{or-other, of-any, all_in, Goes, goes_self}
 use Rattle.runs.proofs.Parts.{Each, EachOf, each_right, each_map, each_both}
 use Rattle.runs.proofs.Checked.{OldParts}
 use Rattle.shapes.proofs.Clockless.{clockless}
-use Rattle.runs.proofs.Inferred.{formed-eq, Clockings, clocked}
+use Rattle.shapes.proofs.Formed.{formed-eq}
+use Rattle.runs.proofs.Inferred.{Clockings, clocked}
 use Rattle.runs.proofs.Expressions.{Callable}
 use Rattle.runs.proofs.Holding.{on_base}
 use Rattle.runs.proofs.Settling.{Settled, settled-reading}
@@ -58,7 +60,7 @@ module _ (names : List Letters) (apart : Apart [] names) (s : Sheet) (n : Clocke
   unfolding no_condact no_underscored
   known e m =
       let rights = all (λ m. not (is_condact names m.name)) s.nodes in
-      let a = each_right (not_condact names s n) node.equations (and_left _ rights plain.no-condact) e m in
+      let a = each_right (not_condact names s n) node.equations (and_parts _ rights plain.no-condact).0 e m in
       let b = each_right (not_underscored names s n) node.equations plain.no-underscored e m in
       each_map (λ p. Within (length names) p × ((not_condact names s n p ≡ true) × (not_underscored names s n p ≡ true))) Known (λ p q. (q.0, q.1.0, q.1.1)) e.right
       (each_both (Within (length names)) (λ p. (not_condact names s n p ≡ true) × (not_underscored names s n p ≡ true)) e.right (within e m)
@@ -70,7 +72,7 @@ module _ (names : List Letters) (apart : Apart [] names) (s : Sheet) (n : Clocke
       let own : List ℕ = own_names names s n in
       let ls : List ℕ = lefts node.equations in
       let before : Bool = distinct (names_of (declared node)) && distinct ls && all (λ x. among x ls) own in
-      of-any x own (all_in (λ x. among x own) ls (and_right before (all (λ x. among x own) ls) plain.named-once) x m)
+      of-any x own (all_in (λ x. among x own) ls (and_parts before (all (λ x. among x own) ls) plain.named-once).1 x m)
 
   locals-settled : (x : ℕ) → Memᴰ x (names_of node.locals) → clock_of n.clocking.names x ≡ none → Settled C node n.clocking.names x
   unfolding locals_settled clock_of

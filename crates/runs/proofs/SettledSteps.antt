@@ -8,19 +8,17 @@ use native.Mathlib.Omega.{arith}
 use native.Mathlib.Decide.{ℕ_discrete}
 use lib.Dec.{eqb}
 use lib.ListN.{length, length-map}
+use Rattle.std.proofs.lemmas.Bool.{and_from, and_parts}
 use Rattle.definitions.specs.Lists.{choose, any, all, keep, among}
 use Rattle.definitions.specs.Tree.{Expr, Exprs, Equation, Node}
 use Rattle.definitions.specs.InferClocks.{Clocks}
 use Rattle.runs.specs.Callees.{is_declared, Callees}
 use Rattle.runs.specs.Settled.{built, all_built, no_clock, built_from, settled_in}
-use Rattle.runs.proofs.Facts.{and_left, and_right, or-true}
+use Rattle.runs.proofs.Facts.{or-true}
 
 -- what passes one test passes the other
 abbrev Weaker : {A : Type 0} → (A → Bool) → (A → Bool) → Type 0
 Weaker {A} p q = (a : A) → p a ≡ true → q a ≡ true
-
-and_both : (a b : Bool) → a ≡ true → b ≡ true → (a && b) ≡ true
-and_both a b p q = rw (p, q)
 
 or_map : (a b c : Bool) → (b ≡ true → c ≡ true) → (a || b) ≡ true → (a || c) ≡ true
 or_map true b c h e = refl
@@ -28,7 +26,7 @@ or_map false b c h e = h e
 
 all_weaker : {A : Type 0} (p q : A → Bool) → Weaker p q → (l : List A) → all p l ≡ true → all q l ≡ true
 all_weaker p q w [] h = refl
-all_weaker p q w (a ∷ l) h = and_both (q a) (all q l) (w a (and_left (p a) (all p l) h)) (all_weaker p q w l (and_right (p a) (all p l) h))
+all_weaker p q w (a ∷ l) h = and_from (q a) (all q l) (w a (and_parts (p a) (all p l) h).0) (all_weaker p q w l (and_parts (p a) (all p l) h).1)
 
 -- a weaker test keeps more
 keep-longer : (p q : ℕ → Bool) → Weaker p q → (l : List ℕ) → length (keep p l) ≤ length (keep q l)
@@ -89,14 +87,14 @@ module _ (C : Callees) (node : Node) (clocks : Clocks) where
       built-weaker (Expr.arrow a b) h = h
       built-weaker (Expr.call f es) h =
           let c = not (C.operators f) && not (eqb f C.condact) in
-          and_both c (all_built C q es) (and_left c (all_built C p es) h) (all-built-weaker es (and_right c (all_built C p es) h))
+          and_from c (all_built C q es) (and_parts c (all_built C p es) h).0 (all-built-weaker es (and_parts c (all_built C p es) h).1)
       built-weaker (Expr.when k e) h = h
       built-weaker (Expr.merge x a b) h = h
 
       all-built-weaker : (es : Exprs) → all_built C p es ≡ true → all_built C q es ≡ true
       all-built-weaker Exprs.end h = refl
       all-built-weaker (Exprs.and e es) h =
-          and_both (built C q e) (all_built C q es) (built-weaker e (and_left (built C p e) (all_built C p es) h)) (all-built-weaker es (and_right (built C p e) (all_built C p es) h))
+          and_from (built C q e) (all_built C q es) (built-weaker e (and_parts (built C p e) (all_built C p es) h).0) (all-built-weaker es (and_parts (built C p e) (all_built C p es) h).1)
 
   -- a step from some names
   abbrev Step : List ℕ → ℕ → Bool
@@ -106,11 +104,11 @@ module _ (C : Callees) (node : Node) (clocks : Clocks) where
   unfolding built_from
   step-weaker a b w x h =
       let some = any (λ e. among x e.left) node.equations in
-      let r = and_right (no_clock clocks x) (built_from C node clocks a x) h in
-      and_both (no_clock clocks x) (built_from C node clocks b x) (and_left (no_clock clocks x) (built_from C node clocks a x) h)
-      (and_both some (all (right b) node.equations) (and_left some (all (right a) node.equations) r)
+      let r = (and_parts (no_clock clocks x) (built_from C node clocks a x) h).1 in
+      and_from (no_clock clocks x) (built_from C node clocks b x) (and_parts (no_clock clocks x) (built_from C node clocks a x) h).0
+      (and_from some (all (right b) node.equations) (and_parts some (all (right a) node.equations) r).0
       (all_weaker (right a) (right b) (λ e. or_map (not (among x e.left)) (built C (name a) e.right) (built C (name b) e.right) (built-weaker (name a) (name b) names-weaker e.right))
-      node.equations (and_right some (all (right a) node.equations) r)))
+      node.equations (and_parts some (all (right a) node.equations) r).1))
     where
       name : List ℕ → ℕ → Bool
       name l y = not (is_declared node y) || among y l

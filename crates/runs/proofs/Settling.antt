@@ -7,6 +7,7 @@ use mathlib.Core.Option.{Option, none, some}
 use Prim.Native.Nat.{ℕ, zero, suc}
 use lib.Dec.{eqb}
 use lib.ListN.{length}
+use Rattle.std.proofs.lemmas.Bool.{eqb-true, and_parts, not-true}
 use Rattle.definitions.specs.Lists.{choose, any, keep, among}
 use Rattle.definitions.specs.Tree.{Expr, Exprs, Head, Equation, Node}
 use Rattle.definitions.specs.Clock.{Clock}
@@ -14,7 +15,7 @@ use Rattle.definitions.specs.declared.Literal.{Literal}
 use Rattle.definitions.specs.InferClocks.{Clocks, clock_of, formed, natural, naturals, ◌or◌}
 use Rattle.runs.specs.Callees.{is_declared, Callees}
 use Rattle.runs.specs.Settled.{built, all_built, no_clock, built_from, settled_in, settled}
-use Rattle.runs.proofs.Facts.{eqb-eq, and_left, and_right, or-other, not-true, of-any, all_in}
+use Rattle.runs.proofs.Facts.{or-other, of-any, all_in}
 
 module _ (C : Callees) (node : Node) (clocks : Clocks) where
   mutual
@@ -45,13 +46,13 @@ module _ (C : Callees) (node : Node) (clocks : Clocks) where
       of-built (Expr.arrow x y) b = absurd (false≢true b)
       of-built (Expr.call f es) b =
           let p = not (C.operators f) && not (eqb f C.condact) in
-          call (not-true (C.operators f) (and_left (not (C.operators f)) (not (eqb f C.condact)) (and_left p (all_built C name es) b))) (all-of-built es (and_right p (all_built C name es) b))
+          call (not-true (C.operators f) (and_parts (not (C.operators f)) (not (eqb f C.condact)) (and_parts p (all_built C name es) b).0).0) (all-of-built es (and_parts p (all_built C name es) b).1)
       of-built (Expr.when k e) b = absurd (false≢true b)
       of-built (Expr.merge x y z) b = absurd (false≢true b)
 
       all-of-built : (es : Exprs) → all_built C name es ≡ true → SettledExprs es
       all-of-built Exprs.end b = end
-      all-of-built (Exprs.and e es) b = and (of-built e (and_left (built C name e) (all_built C name es) b)) (all-of-built es (and_right (built C name e) (all_built C name es) b))
+      all-of-built (Exprs.and e es) b = and (of-built e (and_parts (built C name e) (all_built C name es) b).0) (all-of-built es (and_parts (built C name e) (all_built C name es) b).1)
 
   any_some : {A : Type 0} (p : A → Bool) (l : List A) → any p l ≡ true → (a : A) × Memᴰ a l × (p a ≡ true)
   any_some p [] h = absurd (false≢true h)
@@ -66,7 +67,7 @@ module _ (C : Callees) (node : Node) (clocks : Clocks) where
   kept-passes p x (y ∷ l) h = go (p y) refl h (kept-passes p x l)
     where
       first : (u : Bool) → eqb x y ≡ u → p y ≡ true → (u || among x (keep p l)) ≡ true → (among x (keep p l) ≡ true → p x ≡ true) → p x ≡ true
-      first true e q r ih = ap p (eqb-eq x y e) ∙ q
+      first true e q r ih = ap p (eqb-true x y e) ∙ q
       first false e q r ih = ih r
 
       go : (u : Bool) → p y ≡ u → among x (choose u (y ∷ keep p l) (keep p l)) ≡ true → (among x (keep p l) ≡ true → p x ≡ true) → p x ≡ true
@@ -86,12 +87,12 @@ module _ (C : Callees) (node : Node) (clocks : Clocks) where
   settled-in (suc n) x h =
       let names : List ℕ = settled_in C node clocks n in
       let p = kept-passes (λ x. no_clock clocks x && built_from C node clocks names x) x (map (λ d. d.name) node.locals) h in
-      let b = and_right (no_clock clocks x) (built_from C node clocks names x) p in
+      let b = (and_parts (no_clock clocks x) (built_from C node clocks names x) p).1 in
       let defines : Equation → Bool = λ e. among x e.left in
       let right : Equation → Bool = λ e. built C (λ y. not (is_declared node y) || among y names) e.right in
-      let some = any_some defines node.equations (and_left (any defines node.equations) _ b) in
-      let every = all_in (λ e. not (defines e) || right e) node.equations (and_right (any defines node.equations) _ b) some.0 some.1 in
-      defined some.0 some.1 (of-any x some.0.left some.2) (no-clock x (and_left (no_clock clocks x) _ p))
+      let some = any_some defines node.equations (and_parts (any defines node.equations) _ b).0 in
+      let every = all_in (λ e. not (defines e) || right e) node.equations (and_parts (any defines node.equations) _ b).1 some.0 some.1 in
+      defined some.0 some.1 (of-any x some.0.left some.2) (no-clock x (and_parts (no_clock clocks x) _ p).0)
       (of-built (λ y. not (is_declared node y) || among y names) (name names (settled-in n)) some.0.right (or-other (not (defines some.0)) (right some.0) every (ap not some.2)))
     where
       name : (names : List ℕ) → ((y : ℕ) → among y names ≡ true → Settled y) → (y : ℕ) → (not (is_declared node y) || among y names) ≡ true → Settled y

@@ -16,7 +16,7 @@ use Rattle.runs.specs.Run.{Meaning, last, since, Env, Unset, on, gated_at, value
 use Rattle.runs.specs.Plain.{call_if_several}
 use Rattle.runs.proofs.Ticks.{last-cong}
 use Rattle.runs.proofs.Facts.{eqb-self}
-use Rattle.runs.proofs.Yields.{Yields, yields-after, yields-map}
+use Rattle.shapes.proofs.Yields.{Yields, yields-after, yields-map}
 use Rattle.runs.proofs.Growth.{Leads, leads-trans, leads-flag, leads-condact, with_flag, with_condact, flag_name, gate, call_on-yields, gate_several-yields}
 use Rattle.runs.proofs.Expressions.{Flags}
 

@@ -26,7 +26,8 @@ use Rattle.runs.proofs.Inferred.{clocked}
 use Rattle.runs.proofs.Names.{Apart, names_apart}
 use Rattle.runs.proofs.NamesApart.{apart_out}
 use Rattle.runs.proofs.PlainNode.{Within, node_kept, source-run-kept}
-use Rattle.runs.proofs.Accepted.{within, Formings, formings, accepts-itself, no-fault, faults-of, no-faults, faultless, same-face, same-operator, ports-kept}
+use Rattle.shapes.proofs.Answered.{accepted-itself, no-fault}
+use Rattle.runs.proofs.Accepted.{within, Formings, formings, faults-of, no-faults, faultless, same-face, same-operator, ports-kept}
 
 -- what stands at a place of a list is a member, and what a function makes of it stands at the same place
 at-member : {A : Type 0} (l : List A) (i : ℕ) (a : A) → get_elem? l i ≡ some a → Memᴰ a l
@@ -99,8 +100,8 @@ module _ (Val : Type 0) (bytes : List ℕ) (r : Input) (facts : InputFacts bytes
 answer-kept : (Val : Type 0) (bytes : List ℕ) (lent : ℕ) → Bytes bytes → Accepts (DemandThree Val bytes) (rewrite_answer bytes lent)
 unfolding rewrite_answer first_faults
 answer-kept Val bytes lent b =
-    accepts-after _ (accepts-itself (input bytes)) (λ r e.
-    accepts-after _ (accepts-itself (clockings 0 r.sheet.nodes)) (λ ns f.
+    accepts-after _ (accepted-itself (input bytes)) (λ r e.
+    accepts-after _ (accepted-itself (clockings 0 r.sheet.nodes)) (λ ns f.
     accepts-after _ (no-fault (first_faults r ns)) (λ _ h.
     accepts-after _ (accepts-must (within_limits (names_out r.names r.sheet ns) (sheet_out r.names r.sheet ns)) Refusal.Large) (λ _ w.
     accepts-after _ (accepts-must (leb (length (written (names_out r.names r.sheet ns) (sheet_out r.names r.sheet ns))) lent) _) (λ _ l.

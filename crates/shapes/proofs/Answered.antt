@@ -5,6 +5,7 @@ use mathlib.Core.List.{List, [], ◌∷◌}
 use Prim.Native.Nat.{ℕ, ◌≤◌}
 use lib.Dec.{leb}
 use lib.ListN.{length}
+use Rattle.std.proofs.lemmas.Bool.{leb-true}
 use Rattle.definitions.specs.declared.FaultRecord.{FaultRecord}
 use Rattle.definitions.specs.declared.Refusal.{Refusal}
 use Rattle.definitions.specs.Lists.{Letters}
@@ -12,7 +13,6 @@ use Rattle.definitions.specs.Tree.{Sheet}
 use Rattle.definitions.specs.Refusals.{Answer, accepted, refused, faulty}
 use Rattle.definitions.specs.Output.{ClockedNode, names_out, sheet_out, within_limits, written}
 use Rattle.definitions.specs.Answer.{Input, input, clockings, first_faults, unless_faulty, rewrite_answer}
-use Rattle.shapes.proofs.Facts.{leb-le}
 use Rattle.shapes.proofs.Accepts.{Accepts, accepts, no-refused, no-faulty, accepts-after, accepts-must, is-accepted}
 use Rattle.shapes.proofs.Once.{written_once}
 use Rattle.shapes.proofs.OutputShape.{out-shaped}
@@ -29,12 +29,12 @@ pub record Rewriting (bytes : List ℕ) (lent : ℕ) (out : List ℕ) : Type 0 w
   pub writing : written (names_out source.names source.sheet nodes) (sheet_out source.names source.sheet nodes) ≡ out
   pub room : length out ≤ lent
 
-accepted-itself : {A : Type 0} (a : Answer A) → Accepts (λ x. a ≡ accepted x) a
+pub accepted-itself : {A : Type 0} (a : Answer A) → Accepts (λ x. a ≡ accepted x) a
 accepted-itself (accepted x) = accepts refl
 accepted-itself (refused r) = no-refused
 accepted-itself (faulty l) = no-faulty
 
-no-fault : (l : List FaultRecord) → Accepts (λ x. l ≡ []) (unless_faulty l)
+pub no-fault : (l : List FaultRecord) → Accepts (λ x. l ≡ []) (unless_faulty l)
 no-fault [] = accepts refl
 no-fault (f ∷ l) = no-faulty
 
@@ -46,7 +46,7 @@ rewriting-parts bytes lent =
     accepts-after _ (no-fault (first_faults r ns)) (λ _ h.
     accepts-after _ (accepts-must (within_limits (names_out r.names r.sheet ns) (sheet_out r.names r.sheet ns)) Refusal.Large) (λ _ w.
     accepts-after _ (accepts-must (leb (length (written (names_out r.names r.sheet ns) (sheet_out r.names r.sheet ns))) lent) _) (λ _ l.
-    accepts (record { source = r; reading = e; nodes = ns; clocks = f; no-faults = h; within = w; writing = refl; room = leb-le _ lent l }))))))
+    accepts (record { source = r; reading = e; nodes = ns; clocks = f; no-faults = h; within = w; writing = refl; room = leb-true _ lent l }))))))
 
 pub rewriting : (bytes : List ℕ) (lent : ℕ) (out : List ℕ) → rewrite_answer bytes lent ≡ accepted out → Rewriting bytes lent out
 rewriting bytes lent out e = is-accepted (rewrite_answer bytes lent) out e (rewriting-parts bytes lent)

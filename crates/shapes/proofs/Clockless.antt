@@ -5,13 +5,15 @@ use mathlib.Core.List.Memᴰ
 use mathlib.Core.List.{List, [], ◌∷◌, map, append-nil}
 use mathlib.Core.Option.{Option, none, some}
 use Prim.Native.Nat.{ℕ, suc}
+use Rattle.std.proofs.lemmas.Bool.{or_parts}
 use Rattle.definitions.specs.Lists.{choose, any, join, numbered, Letters}
 use Rattle.definitions.specs.Tree.{TypeDef, Expr, Exprs, Equation, Node, Sheet}
 use Rattle.definitions.specs.Clock.{Clock, base, is_base, same_clock}
 use Rattle.definitions.specs.InferClocks.{Formed, deep, formed, Clocks, clock_of, Natural, natural, naturals, ◌or◌, Inferred, inferred, Fault, Finding, found, site, too_deep, must_be_on, check, checks, check_left, Clocked, or_base, clocked_by, check_equation, Clocking, is_too_deep, clocking, NodeFault, clock_faults, sites, samples, sampled, uses_clocks}
 use Rattle.definitions.specs.Declock.{State, nothing_needed, Stem, Rewritten, done, Rewriter, after, Shape, bare, other, calls, shape_of, pre_on, held_pre, rewrite, rewrites, right_side, old_equations, new_locals, with_new}
 use Rattle.definitions.specs.Output.{new_id, condact_id, ClockedNode, rewritten, stopped_at, node_faults, output_node}
-use Rattle.shapes.proofs.Facts.{All, all_nil, all_cons, all_app, or_left, or_right}
+use Rattle.shapes.proofs.Facts.{All, all_nil, all_cons, all_app}
+use Rattle.shapes.proofs.Formed.{formed-eq}
 use Rattle.shapes.proofs.Inference.{Forms, SomeClock, Known, clock_of-known, inferred-known}
 
 -- it is base
@@ -36,14 +38,14 @@ module _ (cl : Clocks) (known : Known IsBase cl) where
     natural-flat (Expr.var x) f = clock_of-known IsBase cl known x
     natural-flat (Expr.op h es) f = naturals-flat es f
     natural-flat (Expr.pre e) f = natural-flat e f
-    natural-flat (Expr.arrow a b) f = or-flat (natural cl a) (natural cl b) (natural-flat a (or_left (samples a) (samples b) f)) (natural-flat b (or_right (samples a) (samples b) f))
+    natural-flat (Expr.arrow a b) f = or-flat (natural cl a) (natural cl b) (natural-flat a (or_parts (samples a) (samples b) f).0) (natural-flat b (or_parts (samples a) (samples b) f).1)
     natural-flat (Expr.call g es) f = naturals-flat es f
     natural-flat (Expr.when k e) f = absurd (true≢false f)
     natural-flat (Expr.merge x a b) f = absurd (true≢false f)
 
     naturals-flat : (es : Exprs) → sampled es ≡ false → Flat (naturals cl es)
     naturals-flat Exprs.end f = tt
-    naturals-flat (Exprs.and e es) f = or-flat (natural cl e) (naturals cl es) (natural-flat e (or_left (samples e) (sampled es) f)) (naturals-flat es (or_right (samples e) (sampled es) f))
+    naturals-flat (Exprs.and e es) f = or-flat (natural cl e) (naturals cl es) (natural-flat e (or_parts (samples e) (sampled es) f).0) (naturals-flat es (or_parts (samples e) (sampled es) f).1)
 
 -- what is found is a `pre` or `->` on base
 abbrev Calm : Finding → Type 0
@@ -88,14 +90,14 @@ module _ (cl : Clocks) (known : Known IsBase cl) (i : ℕ) where
     check-calm (Expr.var x) f = must_be_on-calm x _
     check-calm (Expr.op h es) f = checks-calm es f
     check-calm (Expr.pre e) f = all_cons Calm (site base) _ refl (check-calm e f)
-    check-calm (Expr.arrow a b) f = all_cons Calm (site base) _ refl (all_app Calm (check cl i base a) (check cl i base b) (check-calm a (or_left (samples a) (samples b) f)) (check-calm b (or_right (samples a) (samples b) f)))
+    check-calm (Expr.arrow a b) f = all_cons Calm (site base) _ refl (all_app Calm (check cl i base a) (check cl i base b) (check-calm a (or_parts (samples a) (samples b) f).0) (check-calm b (or_parts (samples a) (samples b) f).1))
     check-calm (Expr.call g es) f = checks-calm es f
     check-calm (Expr.when k e) f = absurd (true≢false f)
     check-calm (Expr.merge x a b) f = absurd (true≢false f)
 
     checks-calm : (es : Exprs) → sampled es ≡ false → All Calm (checks cl i base es)
     checks-calm Exprs.end f = all_nil Calm
-    checks-calm (Exprs.and e es) f = all_app Calm (check cl i base e) (checks cl i base es) (check-calm e (or_left (samples e) (sampled es) f)) (checks-calm es (or_right (samples e) (sampled es) f))
+    checks-calm (Exprs.and e es) f = all_app Calm (check cl i base e) (checks cl i base es) (check-calm e (or_parts (samples e) (sampled es) f).0) (checks-calm es (or_parts (samples e) (sampled es) f).1)
 
   left-calm : (n : Node) (xs : List ℕ) → All Calm (check_left cl i n base xs)
   unfolding check_left
@@ -112,7 +114,7 @@ Unsampled e = samples e.right ≡ false
 
 unsampled : (es : List Equation) → any (λ e. samples e.right) es ≡ false → All Unsampled es
 unsampled [] f = all_nil Unsampled
-unsampled (e ∷ es) f = all_cons Unsampled e es (or_left (samples e.right) _ f) (unsampled es (or_right (samples e.right) _ f))
+unsampled (e ∷ es) f = all_cons Unsampled e es (or_parts (samples e.right) _ f).0 (unsampled es (or_parts (samples e.right) _ f).1)
 
 equations-calm : (n : Node) (cl : Clocks) → Known IsBase cl → (i : ℕ) (es : List Equation) → All Unsampled es → All Calm (join (numbered (check_equation n cl) i (map on_base es)))
 unfolding check_equation
@@ -161,14 +163,14 @@ module _ (types : List TypeDef) (nodes : List Node) (new : Stem → ℕ → ℕ)
       rewrite-same (Expr.var x) s f = refl
       rewrite-same (Expr.op h es) s f = rw (rewrites-same es s f)
       rewrite-same (Expr.pre e) s f = ap (λ (z : Rewritten Expr). after z (λ g. pre_on types nodes new condact node i base e g)) (rewrite-same e s f) ∙ pre-same e s
-      rewrite-same (Expr.arrow a b) s f = rw (rewrite-same a s (or_left (samples a) (samples b) f), rewrite-same b s (or_right (samples a) (samples b) f))
+      rewrite-same (Expr.arrow a b) s f = rw (rewrite-same a s (or_parts (samples a) (samples b) f).0, rewrite-same b s (or_parts (samples a) (samples b) f).1)
       rewrite-same (Expr.call g es) s f = rw (rewrites-same es s f)
       rewrite-same (Expr.when k e) s f = absurd (true≢false f)
       rewrite-same (Expr.merge x a b) s f = absurd (true≢false f)
 
       rewrites-same : (es : Exprs) (s : State) → sampled es ≡ false → rewrites types nodes new condact node i base es s ≡ done es s
       rewrites-same Exprs.end s f = refl
-      rewrites-same (Exprs.and e es) s f = rw (rewrite-same e s (or_left (samples e) (sampled es) f), rewrites-same es s (or_right (samples e) (sampled es) f))
+      rewrites-same (Exprs.and e es) s f = rw (rewrite-same e s (or_parts (samples e) (sampled es) f).0, rewrites-same es s (or_parts (samples e) (sampled es) f).1)
 
     right_side-same : (xs : List ℕ) (e : Expr) (s : State) → samples e ≡ false → right_side types nodes new condact node i base xs e s ≡ done e s
     unfolding right_side
@@ -214,13 +216,6 @@ clockless n f =
     let flat = unsampled n.equations f in
     let r = is-formed (λ r. Known IsBase r.clocks) (inferred n) (inferred-known ⊥ IsBase refl n (λ e m cl k. natural-flat cl k e.right (flat e m))) in
     (whole n r.0, from-inferred n flat r.0 r.1 r.2)
-
-formed-eq : {A : Type 0} (a b : A) → formed a ≡ formed b → a ≡ b
-formed-eq {A} a b e = ap un e
-  where
-    un : Formed A → A
-    un deep = a
-    un (formed c) = c
 
 -- the same of the clocks that such a node has
 pub clockless-as : (n : Node) (k : Clocking) → uses_clocks n ≡ false → clocking n ≡ formed k → Clockless n k

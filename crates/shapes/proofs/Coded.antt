@@ -4,6 +4,7 @@ use mathlib.Core.List.{List, [], ◌∷◌, map}
 use mathlib.Core.Option.{some, some-injective}
 use Prim.Native.Nat.{ℕ, ◌<◌}
 use native.Mathlib.Omega.{arith}
+use Rattle.std.proofs.lemmas.Bool.{lt-ltb}
 use Rattle.definitions.specs.declared.UnaryOp.{UnaryOp}
 use Rattle.definitions.specs.declared.BinOp.{BinOp}
 use Rattle.definitions.specs.declared.Primitive.{Primitive}
@@ -14,7 +15,7 @@ use Rattle.definitions.specs.declared.DefinitionToken.{DefinitionToken}
 use Rattle.definitions.specs.declared.ExprToken.{ExprToken}
 use Rattle.definitions.specs.declared.Token.{Token}
 use Rattle.definitions.specs.Tokens.{TagValue, words, token_of, code_of, tag_of, value_of}
-use Rattle.shapes.proofs.Facts.{All, all_head, all_tail, lt-ltb}
+use Rattle.shapes.proofs.Facts.{All, all_head, all_tail}
 use Rattle.shapes.specs.Shape.{Word}
 
 -- the numbers of a token have the values that the format gives them, ids being below M
@@ -241,8 +242,8 @@ value-word (Token.Expression (ExprToken.Fold x)) h = h
 -- tokens with the same tags and values are the same
 pub codes-once : (a b : List Token) → All (Proper words) a → All (Proper words) b → map code_of a ≡ map code_of b → a ≡ b
 codes-once [] [] h k e = refl
-codes-once [] (y ∷ b) h k e = let z : ◌≡◌ {A = ℕ} 0 1 = cc in absurd (omega arith)
-codes-once (x ∷ a) [] h k e = let z : ◌≡◌ {A = ℕ} 0 1 = cc in absurd (omega arith)
+codes-once [] (y ∷ b) h k e = absurd cc
+codes-once (x ∷ a) [] h k e = absurd cc
 codes-once (x ∷ a) (y ∷ b) h k e =
     let p : code_of x ≡ code_of y = cc in
     let q : map code_of a ≡ map code_of b = cc in

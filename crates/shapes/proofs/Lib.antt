@@ -1,5 +1,6 @@
--- Proofs, leaves first. Small facts on tests and lists.
+-- Proofs, leaves first. Small facts on tests, clocks, letters and lists.
 pub mod Facts
+pub mod Added
 -- Tokens and their tags and values.
 pub mod Coded
 pub mod TokenWords
@@ -15,9 +16,11 @@ pub mod Accepts
 pub mod ReadBytes
 pub mod Source
 -- The clocks of a shaped node.
+pub mod Formed
 pub mod Inference
 pub mod ClockNames
--- What rewriting makes of shaped trees is shaped.
+-- What rewriting yields; what it makes of shaped trees is shaped.
+pub mod Yields
 pub mod Defaults
 pub mod RewriteShape
 -- The output: its names, and that its tree is shaped.

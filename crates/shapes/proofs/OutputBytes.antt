@@ -7,6 +7,7 @@ use Prim.Native.Nat.{ℕ, zero, suc, ◌+◌, ◌/◌, ◌%◌, ◌^◌, ◌<◌
 use native.Mathlib.Omega.{arith}
 use lib.Dec.{ltb, leb, eqb}
 use lib.ListN.{length, get_or, length-append}
+use Rattle.std.proofs.lemmas.Bool.{eqb-true, leb-true, ltb-true, and_parts}
 use Rattle.definitions.specs.declared.Primitive.{Primitive}
 use Rattle.definitions.specs.declared.Literal.{Literal}
 use Rattle.definitions.specs.declared.NodeKind.{NodeKind}
@@ -23,7 +24,7 @@ use Rattle.definitions.specs.InferClocks.{uses_clocks}
 use Rattle.definitions.specs.Declock.{State, Stem, ck, first, hold, declared, Rewritten, stopped, done, new_locals}
 use Rattle.definitions.specs.Output.{word_bytes, sheet_bytes, written, sheet_tokens, stem_letters, add_name, add_names, letters_of, new_letters, ClockedNode, rewritten, with_names_of, with_new_names, output_names, names_out, sheet_out}
 use Rattle.definitions.specs.Answer.{Input, input}
-use Rattle.shapes.proofs.Facts.{All, all_nil, all_cons, all_app, and_left, and_right, leb-le, ltb-lt, eqb-eq}
+use Rattle.shapes.proofs.Facts.{All, all_nil, all_cons, all_app}
 use Rattle.shapes.proofs.Source.{read-facts}
 use Rattle.shapes.specs.Shape.{Bytes}
 
@@ -131,25 +132,25 @@ letter-byte : (b : ℕ) → is_letter b ≡ true → Byte b
 letter-byte b e = go (leb 65 b && leb b 90) (leb 97 b && leb b 122) refl refl e
   where
     go : (u v : Bool) → (leb 65 b && leb b 90) ≡ u → (leb 97 b && leb b 122) ≡ v → (u || v || eqb b 95) ≡ true → Byte b
-    go true v p q r = let l = leb-le b 90 (and_right (leb 65 b) (leb b 90) p) in omega arith
-    go false true p q r = let l = leb-le b 122 (and_right (leb 97 b) (leb b 122) q) in omega arith
-    go false false p q r = let l = eqb-eq b 95 r in omega arith
+    go true v p q r = let l = leb-true b 90 (and_parts (leb 65 b) (leb b 90) p).1 in omega arith
+    go false true p q r = let l = leb-true b 122 (and_parts (leb 97 b) (leb b 122) q).1 in omega arith
+    go false false p q r = let l = eqb-true b 95 r in omega arith
 
 letters-bytes : (l : Letters) → all (λ d. is_letter d || is_digit d) l ≡ true → Bytes l
 letters-bytes [] e = all_nil Byte
-letters-bytes (b ∷ l) e = all_cons Byte b l (go (is_letter b) refl (and_left (is_letter b || is_digit b) _ e)) (letters-bytes l (and_right (is_letter b || is_digit b) _ e))
+letters-bytes (b ∷ l) e = all_cons Byte b l (go (is_letter b) refl (and_parts (is_letter b || is_digit b) _ e).0) (letters-bytes l (and_parts (is_letter b || is_digit b) _ e).1)
   where
     go : (u : Bool) → is_letter b ≡ u → (u || is_digit b) ≡ true → Byte b
     go true p q = letter-byte b p
-    go false p q = let l = leb-le b 57 (and_right (leb 48 b) (leb b 57) q) in omega arith
+    go false p q = let l = leb-true b 57 (and_parts (leb 48 b) (leb b 57) q).1 in omega arith
 
 well-formed-spelled : (l : Letters) → well_formed l ≡ true → SpelledName l
 unfolding well_formed
 well-formed-spelled [] e = (omega arith, all_nil Byte)
 well-formed-spelled (b ∷ l) e =
-    let p = and_left (is_letter b && all (λ d. is_letter d || is_digit d) l) (ltb (length l) longest_name) e in
-    let q = ltb-lt (length l) longest_name (and_right (is_letter b && all (λ d. is_letter d || is_digit d) l) (ltb (length l) longest_name) e) in
-    (omega arith, all_cons Byte b l (letter-byte b (and_left (is_letter b) _ p)) (letters-bytes l (and_right (is_letter b) _ p)))
+    let p = (and_parts (is_letter b && all (λ d. is_letter d || is_digit d) l) (ltb (length l) longest_name) e).0 in
+    let q = ltb-true (length l) longest_name (and_parts (is_letter b && all (λ d. is_letter d || is_digit d) l) (ltb (length l) longest_name) e).1 in
+    (omega arith, all_cons Byte b l (letter-byte b (and_parts (is_letter b) _ p).0) (letters-bytes l (and_parts (is_letter b) _ p).1))
 
 good-spelled : (earlier names : List Letters) → bad_name earlier names ≡ length names → All SpelledName names
 unfolding bad_name
@@ -164,7 +165,7 @@ good-spelled earlier (n ∷ names) e = go (well_formed n) (not (any (same_letter
 -- new names
 tested : (l : Letters) → all (λ b. ltb b 256) l ≡ true → Bytes l
 tested [] e = all_nil Byte
-tested (b ∷ l) e = all_cons Byte b l (ltb-lt b 256 (and_left (ltb b 256) _ e)) (tested l (and_right (ltb b 256) _ e))
+tested (b ∷ l) e = all_cons Byte b l (ltb-true b 256 (and_parts (ltb b 256) _ e).0) (tested l (and_parts (ltb b 256) _ e).1)
 
 -- bytes, at most so many
 abbrev AtMost : ℕ → Letters → Type 0
@@ -176,7 +177,7 @@ digits-spelled zero n l h = (h, omega arith)
 digits-spelled (suc k) n l h = go (ltb n 10) refl (digits-spelled k (n / 10) ((48 + (n % 10)) ∷ l) (all_cons Byte _ l (omega arith) h))
   where
     go : (u : Bool) → ltb n 10 ≡ u → AtMost (k + suc (length l)) (digits k (n / 10) ((48 + (n % 10)) ∷ l)) → AtMost (suc k + length l) (elim u as (λ x. Letters) [ true ↦ (48 + n) ∷ l | false ↦ digits k (n / 10) ((48 + (n % 10)) ∷ l) ])
-    go true e ih = let p = ltb-lt n 10 e in (all_cons Byte (48 + n) l (omega arith) h, omega arith)
+    go true e ih = let p = ltb-true n 10 e in (all_cons Byte (48 + n) l (omega arith) h, omega arith)
     go false e ih = let p = ih.1 in (ih.0, omega arith)
 
 numbered-spelled : (l : Letters) (n : ℕ) → Bytes l → length l ≤ 7 → SpelledName (l ++ decimal n)
@@ -189,9 +190,9 @@ numbered-spelled l n h s =
 
 stem-bytes : (stem : Stem) → AtMost 7 (stem_letters stem)
 unfolding bytes
-stem-bytes ck = (tested (stem_letters ck) refl, leb-le 4 7 refl)
-stem-bytes first = (tested (stem_letters first) refl, leb-le 7 7 refl)
-stem-bytes hold = (tested (stem_letters hold) refl, leb-le 6 7 refl)
+stem-bytes ck = (tested (stem_letters ck) refl, leb-true 4 7 refl)
+stem-bytes first = (tested (stem_letters first) refl, leb-true 7 7 refl)
+stem-bytes hold = (tested (stem_letters hold) refl, leb-true 6 7 refl)
 
 new-spelled : (names : List Letters) (n : Node) (stem : Stem) (j : ℕ) → SpelledName (new_letters names n stem j)
 unfolding new_letters
@@ -221,7 +222,7 @@ module _ (names : List Letters) (sheet : Sheet) where
       more (add_names all ls) s.condact (adds-spelled all ls h (λ x m. let r = Memᴰ.of_map (λ l. new_letters names n l.stem l.number) (new_locals (letters_of names) (λ stem j. 0) s) m in subst SpelledName r.2 (new-spelled names n r.0.stem r.0.number)))
     where
       more : (a : List Letters) (u : Bool) → All SpelledName a → All SpelledName (choose u (add_name a (bytes "condact")) a)
-      more a true g = add-spelled a (bytes "condact") g (ltb-lt 7 256 refl, tested (bytes "condact") refl)
+      more a true g = add-spelled a (bytes "condact") g (ltb-true 7 256 refl, tested (bytes "condact") refl)
       more a false g = g
 
   with-spelled : (all : List Letters) (n : ClockedNode) → All SpelledName all → All SpelledName (with_new_names names sheet all n)

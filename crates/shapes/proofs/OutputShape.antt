@@ -7,6 +7,7 @@ use Prim.Native.Nat.{ℕ, suc, ◌<◌, ◌≤◌}
 use native.Mathlib.Omega.{arith}
 use lib.Dec.{leb}
 use lib.ListN.{length}
+use Rattle.std.proofs.lemmas.Bool.{leb-true, and_parts}
 use Rattle.definitions.specs.declared.Refusal.{Refusal}
 use Rattle.definitions.specs.Lists.{choose, join, Letters, bytes}
 use Rattle.definitions.specs.Tokens.{words}
@@ -17,12 +18,13 @@ use Rattle.definitions.specs.InferClocks.{Formed, deep, formed, Clocking, clocki
 use Rattle.definitions.specs.Declock.{State, nothing_needed, Stem, Rewritten, stopped, done, declared, new_locals, with_new}
 use Rattle.definitions.specs.Output.{condact_id, letters_of, new_letters, new_id, ClockedNode, rewritten, output_node, names_out, sheet_out, sheet_tokens, most_tokens_out, within_limits}
 use Rattle.definitions.specs.Answer.{Input, input, clockings}
-use Rattle.shapes.proofs.Facts.{All, all_nil, all_cons, all_app, and_left, and_right, leb-le}
+use Rattle.shapes.proofs.Facts.{All, all_nil, all_cons, all_app}
 use Rattle.shapes.proofs.Accepts.{Accepts, accepts, no-refused, accepts-after, is-accepted}
 use Rattle.shapes.proofs.Source.{read-facts}
 use Rattle.shapes.proofs.Inference.{Forms}
 use Rattle.shapes.proofs.ClockNames.{NamedEquation, clocking-named}
-use Rattle.shapes.proofs.RewriteShape.{yielded, ShapedState, old_equations-shape, with_new-shape}
+use Rattle.shapes.proofs.Yields.{yielded}
+use Rattle.shapes.proofs.RewriteShape.{ShapedState, old_equations-shape, with_new-shape}
 use Rattle.shapes.proofs.Names.{id_below}
 use Rattle.shapes.specs.Shape.{Bytes, ShapedDeclared, ShapedDefinition, ShapedNode, ShapedSheet, SizedSheet}
 
@@ -84,11 +86,11 @@ pub record Limits (names : List Letters) (s : Sheet) : Type 0 where
 pub limits : (names : List Letters) (s : Sheet) → within_limits names s ≡ true → Limits names s
 unfolding within_limits
 limits names s e =
-    let a = and_left (leb (length names) most_names && leb (length (join names)) most_letters) (leb (length (sheet_tokens s)) most_tokens_out) e in
+    let a = (and_parts (leb (length names) most_names && leb (length (join names)) most_letters) (leb (length (sheet_tokens s)) most_tokens_out) e).0 in
     record {
-      few-names = leb-le (length names) most_names (and_left (leb (length names) most_names) (leb (length (join names)) most_letters) a);
-      few-letters = leb-le (length (join names)) most_letters (and_right (leb (length names) most_names) (leb (length (join names)) most_letters) a);
-      few-tokens = leb-le (length (sheet_tokens s)) most_tokens_out (and_right (leb (length names) most_names && leb (length (join names)) most_letters) (leb (length (sheet_tokens s)) most_tokens_out) e);
+      few-names = leb-true (length names) most_names (and_parts (leb (length names) most_names) (leb (length (join names)) most_letters) a).0;
+      few-letters = leb-true (length (join names)) most_letters (and_parts (leb (length names) most_names) (leb (length (join names)) most_letters) a).1;
+      few-tokens = leb-true (length (sheet_tokens s)) most_tokens_out (and_parts (leb (length names) most_names && leb (length (join names)) most_letters) (leb (length (sheet_tokens s)) most_tokens_out) e).1;
     }
 
 -- what rewriting makes of a sheet that was read is a tree that the format can say, where it is within the output's limits

@@ -7,6 +7,7 @@ use Prim.Native.Nat.{ℕ, zero, suc, ◌-◌, ◌<◌, ◌≤◌}
 use native.Mathlib.Omega.{arith}
 use lib.Dec.{eqb}
 use lib.ListN.{length, drop, drop_of_length-le}
+use Rattle.std.proofs.lemmas.Bool.{eqb-true}
 use Rattle.definitions.specs.declared.Literal.{Literal}
 use Rattle.definitions.specs.declared.NodeKind.{NodeKind}
 use Rattle.definitions.specs.declared.TypeToken.{TypeToken}
@@ -20,7 +21,7 @@ use Rattle.definitions.specs.Tree.{Ty, TypeDef, Head, Expr, Exprs, Node}
 use Rattle.definitions.specs.Reading.{Got, got, rejected, Reader, after, token, times}
 use Rattle.definitions.specs.Grammar.{most_declared, most_left, most_counted, most_types, most_nodes, deepest_type, deepest_expr, no_array, short_enough, typed, append, counted, name, count, ty, declaration, definition, type_def, kind_at, exprs, fields, constant, form, expr, equation, probe, declarations, node, sheet}
 use Rattle.definitions.specs.Output.{ty_tokens, name_tokens, declared_tokens, counted_tokens, field_tokens, iteration_tokens, form_tokens, expr_tokens, operand_tokens, definition_tokens, equation_tokens, probe_tokens, node_tokens, sheet_tokens}
-use Rattle.shapes.proofs.Facts.{All, all_nil, all_cons, eqb-eq}
+use Rattle.shapes.proofs.Facts.{All, all_nil, all_cons}
 use Rattle.shapes.proofs.Coded.{ProperType, ProperDefinition, ProperExpr}
 use Rattle.shapes.proofs.Decoded.{Maybe, type-decoded, definition-decoded, expr-decoded, kind-decoded}
 use Rattle.shapes.proofs.Gives.{Gives, gives, refuses, gives_after, gives-limited, Stands, stands-nil, ◌then◌, token-gives, tagged-gives, counted-gives, count_gives, high-gives, times-gives, items-gives}
@@ -242,5 +243,5 @@ module _ (M N : ℕ) (small : M ≤ N) (ts : List TagValue) (wide : All (λ k. W
     where
       go : (tys : List TypeDef) (ns : List Node) (p : ℕ) → All (ShapedDefinition N) tys → All (ShapedNode N) ns → Stands ts (sheet_tokens (record { types = tys; nodes = ns })) 0 p → (u : Bool) → eqb p (length ts) ≡ u
           → Gives (λ s q. ShapedBelow N s × (map code_of (sheet_tokens s) ≡ ts)) (choose u (got (record { types = tys; nodes = ns }) p) (rejected (Refusal.Token p)))
-      go tys ns p a b s true e = gives (record { types = a; nodes = b }, sym (append-nil _) ∙ (ap (λ (z : List TagValue). map code_of (sheet_tokens (record { types = tys; nodes = ns })) ++ z) (sym (last p (eqb-eq p (length ts) e))) ∙ s.stand))
+      go tys ns p a b s true e = gives (record { types = a; nodes = b }, sym (append-nil _) ∙ (ap (λ (z : List TagValue). map code_of (sheet_tokens (record { types = tys; nodes = ns })) ++ z) (sym (last p (eqb-true p (length ts) e))) ∙ s.stand))
       go tys ns p a b s false e = refuses

@@ -2,51 +2,30 @@
 use mathlib.Core.Path.{◌≡◌, refl, ap, subst, subst⁻¹}
 use mathlib.Core.Bool.{Bool, true, false}
 use mathlib.Core.List.Memᴰ
-use mathlib.Core.List.{List, [], ◌∷◌, ◌++◌, map, Memᴰ}
+use mathlib.Core.List.{List, [], ◌∷◌, map, Memᴰ}
 use mathlib.Core.Option.{Option, none, some}
 use Prim.Native.Nat.{ℕ, suc, ◌<◌, Ordering}
 use native.Mathlib.Omega.{arith}
 use lib.Dec.{eqb}
 use Rattle.definitions.specs.declared.Test.{Test}
 use Rattle.definitions.specs.declared.Condition.{Condition}
-use Rattle.definitions.specs.Lists.{choose, any, numbered, Letters}
+use Rattle.definitions.specs.Lists.{choose, numbered, Letters}
 use Rattle.definitions.specs.Tree.{Ty, Declared, TypeDef, Expr, Exprs, Equation, Node}
-use Rattle.definitions.specs.Clock.{Clock, base, ◌↓◌, parent, is_on, is_not, same_clock, is_base, chain_order, insert, in_chain_order}
+use Rattle.definitions.specs.Clock.{Clock, base, ◌↓◌, parent, is_on, is_not, is_base, chain_order, insert, in_chain_order}
 use Rattle.definitions.specs.Types.{default}
-use Rattle.definitions.specs.InferClocks.{Fault, not_single_call, pre_untyped, NodeFault, Clocked}
-use Rattle.definitions.specs.Declock.{State, Hold, Rewritten, stopped, done, Rewriter, after, need, stop, add, add_with_parents, Stem, ck, first, hold, flag, first_flag, new_hold, gated, declared, last_type, operand_type, operator_outputs, output_defaults, left_default, left_defaults, call_on, held_pre, pre_on, arrow_on, rewrite, rewrites, gate_several, under_flag, right_side, old_equations, Shape, bare, other, calls, shape_of, true_of, if_of, and_of, not_of, New, condition_expr, flag_of, activation, first_tick, new_locals, with_new}
+use Rattle.definitions.specs.InferClocks.{Fault, not_single_call, pre_untyped, Clocked}
+use Rattle.definitions.specs.Declock.{State, Hold, done, Rewriter, after, need, stop, add_with_parents, Stem, ck, first, hold, flag, first_flag, new_hold, gated, declared, last_type, operand_type, operator_outputs, output_defaults, left_default, left_defaults, call_on, held_pre, pre_on, arrow_on, rewrite, rewrites, gate_several, under_flag, right_side, old_equations, Shape, bare, other, calls, shape_of, true_of, if_of, and_of, not_of, New, condition_expr, flag_of, activation, first_tick, new_locals, with_new}
 use Rattle.shapes.proofs.Facts.{All, all_nil, all_cons, all_app}
+use Rattle.shapes.proofs.Added.{add-all}
+use Rattle.shapes.proofs.Yields.{Yields, stops, yields, yields-after}
 use Rattle.shapes.proofs.Decoded.{Maybe}
 use Rattle.shapes.proofs.ClockNames.{NamedClock, NamedEquation}
 use Rattle.shapes.proofs.Defaults.{default-shape, last_type-shape, operand_type-shape}
 use Rattle.shapes.specs.Shape.{ShapedTy, ShapedDeclared, many, ShapedHead, Shaped, Shapeds, ShapedEquation, ShapedDefinition, ShapedNode}
 
--- Q holds of what a rewriting yields, unless it stops
-pub data Yields {A : Type 0} (Q : A → State → Type 0) : Rewritten A → Type 0 where
-  stops : {f : NodeFault} → Yields Q (stopped f)
-  yields : {a : A} {s : State} → Q a s → Yields Q (done a s)
-
-pub yields-after : {A B : Type 0} {Q : A → State → Type 0} {R : B → State → Type 0} {r : Rewritten A} (f : A → Rewriter B)
-    → Yields Q r → ((a : A) (s : State) → Q a s → Yields R (f a s)) → Yields R (after r f)
-yields-after f stops h = stops
-yields-after f (yields {a} {s} q) h = h a s q
-
-pub yielded : {A : Type 0} {Q : A → State → Type 0} {r : Rewritten A} (a : A) (s : State) → r ≡ done a s → Yields Q r → Q a s
-yielded {Q} a s e y = go (subst (Yields Q) e y)
-  where
-    go : Yields Q (done a s) → Q a s
-    go (yields q) = q
-
 -- clocks that are added, and clocks put in order
 module _ (P : Clock → Type 0) where
-  add-all : (c : Clock) (cs : List Clock) → P c → All P cs → All P (add c cs)
-  add-all c cs h k = go (any (same_clock c) cs)
-    where
-      go : (u : Bool) → All P (choose u cs (cs ++ (c ∷ [])))
-      go true = k
-      go false = all_app P cs (c ∷ []) k (all_cons P c [] h (all_nil P))
-
-  insert_all : (letters : ℕ → Letters) (c : Clock) (cs : List Clock) → P c → All P cs → All P (insert letters c cs)
+  pub insert_all : (letters : ℕ → Letters) (c : Clock) (cs : List Clock) → P c → All P cs → All P (insert letters c cs)
   unfolding insert
   insert_all letters c [] h k = all_cons P c [] h (all_nil P)
   insert_all letters c (d ∷ cs) h k = go (chain_order letters c d) (insert_all letters c cs h (λ x m. k x (Memᴰ.tail m)))
@@ -56,7 +35,7 @@ module _ (P : Clock → Type 0) where
       go Ordering.eq ih = k
       go Ordering.gt ih = all_cons P d (insert letters c cs) (k d (Memᴰ.head refl)) ih
 
-  order-all : (letters : ℕ → Letters) (cs : List Clock) → All P cs → All P (in_chain_order letters cs)
+  pub order-all : (letters : ℕ → Letters) (cs : List Clock) → All P cs → All P (in_chain_order letters cs)
   unfolding in_chain_order
   order-all letters [] k = k
   order-all letters (c ∷ cs) k = insert_all letters c (in_chain_order letters cs) (k c (Memᴰ.head refl)) (order-all letters cs (λ x m. k x (Memᴰ.tail m)))
@@ -71,12 +50,12 @@ module _ (N : ℕ) where
     pub holds : All ShapedHold s.holds
     pub flags : All (NamedClock N) s.flags
 
-  parents-named : (c : Clock) (cs : List Clock) → NamedClock N c → All (NamedClock N) cs → All (NamedClock N) (add_with_parents c cs)
+  pub parents-named : (c : Clock) (cs : List Clock) → NamedClock N c → All (NamedClock N) cs → All (NamedClock N) (add_with_parents c cs)
   unfolding add_with_parents
   parents-named base cs h k = k
   parents-named (c ↓ j) cs h k = add-all (NamedClock N) (c ↓ j) (add_with_parents c cs) h (parents-named c cs h.1 k)
 
-  parent-named : (c : Clock) → NamedClock N c → NamedClock N (parent c)
+  pub parent-named : (c : Clock) → NamedClock N c → NamedClock N (parent c)
   parent-named base h = tt
   parent-named (c ↓ k) h = h.1
 

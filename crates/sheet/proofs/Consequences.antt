@@ -3,15 +3,17 @@
 -- Assumes nothing.
 use Rattle.std.specs.Prelude.{Result, Ok, Err}
 use mathlib.Core.Path.{◌≡◌, refl, sym, ◌∙◌, ap}
-use mathlib.Core.List.{List}
-use Prim.Native.Nat.{ℕ}
+use mathlib.Core.List.Memᴰ
+use mathlib.Core.List.{List, [], ◌∷◌}
+use mathlib.Core.Logic.{⊎_elim}
+use Prim.Native.Nat.{ℕ, suc, ◌≤◌, ◌<◌}
 use native.Mathlib.Omega.{arith}
-use lib.ListN.{take}
+use lib.ListN.{length, get_or, take}
 use Rattle.definitions.specs.declared.Refusal.{Refusal}
 use Rattle.definitions.specs.Lists.{Letters}
 use Rattle.definitions.specs.Tokens.{TagValue}
 use Rattle.definitions.specs.Refusals.{Answer, accepted, refused, faulty, Told, fine, down, told}
-use Rattle.definitions.specs.Bytes.{Parts, T, tokens}
+use Rattle.definitions.specs.Bytes.{Parts, M, T, tokens}
 use Rattle.definitions.specs.Answer.{Input, input}
 use Rattle.definitions.specs.Output.{sheet_bytes, written}
 use Rattle.parts.specs.declared.Sizes.{Sizes}
@@ -22,7 +24,8 @@ use Rattle.parts.specs.Bytes.{AllBelow, Within}
 use Rattle.parts.proofs.RoundTrip.{read_back, write-back}
 use Rattle.shapes.specs.Shape.{Bytes}
 use Rattle.shapes.proofs.Source.{read-written}
-use Rattle.sheet.specs.Answers.{checked_told, sheet_answered, Stands, SheetRead}
+use Rattle.sheet.specs.Answers.{checked_told, sheet_answered, Stands, SheetRead, TokensRead}
+use Rattle.grammar.specs.declared.source.Source.{Source}
 use Rattle.sheet.proofs.Laws.{input-parts}
 
 module _ {b ts vs ts' vs' : List ℕ} {r : Result Sizes Refusal} (z : SheetRead b ts vs ts' vs' r) where
@@ -48,8 +51,8 @@ module _ {b ts vs ts' vs' : List ℕ} {r : Result Sizes Refusal} (z : SheetRead 
     where
       go : (a : Answer Input) → input b ≡ a → Ok s ≡ sheet_answered (told a) b → (i : Input) × (input b ≡ accepted i) × (s ≡ sizes_of b) × Stands b ts' vs' i
       go (accepted i) h k = (i, h, cc, z.stands i h)
-      go (refused t) h k = let q : ◌≡◌ {A = ℕ} 0 1 = cc in absurd (omega arith)
-      go (faulty l) h k = let q : ◌≡◌ {A = ℕ} 0 1 = cc in absurd (omega arith)
+      go (refused t) h k = absurd cc
+      go (faulty l) h k = absurd cc
 
   -- refusals 1 to 4 do not apply to what is accepted
   pub accepted-sized : (s : Sizes) → r ≡ Ok s → Accepted b × (s ≡ sizes_of b)
@@ -89,3 +92,36 @@ reads-back {ts} {vs} {ts'} {vs'} {s} names ks w z =
     let t : s.tokens ≡ T (sheet_bytes names ks) = ap (λ (x : Sizes). x.tokens) a.2 in
     let f = a.3 in
     (a.0, a.1, f.names ∙ sym (ap (λ (x : Parts). x.names) q), rw (t, f.front-tags, f.front-values) (sym (ap (λ (x : Parts). x.tokens) q)))
+
+-- ---- a sheet that is read, and its tokens
+-- what a slice of bytes has is below 256
+pub bytes_below : (l : List ℕ) → ((i : ℕ) → get_or l i 0 < 256) → Bytes l
+bytes_below [] h a m = absurd (Memᴰ.not-nil m)
+bytes_below (b ∷ l) h a m = ⊎_elim (λ e. let z : b < 256 = h 0 in omega arith) (λ t. bytes_below l (λ i. h (suc i)) a t) (Memᴰ.cases_cons m)
+
+module _ {b : List ℕ} {s : Sizes} (a : Accepted b × (s ≡ sizes_of b)) where
+  names-are : s.names ≡ M b
+  names-are = ap (λ (k : Sizes). k.names) a.1
+
+  tokens-are : s.tokens ≡ T b
+  tokens-are = ap (λ (k : Sizes). k.tokens) a.1
+
+  pub few-parts : (s.tokens ≤ 4096) × (s.names ≤ 1024)
+  few-parts = (omega (arith, tokens-are, a.0.sized.many), omega (arith, names-are, a.0.sized.names))
+
+  -- the tokens at the front of the working arrays are the sheet's
+  pub tokens-read : (ts vs : List ℕ) (source : Source) → source.tags.now ≡ take s.tokens ts → source.values.now ≡ take s.tokens vs → source.names ≡ s.names →
+      Bytes b → (i : Input) → input b ≡ accepted i → Stands b ts vs i → TokensRead b source i
+  tokens-read ts vs source et ev en below i h z =
+      let n = en ∙ names-are in
+      let f = et ∙ ap (λ (k : ℕ). take k ts) tokens-are in
+      let g = ev ∙ ap (λ (k : ℕ). take k vs) tokens-are in
+      let m : length source.tags.now ≡ T b = ap length f ∙ z.tags-count in
+      record {
+        are-bytes = below;
+        reading = h;
+        names = z.names;
+        count = n;
+        few = omega (arith, m, z.few-tokens);
+        tree = rw (n, f, g, z.tags-count) z.tree;
+      }

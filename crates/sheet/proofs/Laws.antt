@@ -2,9 +2,9 @@
 -- Assumes nothing.
 use Rattle.std.specs.Prelude.{Result, Ok, Err}
 use mathlib.Core.Path.{◌≡◌, refl, sym, ◌∙◌, ap}
-use mathlib.Core.List.{List, [], ◌∷◌}
+use mathlib.Core.List.{List, []}
 use mathlib.Core.Bool.{Bool, true, false}
-use Prim.Native.Nat.{ℕ, suc, ◌≤◌, ◌<◌}
+use Prim.Native.Nat.{ℕ, ◌≤◌, ◌<◌}
 use native.Mathlib.Omega.{arith}
 use lib.Dec.{eqb}
 use lib.ListN.{length, take}
@@ -19,11 +19,13 @@ use Rattle.definitions.specs.Bytes.{Parts, M, T, lengths, letters, tags, values,
 use Rattle.definitions.specs.Grammar.{sheet}
 use Rattle.definitions.specs.Types.{first_cycle}
 use Rattle.definitions.specs.Answer.{Input, answered, input}
+use Rattle.shapes.proofs.Facts.{over-long, over-there}
 use Rattle.grammar.specs.Outcome.{outcome}
 use Rattle.grammar.proofs.Laws.{next-got, tokens-length}
 use Rattle.grammar.proofs.Laws as grammar-laws
 use Rattle.grammar.proofs.Got.{sheet-got}
 use Rattle.parts.specs.declared.Sizes.{Sizes}
+use Rattle.parts.specs.declared.TokenArrays.{TokenArrays}
 use Rattle.parts.specs.Answers.{parts_of, parts_answer, tags_after, values_after, SizedParts}
 use Rattle.parts.proofs.Laws.{answer-refused, answer-sizes, answer-sized, answer-parts, names-told, tokens-told, lengths-long, tags-long, values-long}
 use Rattle.parts.proofs.Cuts.{cut-count}
@@ -55,7 +57,7 @@ same_test false r a b = refl
 
 passed : {A : Type 0} (t : Bool) (r : Refusal) (a b : A) → (must t r >>= λ _. accepted a) ≡ accepted b → a ≡ b
 passed true r a b e = cc
-passed false r a b e = let z : ◌≡◌ {A = ℕ} 0 1 = cc in absurd (omega arith)
+passed false r a b e = absurd cc
 
 module _ (b : List ℕ) where
   pub told-refused : (r : Refusal) → parts b ≡ refused r → told (input b) ≡ down r
@@ -64,7 +66,7 @@ module _ (b : List ℕ) where
 
   pub not-accepted : (r : Refusal) → parts b ≡ refused r → (i : Input) → input b ≡ accepted i → ⊥
   unfolding input
-  not-accepted r e i h = let f : refused r ≡ accepted i = rw e at h in let z : ◌≡◌ {A = ℕ} 0 1 = cc in omega arith
+  not-accepted r e i h = let f : refused r ≡ accepted i = rw e at h in cc
 
   module _ (p : Parts) (e : parts b ≡ accepted p) where
     pub told-parts : told (input b) ≡ told (tokens_answer (length p.names) p.tokens)
@@ -85,7 +87,7 @@ module _ (b : List ℕ) where
         go : (x : Got Sheet) → sheet (length p.names) p.tokens 0 ≡ x →
             (answered x >>= λ s. must (eqb (first_cycle s.types [] s.types) (length s.types)) (Refusal.Cycle (first_cycle s.types [] s.types)) >>= λ _. accepted (record { names = p.names; sheet = s })) ≡ accepted i →
             (i.names ≡ p.names) × (sheet (length p.names) p.tokens 0 ≡ got i.sheet (length p.tokens))
-        go (rejected r) f k = let z : ◌≡◌ {A = ℕ} 0 1 = cc in absurd (omega arith)
+        go (rejected r) f k = absurd cc
         go (got s q) f k =
             let u = passed (eqb (first_cycle s.types [] s.types) (length s.types)) (Refusal.Cycle (first_cycle s.types [] s.types)) (record { names = p.names; sheet = s }) i k in
             let g : sheet (length p.names) p.tokens 0 ≡ got i.sheet q = f ∙ ap (λ (y : Input). got y.sheet q) u in
@@ -100,23 +102,13 @@ input-parts b i h = go (parts b) refl
     go : (a : Answer Parts) → parts b ≡ a → (p : Parts) × (parts b ≡ accepted p) × (i.names ≡ p.names)
     go (accepted p) e = (p, e, (input-got b p e i h).0)
     go (refused t) e = absurd (not-accepted b t e i h)
-    go (faulty l) e = let f : faulty l ≡ accepted i = rw e at h in let z : ◌≡◌ {A = ℕ} 0 1 = cc in absurd (omega arith)
+    go (faulty l) e = let f : faulty l ≡ accepted i = rw e at h in absurd cc
 
 -- ---- the front of an array
-over-long : (l lent : List ℕ) → length (over l lent) ≡ length lent
-over-long [] lent = refl
-over-long (a ∷ l) [] = refl
-over-long (a ∷ l) (b ∷ lent) = ap suc (over-long l lent)
-
-over-front : (l lent : List ℕ) → length l ≤ length lent → take (length l) (over l lent) ≡ l
-over-front [] lent h = refl
-over-front (a ∷ l) [] h = absurd (omega arith)
-over-front (a ∷ l) (b ∷ lent) h = ap (λ (y : List ℕ). a ∷ y) (over-front l lent (omega arith))
-
 front : (l lent after : List ℕ) (n most : ℕ) → after ≡ over l lent → length l ≡ n → n ≤ most → length after ≡ most → take n after ≡ l
 front l lent after n most e h k m =
     let f : length after ≡ length lent = ap length e ∙ over-long l lent in
-    rw (← h, e) (over-front l lent (omega arith))
+    rw (← h, e) (over-there l lent (omega arith))
 
 -- ---- what `read` finds
 -- a sheet that is refused by 1 to 4
@@ -130,64 +122,73 @@ parts-refused b ts vs ts' vs' r e et ev =
       stands = λ i h. absurd (not-accepted b r f i h);
     }
 
-module _ (b : List ℕ) (s : Sizes) (e : Ok s ≡ parts_answer b) where
+-- where the parts of a sheet are read, they stand in the arrays
+pub record PartsStand (b : List ℕ) (s : Sizes) (lent held : TokenArrays) : Type 0 where
+  pub answer : Ok s ≡ parts_answer b
+  pub tags : held.tags ≡ tags_after (parts b) b lent.tags
+  pub values : held.values ≡ values_after (parts b) b lent.values
+  pub long : (length held.tags ≡ 4096) × (length held.values ≡ 4096)
+
+module _ {b : List ℕ} {s : Sizes} {lent held : TokenArrays} (h : PartsStand b s lent held) where
   sized : SizedParts b s
-  sized = answer-sized b s e
+  sized = answer-sized b s h.answer
+
+  is-accepted : parts b ≡ accepted (parts_of b)
+  is-accepted = answer-parts b s h.answer
 
   pub few : (s.names ≤ 1024) × (s.tokens ≤ 4096)
   few = (omega (arith, names-told b s sized, sized.names), omega (arith, tokens-told b s sized, sized.many))
 
-  module _ (ts vs ts' vs' : List ℕ) (et : ts' ≡ tags_after (parts b) b ts) (ev : vs' ≡ values_after (parts b) b vs) (lt : length ts' ≡ 4096) (lv : length vs' ≡ 4096) where
-    tags-front : take (T b) ts' ≡ tags b
-    tags-front = front (tags b) ts ts' (T b) 4096 (et ∙ ap (λ (a : Answer Parts). tags_after a b ts) (answer-parts b s e)) (tags-long b s sized) (omega (arith, sized.many)) lt
+  tags-front : take (T b) held.tags ≡ tags b
+  tags-front = front (tags b) lent.tags held.tags (T b) 4096 (h.tags ∙ ap (λ (a : Answer Parts). tags_after a b lent.tags) is-accepted) (tags-long b s sized) (omega (arith, sized.many)) h.long.0
 
-    values-front : take (T b) vs' ≡ values b
-    values-front = front (values b) vs vs' (T b) 4096 (ev ∙ ap (λ (a : Answer Parts). values_after a b vs) (answer-parts b s e)) (values-long b s sized) (omega (arith, sized.many)) lv
+  values-front : take (T b) held.values ≡ values b
+  values-front = front (values b) lent.values held.values (T b) 4096 (h.values ∙ ap (λ (a : Answer Parts). values_after a b lent.values) is-accepted) (values-long b s sized) (omega (arith, sized.many)) h.long.1
 
-    names-long : length (cut (lengths b) (letters b)) ≡ M b
-    names-long = cut-count (lengths b) (letters b) ∙ lengths-long b s sized
+  names-long : length (cut (lengths b) (letters b)) ≡ M b
+  names-long = cut-count (lengths b) (letters b) ∙ lengths-long b s sized
 
-    tokens-long : length (tokens (tags b) (values b)) ≡ T b
-    tokens-long = tokens-length (tags b) (values b) (values-long b s sized ∙ sym (tags-long b s sized)) ∙ tags-long b s sized
+  tokens-long : length (tokens (tags b) (values b)) ≡ T b
+  tokens-long = tokens-length (tags b) (values b) (values-long b s sized ∙ sym (tags-long b s sized)) ∙ tags-long b s sized
 
-    stands : (i : Input) → input b ≡ accepted i → Stands b ts' vs' i
+  stands : (i : Input) → input b ≡ accepted i → Stands b held.tags held.values i
+  unfolding parts_of
+  stands i a =
+      let g = input-got b (parts_of b) is-accepted i a in
+      record {
+        few-names = sized.names;
+        few-tokens = sized.many;
+        names = g.0;
+        names-count = ap length g.0 ∙ names-long;
+        front-tags = tags-front;
+        front-values = values-front;
+        tags-count = ap length tags-front ∙ tags-long b s sized;
+        values-count = ap length values-front ∙ values-long b s sized;
+        tree = rw (tags-front, values-front, ← names-long, ← tokens-long) g.1;
+      }
+
+  module _ {names : ℕ} (en : names ≡ s.names) (r : Result Unit Refusal) (er : checked_told r ≡ told (tokens_answer names (tokens (take s.tokens held.tags) (take s.tokens held.values)))) where
+    told_is : told (input b) ≡ checked_told r
     unfolding parts_of
-    stands i h =
-        let g = input-got b (parts_of b) (answer-parts b s e) i h in
-        record {
-          few-names = sized.names;
-          few-tokens = sized.many;
-          names = g.0;
-          names-count = ap length g.0 ∙ names-long;
-          front-tags = tags-front;
-          front-values = values-front;
-          tags-count = ap length tags-front ∙ tags-long b s sized;
-          values-count = ap length values-front ∙ values-long b s sized;
-          tree = rw (tags-front, values-front, ← names-long, ← tokens-long) g.1;
-        }
+    told_is =
+        told-parts b (parts_of b) is-accepted ∙ sym (er ∙ go names (en ∙ names-told b s sized ∙ sym names-long) s.tokens (tokens-told b s sized))
+      where
+        go : (m : ℕ) → m ≡ length (cut (lengths b) (letters b)) → (n : ℕ) → n ≡ T b →
+            told (tokens_answer m (tokens (take n held.tags) (take n held.values))) ≡ told (tokens_answer (length (cut (lengths b) (letters b))) (tokens (tags b) (values b)))
+        go m f n k = rw (f, k, tags-front, values-front)
 
-    module _ (names : ℕ) (en : names ≡ s.names) (r : Result Unit Refusal) (er : checked_told r ≡ told (tokens_answer names (tokens (take s.tokens ts') (take s.tokens vs')))) where
-      told_is : told (input b) ≡ checked_told r
-      unfolding parts_of
-      told_is =
-          told-parts b (parts_of b) (answer-parts b s e) ∙ sym (er ∙ go names (en ∙ names-told b s sized ∙ sym names-long) s.tokens (tokens-told b s sized))
-        where
-          go : (m : ℕ) → m ≡ length (cut (lengths b) (letters b)) → (n : ℕ) → n ≡ T b →
-              told (tokens_answer m (tokens (take n ts') (take n vs'))) ≡ told (tokens_answer (length (cut (lengths b) (letters b))) (tokens (tags b) (values b)))
-          go m f n k = rw (f, k, tags-front, values-front)
+    pub sheet-accepted : r ≡ Ok tt → SheetRead b lent.tags lent.values held.tags held.values (Ok s)
+    sheet-accepted f = record {
+      answer = ap Ok (answer-sizes b s h.answer) ∙ ap (λ (x : Told). sheet_answered x b) (sym (told_is ∙ ap checked_told f));
+      tags = h.tags;
+      values = h.values;
+      stands = stands;
+    }
 
-      pub sheet-accepted : r ≡ Ok tt → SheetRead b ts vs ts' vs' (Ok s)
-      sheet-accepted f = record {
-        answer = ap Ok (answer-sizes b s e) ∙ ap (λ (x : Told). sheet_answered x b) (sym (told_is ∙ ap checked_told f));
-        tags = et;
-        values = ev;
-        stands = stands;
-      }
-
-      pub sheet-refused : (t : Refusal) → r ≡ Err t → SheetRead b ts vs ts' vs' (Err t)
-      sheet-refused t f = record {
-        answer = ap (λ (x : Told). sheet_answered x b) (sym (told_is ∙ ap checked_told f));
-        tags = et;
-        values = ev;
-        stands = stands;
-      }
+    pub sheet-refused : {t : Refusal} → r ≡ Err t → SheetRead b lent.tags lent.values held.tags held.values (Err t)
+    sheet-refused f = record {
+      answer = ap (λ (x : Told). sheet_answered x b) (sym (told_is ∙ ap checked_told f));
+      tags = h.tags;
+      values = h.values;
+      stands = stands;
+    }

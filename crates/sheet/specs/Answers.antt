@@ -12,6 +12,9 @@ use Rattle.definitions.specs.Answer.{Input, answered, input}
 use Rattle.parts.specs.Answers.{sizes_of, tags_after, values_after}
 use Rattle.std.specs.Prelude.{Result, Ok, Err}
 use Rattle.parts.specs.declared.Sizes.{Sizes}
+use Rattle.shapes.specs.Shape.{Bytes}
+use Rattle.grammar.specs.declared.source.Source.{Source}
+use Rattle.grammar.specs.Read.{tokens_of}
 
 -- refusals 5 to 7, of so many names and these tokens: that part of `input`
 unfoldable pub tokens_answer : ℕ → List TagValue → Answer Sheet
@@ -49,3 +52,12 @@ pub record SheetRead (bytes ts vs ts' vs' : List ℕ) (r : Result Sizes Refusal)
   pub tags : ts' ≡ tags_after (parts bytes) bytes ts
   pub values : vs' ≡ values_after (parts bytes) bytes vs
   pub stands : (i : Input) → input bytes ≡ accepted i → Stands bytes ts' vs' i
+
+-- these are the tokens of the sheet i, which these bytes say
+pub record TokensRead (bytes : List ℕ) (source : Source) (i : Input) : Type 0 where
+  pub are-bytes : Bytes bytes
+  pub reading : input bytes ≡ accepted i
+  pub names : i.names ≡ cut (lengths bytes) (letters bytes)
+  pub count : source.names ≡ M bytes
+  pub few : length source.tags.now ≤ 4096
+  pub tree : sheet source.names (tokens_of source) 0 ≡ got i.sheet (length source.tags.now)

@@ -1,21 +1,22 @@
 // A sheet's bytes are read: refusals 1 to 7, in checking order, of document 01, or its tokens stand in the working arrays.
 #![tactic(auto)]
 
-ghost use Rattle.std.specs.Prelude.{◌≡◌, ℕ, ◌≤◌, ◌<◌, take};
+ghost use Rattle.std.specs.Prelude.{◌≡◌, ℕ, ◌≤◌, ◌<◌, take, IfOk, IfErr};
 ghost use Rattle.definitions.specs.Bytes.{tokens};
 ghost use Rattle.grammar.specs.Read.{tokens_of};
 ghost use Rattle.definitions.specs.Lists.{any};
 ghost use Rattle.definitions.specs.Tree.{Sheet};
 ghost use Rattle.definitions.specs.Reading.{got};
 ghost use Rattle.definitions.specs.Grammar.{node, sheet};
-ghost use Rattle.definitions.specs.Refusals.{told};
+ghost use Rattle.definitions.specs.Refusals.{down, told};
 ghost use Rattle.definitions.specs.InferClocks.{uses_clocks};
-ghost use Rattle.sheet.specs.Answers.{tokens_answer, checked_told, SheetRead};
+ghost use Rattle.sheet.specs.Answers.{tokens_answer, checked_told, SheetRead, TokensRead};
+ghost use Rattle.definitions.specs.Answer.{Input, input};
 
 use cycles::TypeTable;
 use definitions::Refusal;
 use grammar::Source;
-use parts::{Sizes, TokenArrays};
+use parts::{AcceptedSheet, SheetParts, Sizes, TokenArrays};
 
 // Refusal 7, of a sheet that 5 and 6 do not refuse.
 fn check_types(source: &Source<'_>) -> Result<(), Refusal>
@@ -41,7 +42,7 @@ fn check_tokens(source: &Source<'_>) -> Result<(), Refusal>
 }
 
 // The tokens of a sheet of these sizes, which stand at the front of the working arrays.
-pub fn source_of(tokens: &TokenArrays, sizes: Sizes) -> Source<'_>
+fn source_of(tokens: &TokenArrays, sizes: Sizes) -> Source<'_>
     requires { (sizes.tokens ≤ 4096) × (sizes.names ≤ 1024) }
     ensures tags { result.tags.now ≡ take sizes.tokens tokens.now.tags }
     ensures values { result.values.now ≡ take sizes.tokens tokens.now.values }
@@ -61,6 +62,28 @@ pub fn read(sheet: &[u8], into: &mut TokenArrays) -> Result<Sizes, Refusal>
     let sizes = parts::read_parts(sheet, into)?;
     check_tokens(&source_of(into, sizes))?;
     Ok(sizes)
+}
+
+// A sheet that is read, and its tokens.
+#[derive(Clone, Copy)]
+pub struct ReadSheet<'a> {
+    pub sheet: AcceptedSheet<'a>,
+    pub source: Source<'a>,
+}
+
+// The same as a sheet and its tokens, or refusals 1 to 7.
+pub fn read_sheet<'a>(
+    bytes: &'a [u8],
+    tokens: &'a mut TokenArrays,
+) -> Result<ReadSheet<'a>, Refusal>
+    ensures refused { IfErr result (λ r. told (input bytes.now) ≡ down r) }
+    ensures read { IfOk result (λ read. (read.sheet.parts.bytes.now ≡ bytes.now) × (i : Input) × TokensRead bytes.now read.source i) }
+{
+    let sizes = read(bytes, tokens)?;
+    let source = source_of(tokens, sizes);
+    let parts = SheetParts { bytes, sizes };
+    let sheet = AcceptedSheet { parts };
+    Ok(ReadSheet { sheet, source })
 }
 
 // Does a node of a sheet that was read use clocks?

@@ -2,7 +2,7 @@
 -- Assumes nothing.
 use mathlib.Core.Path.{◌≡◌, refl, sym, ◌∙◌, ap, ap₂, subst}
 use mathlib.Core.List.{List, [], ◌∷◌}
-use mathlib.Core.Bool.{Bool, true, false}
+use mathlib.Core.Bool.{Bool, true, false, true≢false}
 use mathlib.Core.Option.{none, some}
 use Prim.Native.Nat.{ℕ, zero, suc, ◌+◌, ◌-◌, ◌≤◌, ◌<◌}
 use native.Mathlib.Omega.{arith}
@@ -19,7 +19,7 @@ use Rattle.stateless.specs.Need.{is_bare}
 use Rattle.skeleton.specs.Lies.{Frame, hole, is_plain, code_at, parts_at, Framed, Formed, Lies, LiesAt}
 
 -- parts, then others
-pub owed-then : {gs vs : List ℕ} {p a r b q : ℕ} → Owed gs vs p a r → Owed gs vs r b q → Owed gs vs p (a + b) q
+owed-then : {gs vs : List ℕ} {p a r b q : ℕ} → Owed gs vs p a r → Owed gs vs r b q → Owed gs vs p (a + b) q
 owed-then {gs} {vs} {p} {a} {r} {b} {q} paid o = subst (λ (n : ℕ). Owed gs vs p n q) (omega arith) o
 owed-then {gs} {vs} {p} {a} {r} {b} {q} (owes {n = n} l h) o =
     subst (λ (m : ℕ). Owed gs vs p m q) (omega arith) (owes {n = n + b} l (subst (λ (m : ℕ). Owed gs vs (p + 1) m q) (omega arith) (owed-then h o)))
@@ -36,7 +36,7 @@ tag_of : (gs vs : List ℕ) (p tag v : ℕ) → code_at gs vs p ≡ tag_value ta
 tag_of gs vs p tag v i = ap (λ (z : TagValue). z.tag) i
 
 pub plain-not : (t k : ℕ) → is_plain t ≡ true → t ≡ k → is_plain k ≡ false → ⊥
-plain-not t k a e b = let z : ◌≡◌ {A = Bool} true false = sym a ∙ (ap is_plain e ∙ b) in let y : ◌≡◌ {A = ℕ} 0 1 = cc in omega arith
+plain-not t k a e b = true≢false (sym a ∙ (ap is_plain e ∙ b))
 
 -- an expression's first token
 plain-high : (t : ℕ) → is_plain t ≡ true → t < 50 → ⊥
@@ -98,7 +98,7 @@ pub record First (gs vs : List ℕ) (S : Clock → Expr → ℕ → ℕ → Type
   pub rest : Lies gs vs S c others frame end k q
 
 module _ {gs vs : List ℕ} {S : Clock → Expr → ℕ → ℕ → Type 0} where
-  fewer : {c : Clock} {es : Exprs} {fs : Frame} {p k m q : ℕ} → k ≡ m → Lies gs vs S c es fs p k q → Lies gs vs S c es fs p m q
+  pub fewer : {c : Clock} {es : Exprs} {fs : Frame} {p k m q : ℕ} → k ≡ m → Lies gs vs S c es fs p k q → Lies gs vs S c es fs p m q
   fewer {c} {es} {fs} {p} {k} {m} {q} i h = subst (λ (z : ℕ). Lies gs vs S c es fs p z q) i h
 
   -- a token that stays before the others
@@ -137,8 +137,7 @@ module _ {gs vs : List ℕ} {S : Clock → Expr → ℕ → ℕ → Type 0} wher
       go : (b : Bool) → ltb (get_or gs p 0) 50 ≡ b → (p < length gs) × S c e p q × Seen gs vs S c e p q
       go true t =
           let x = sign-first h (omega arith) (ltb-true (get_or gs p 0) 50 t) in
-          let z : ◌≡◌ {A = ℕ} 0 1 = cc x.1 in
-          absurd (omega arith)
+          absurd (cc x.1)
       go false t =
           let x = expr-first h (omega arith) (ltb-false (get_or gs p 0) 50 t) in
           let a : x.first ≡ e = cc x.whole in
@@ -156,15 +155,19 @@ bare-is (Seen.calls f us ds i t k g d) = rw (i, t)
 bare-is {gs} {p = p} (Seen.sample x a i lo hi d) = rw i (sym (ne_eqb (get_or gs p 0) 54 (λ z. omega arith)))
 bare-is (Seen.join x a b r i t k d f) = rw (i, t)
 
+-- neither of a when's tags
+pub no-sample : (t : ℕ) → (t ≡ 67 → ⊥) → (t ≡ 68 → ⊥) → 67 ≤ t → t < 69 → ⊥
+no-sample t a b lo hi = two (t - 67) refl
+  where
+    two : (d : ℕ) → t - 67 ≡ d → ⊥
+    two zero z = a (omega arith)
+    two (suc zero) z = b (omega arith)
+    two (suc (suc d)) z = omega arith
+
 -- a when's tag
 not-sample : (t : ℕ) → is_plain t ≡ true → 67 ≤ t → t < 69 → ⊥
 unfolding is_plain
-not-sample t a lo hi = go (t - 67) refl
-  where
-    go : (d : ℕ) → t - 67 ≡ d → ⊥
-    go zero z = plain-not t 67 a (omega arith) refl
-    go (suc zero) z = plain-not t 68 a (omega arith) refl
-    go (suc (suc d)) z = omega arith
+not-sample t a = no-sample t (λ e. plain-not t 67 a e refl) (λ e. plain-not t 68 a e refl)
 
 -- by its tag
 module _ {gs vs : List ℕ} {S : Clock → Expr → ℕ → ℕ → Type 0} {c : Clock} {e : Expr} {p q : ℕ} where
@@ -212,15 +215,6 @@ seen-cons b s (Seen.follow a f m i t u d g) h = rw i (Lies.follow b (rw i at s) 
 seen-cons {gs} {vs} {S} {c} {p = p} {r = r} b s (Seen.calls f us ds i t u g d) h = rw i (Lies.calls b (rw i at s) u (rw i at g) (subst (λ (n : ℕ). Lies gs vs S c us ds (p + 1) n r) (parts-of gs vs p 60 f 1 u refl) d) h)
 seen-cons b s (Seen.sample x a i lo hi d) h = rw i (Lies.sample b (rw i at s) lo hi d h)
 seen-cons b s (Seen.join x a f m i t u d g) h = rw i (Lies.join b (rw i at s) (ap₂ tag_value t u) d g h)
-
--- neither of a when's tags
-no-sample : (t : ℕ) → (t ≡ 67 → ⊥) → (t ≡ 68 → ⊥) → 67 ≤ t → t < 69 → ⊥
-no-sample t a b lo hi = two (t - 67) refl
-  where
-    two : (d : ℕ) → t - 67 ≡ d → ⊥
-    two zero z = a (omega arith)
-    two (suc zero) z = b (omega arith)
-    two (suc (suc d)) z = omega arith
 
 -- a call and a form that computes, by their tags
 module _ {gs vs : List ℕ} {S : Clock → Expr → ℕ → ℕ → Type 0} {c : Clock} {e : Expr} {p q : ℕ} where

@@ -1,7 +1,7 @@
 -- An expression that was read lies among the tokens part by part.
 -- Assumes nothing.
 use mathlib.Core.Path.{◌≡◌, refl, sym, ◌∙◌, ap, ap₂, subst}
-use mathlib.Core.List.{List, [], ◌∷◌, ◌++◌, map, append-nil}
+use mathlib.Core.List.{List, [], ◌∷◌, ◌++◌, map, append_assoc, append-nil}
 use mathlib.Core.Option.{none, some}
 use mathlib.Core.Bool.{true, false}
 use Prim.Native.Nat.{ℕ, zero, suc, ◌+◌, ◌≤◌, ◌<◌}
@@ -9,7 +9,8 @@ use native.Mathlib.Omega.{arith}
 use native.Mathlib.Numerals.{sub-one}
 use lib.Dec.{eqb}
 use lib.ListN.{length, get_or, take, drop, length-map, length-drop}
-use Rattle.std.proofs.lemmas.List.{map-append}
+use lib.Seq.{take-length}
+use Rattle.std.proofs.lemmas.List.{map-append, take-map, drop-map}
 use Rattle.definitions.specs.declared.Literal.{Literal}
 use Rattle.definitions.specs.declared.Primitive.{Primitive}
 use Rattle.definitions.specs.declared.TypeToken.{TypeToken}
@@ -38,6 +39,7 @@ use Rattle.stateless.specs.Need.{is_bare}
 use Rattle.skeleton.specs.Around.{around}
 use Rattle.skeleton.specs.Lies.{Frame, weave, is_plain, Computes, Lies, LiesAt}
 use Rattle.skeleton.proofs.Codes.{codes-join, type-decoded, expr-decoded}
+use Rattle.skeleton.proofs.Laws.{fewer}
 
 -- ---- frames
 holes : ℕ → Frame → Frame
@@ -56,46 +58,26 @@ weave-holes : (n : ℕ) (fs : Frame) (qs : List (List TagValue)) → n ≤ lengt
 unfolding weave holes
 weave-holes zero fs qs h = refl
 weave-holes (suc n) fs [] h = absurd (omega arith)
-weave-holes (suc n) fs (q ∷ qs) h = rw (weave-holes n fs qs (omega arith)) (sym (assoc q (join (take n qs)) (weave fs (drop n qs))))
-  where
-    assoc : (a b c : List TagValue) → (a ++ b) ++ c ≡ a ++ (b ++ c)
-    assoc [] b c = refl
-    assoc (x ∷ a) b c = ap {B = List TagValue} (λ z. x ∷ z) (assoc a b c)
+weave-holes (suc n) fs (q ∷ qs) h = rw (weave-holes n fs qs (omega arith)) (sym (append_assoc q (join (take n qs)) (weave fs (drop n qs))))
 
 weave-signs : (l : List TagValue) (fs : Frame) (qs : List (List TagValue)) → weave (signs l fs) qs ≡ l ++ weave fs qs
 unfolding weave signs
 weave-signs [] fs qs = refl
 weave-signs (t ∷ l) fs qs = ap {B = List TagValue} (λ z. t ∷ z) (weave-signs l fs qs)
 
-take_all : (n : ℕ) (qs : List (List TagValue)) → length qs ≡ n → (take n qs ≡ qs) × (drop n qs ≡ [])
-take_all zero [] h = (refl, refl)
-take_all zero (q ∷ qs) h = absurd (omega arith)
-take_all (suc n) [] h = absurd (omega arith)
-take_all (suc n) (q ∷ qs) h = let r = take_all n qs (omega arith) in (ap (λ (z : List (List TagValue)). q ∷ z) r.0, r.1)
-
 -- so many operands with nothing between them
 items-law : (n : ℕ) (ps : List (List Token)) → length ps ≡ n → weave (holes n []) (map (map code_of) ps) ≡ map code_of (join ps)
 unfolding weave
 items-law n ps h =
     let l = length-map ps (map code_of) in
-    let t = take_all n (map (map code_of) ps) (omega arith) in
-    weave-holes n [] (map (map code_of) ps) (omega arith) ∙ rw t.0 (append-nil (join (map (map code_of) ps)) ∙ sym (codes-join ps))
+    let e : n ≡ length (map (map code_of) ps) = omega arith in
+    weave-holes n [] (map (map code_of) ps) (omega arith) ∙ rw (e, take-length (map (map code_of) ps)) (append-nil (join (map (map code_of) ps)) ∙ sym (codes-join ps))
 
 fields-law : (xs : List ℕ) (ps : List (List Token)) → length ps ≡ length xs → weave (named xs) (map (map code_of) ps) ≡ map code_of (field_tokens xs ps)
 unfolding weave named field_tokens code_of
 fields-law [] ps h = refl
 fields-law (x ∷ xs) [] h = absurd (omega arith)
 fields-law (x ∷ xs) (p ∷ ps) h = ap {B = List TagValue} (λ z. tag_value 4 x ∷ z) (ap {B = List TagValue} (λ z. map code_of p ++ z) (fields-law xs ps (omega arith)) ∙ sym (map-append code_of p (field_tokens xs ps)))
-
-map-take : (k : ℕ) (ps : List (List Token)) → take k (map (map code_of) ps) ≡ map (map code_of) (take k ps)
-map-take zero ps = refl
-map-take (suc k) [] = refl
-map-take (suc k) (p ∷ ps) = ap (λ (z : List (List TagValue)). map code_of p ∷ z) (map-take k ps)
-
-map-drop : (k : ℕ) (ps : List (List Token)) → drop k (map (map code_of) ps) ≡ map (map code_of) (drop k ps)
-map-drop zero ps = refl
-map-drop (suc k) [] = refl
-map-drop (suc k) (p ∷ ps) = map-drop k ps
 
 iteration-law : (k n : ℕ) (ps : List (List Token)) → length ps ≡ k + n → tag_value 3 k ∷ weave (holes k (some (tag_value 3 n) ∷ holes n [])) (map (map code_of) ps) ≡ map code_of (iteration_tokens k ps)
 unfolding weave code_of
@@ -105,7 +87,7 @@ iteration-law k n ps h =
     let e : length (drop k ps) ≡ n = omega arith in
     ap {B = List TagValue} (λ z. tag_value 3 k ∷ z)
     (weave-holes k (some (tag_value 3 n) ∷ holes n []) (map (map code_of) ps) (omega arith)
-    ∙ (rw (map-take k ps, map-drop k ps, items-law n (drop k ps) e, ← codes-join (take k ps), e)
+    ∙ (rw (take-map (map code_of) k ps, drop-map (map code_of) k ps, items-law n (drop k ps) e, ← codes-join (take k ps), e)
     (sym (map-append code_of (join (take k ps)) (Token.Count n ∷ join (drop k ps))))))
 
 -- a count and so many operands
@@ -145,9 +127,6 @@ type-low (TypeToken.Named x) = omega arith
 
 -- ---- readings, S holding of whatever is read
 module _ (gs vs : List ℕ) (same : length vs ≡ length gs) (M : ℕ) (S : Clock → Expr → ℕ → ℕ → Type 0) (always : (c : Clock) (e : Expr) (p q : ℕ) → tree M (tokens gs vs) p ≡ got e q → S c e p q) where
-  change : {c : Clock} {es : Exprs} {fs : Frame} {p k l q : ℕ} → k ≡ l → Lies gs vs S c es fs p k q → Lies gs vs S c es fs p l q
-  change {c} {es} {fs} {p} {k} {l} {q} e h = subst (λ (n : ℕ). Lies gs vs S c es fs p n q) e h
-
   -- a token that is no expression's first
   sign-lies : (p r : ℕ) (t : TagValue) (n : ℕ) → p < length gs → r ≡ p + 1 → tag_value (get_or gs p 0) (get_or vs p 0) ≡ t → t.tag < 50 → follows t.tag t.value ≡ n →
       (c : Clock) (es : Exprs) (fs : Frame) (k q : ℕ) → Lies gs vs S c es fs r (n + k) q → Lies gs vs S c es (some t ∷ fs) p (suc k) q
@@ -156,7 +135,7 @@ module _ (gs vs : List ℕ) (same : length vs ≡ length gs) (M : ℕ) (S : Cloc
       let v : get_or vs p 0 ≡ t.value = ap (λ (z : TagValue). z.value) j in
       let h : follows (get_or gs p 0) (get_or vs p 0) ≡ n = ap₂ follows g v ∙ f in
       subst (λ (z : TagValue). Lies gs vs S c es (some z ∷ fs) p (suc k) q) j
-      (Lies.sign b (omega arith) (change (omega arith) (subst (λ (x : ℕ). Lies gs vs S c es fs x (n + k) q) i d)))
+      (Lies.sign b (omega arith) (fewer (omega arith) (subst (λ (x : ℕ). Lies gs vs S c es fs x (n + k) q) i d)))
 
   count-lies : (low most p n r : ℕ) → counted 3 low most (tokens gs vs) p ≡ got n r → (c : Clock) (es : Exprs) (fs : Frame) (k q : ℕ) → Lies gs vs S c es fs r (n + k) q → Lies gs vs S c es (some (tag_value 3 n) ∷ fs) p (suc k) q
   unfolding follows
@@ -194,7 +173,7 @@ module _ (gs vs : List ℕ) (same : length vs ≡ length gs) (M : ℕ) (S : Cloc
         (said (λ x. (follows (get_or gs p 0) (get_or vs p 0) ≡ of-type x) × (mark_of nowhere (get_or gs p 0) (get_or vs p 0) ≡ none)) _ t (type-tags nowhere M (get_or gs p 0) (get_or vs p 0)) v.0).0,
       )
 
-  pub expr-token : (p : ℕ) (t : ExprToken) (r : ℕ) → token (expr_token_of M) (tokens gs vs) p ≡ got t r → (p < length gs) × (r ≡ p + 1) × (tag_value (get_or gs p 0) (get_or vs p 0) ≡ code_of (Token.Expression t)) × (follows (get_or gs p 0) (get_or vs p 0) ≡ of-expr t)
+  expr-token : (p : ℕ) (t : ExprToken) (r : ℕ) → token (expr_token_of M) (tokens gs vs) p ≡ got t r → (p < length gs) × (r ≡ p + 1) × (tag_value (get_or gs p 0) (get_or vs p 0) ≡ code_of (Token.Expression t)) × (follows (get_or gs p 0) (get_or vs p 0) ≡ of-expr t)
   expr-token p t r g =
       let w = token-got (expr_token_of M) (tokens gs vs) p t r g in
       let b : p < length gs = omega (arith, w.1, tokens-length gs vs same) in
@@ -218,12 +197,12 @@ module _ (gs vs : List ℕ) (same : length vs ≡ length gs) (M : ℕ) (S : Cloc
   typed-lies : (t : TypeToken) (R : Reader Ty) → TypeLies R → (p : ℕ) (a : Ty) (r : ℕ) → token (type_token_of M) (tokens gs vs) p ≡ got t (p + 1) → typed t R (tokens gs vs) (p + 1) ≡ got a r →
       (c : Clock) (es : Exprs) (fs : Frame) (k q : ℕ) → Lies gs vs S c es fs r k q → Lies gs vs S c es (signs (map code_of (ty_tokens a)) fs) p (suc k) q
   unfolding signs ty_tokens
-  typed-lies (TypeToken.Basic b) R h p a r g i c es fs k q d = let x : a ≡ Ty.primitive b = cc in let y : r ≡ p + 1 = cc in rw x (type-sign p (TypeToken.Basic b) g c es fs k q (change (omega arith) (rw y at d)))
-  typed-lies (TypeToken.Array n) R h p a r g i c es fs k q d = let x = wrap-got (R (tokens gs vs) (p + 1)) (Ty.array n) a r i in rw x.2 (type-sign p (TypeToken.Array n) g c es (signs (map code_of (ty_tokens x.0)) fs) k q (change (omega arith) (h.lie (p + 1) x.0 r x.1 c es fs k q d)))
-  typed-lies (TypeToken.Named n) R h p a r g i c es fs k q d = let x : a ≡ Ty.named n = cc in let y : r ≡ p + 1 = cc in rw x (type-sign p (TypeToken.Named n) g c es fs k q (change (omega arith) (rw y at d)))
+  typed-lies (TypeToken.Basic b) R h p a r g i c es fs k q d = let x : a ≡ Ty.primitive b = cc in let y : r ≡ p + 1 = cc in rw x (type-sign p (TypeToken.Basic b) g c es fs k q (fewer (omega arith) (rw y at d)))
+  typed-lies (TypeToken.Array n) R h p a r g i c es fs k q d = let x = wrap-got (R (tokens gs vs) (p + 1)) (Ty.array n) a r i in rw x.2 (type-sign p (TypeToken.Array n) g c es (signs (map code_of (ty_tokens x.0)) fs) k q (fewer (omega arith) (h.lie (p + 1) x.0 r x.1 c es fs k q d)))
+  typed-lies (TypeToken.Named n) R h p a r g i c es fs k q d = let x : a ≡ Ty.named n = cc in let y : r ≡ p + 1 = cc in rw x (type-sign p (TypeToken.Named n) g c es fs k q (fewer (omega arith) (rw y at d)))
 
   no-types : TypeLies (λ ts p. rejected (Refusal.Limit p))
-  no-types = record { lie = λ p a r g. let z : ◌≡◌ {A = ℕ} 0 1 = cc in absurd (omega arith) }
+  no-types = record { lie = λ p a r g. absurd cc }
 
   type-lies : (d : ℕ) → TypeLies (ty M d)
   unfolding ty
@@ -256,16 +235,16 @@ module _ (gs vs : List ℕ) (same : length vs ≡ length gs) (M : ℕ) (S : Cloc
       let j : get_or gs p 0 ≡ (code_of (Token.Expression t)).tag = ap (λ (z : TagValue). z.tag) w.2 in
       rw i (Lies.computed w.0 (always c x p r (rw i at T))
       (record { plain = ap is_plain j ∙ a; named = b ∙ ap (λ (z : ℕ). eqb z 54) (sym j); computes = u; framed = λ ps l. f ps l ∙ ap (λ (z : TagValue). z ∷ weave ds (map (map code_of) ps)) (sym w.2) })
-      (change (o ∙ sym w.3) d) h)
+      (fewer (o ∙ sym w.3) d) h)
 
   module _ (R : Reader Expr) (h : Lays R) where
     exprs-lie : (n p : ℕ) (us : Exprs) (r : ℕ) → exprs n R (tokens gs vs) p ≡ got us r → (c : Clock) (es : Exprs) (fs : Frame) (k q : ℕ) → Lies gs vs S c es fs r k q → Lies gs vs S c (append us es) (holes n fs) p (n + k) q
     unfolding exprs holes
-    exprs-lie zero p us r g c es fs k q d = let x : us ≡ Exprs.end = cc in let y : r ≡ p = cc in rw x (change (omega arith) (rw y at d))
+    exprs-lie zero p us r g c es fs k q d = let x : us ≡ Exprs.end = cc in let y : r ≡ p = cc in rw x (fewer (omega arith) (rw y at d))
     exprs-lie (suc n) p us r g c es fs k q d =
         let a = after-got (R (tokens gs vs) p) _ us r g in
         let b = wrap-got (exprs n R (tokens gs vs) a.1) _ us r a.3 in
-        rw b.2 (change (omega arith) (h.lay p a.0 a.1 a.2 c (append b.0 es) (holes n fs) (n + k) q (exprs-lie n a.1 b.0 r b.1 c es fs k q d)))
+        rw b.2 (fewer (omega arith) (h.lay p a.0 a.1 a.2 c (append b.0 es) (holes n fs) (n + k) q (exprs-lie n a.1 b.0 r b.1 c es fs k q d)))
 
     exprs-many : (n p : ℕ) (us : Exprs) (r : ℕ) → exprs n R (tokens gs vs) p ≡ got us r → many us ≡ n
     unfolding exprs
@@ -277,7 +256,7 @@ module _ (gs vs : List ℕ) (same : length vs ≡ length gs) (M : ℕ) (S : Cloc
 
     -- and nothing after them
     all_lie : (n p : ℕ) (us : Exprs) (r : ℕ) → exprs n R (tokens gs vs) p ≡ got us r → (c : Clock) → Lies gs vs S c us (holes n []) p n r
-    all_lie n p us r g c = subst (λ (z : Exprs). Lies gs vs S c z (holes n []) p n r) (append-end us) (change (omega arith) (exprs-lie n p us r g c Exprs.end [] 0 r Lies.done))
+    all_lie n p us r g c = subst (λ (z : Exprs). Lies gs vs S c z (holes n []) p n r) (append-end us) (fewer (omega arith) (exprs-lie n p us r g c Exprs.end [] 0 r Lies.done))
 
     fields_lie : (n p : ℕ) (x : List ℕ × Exprs) (r : ℕ) → fields M n R (tokens gs vs) p ≡ got x r → (c : Clock) → Lies gs vs S c x.1 (named x.0) p n r
     unfolding fields named
@@ -286,7 +265,7 @@ module _ (gs vs : List ℕ) (same : length vs ≡ length gs) (M : ℕ) (S : Cloc
         let s = after-got (name M (tokens gs vs) p) _ x r g in
         let a = after-got (R (tokens gs vs) s.1) _ x r s.3 in
         let b = wrap-got (fields M n R (tokens gs vs) a.1) _ x r a.3 in
-        rw b.2 (name-lies M p s.0 s.1 s.2 c (Exprs.and a.0 b.0.1) (none ∷ named b.0.0) n r (change {es = Exprs.and a.0 b.0.1} {fs = none ∷ named b.0.0} (omega arith) (h.lay s.1 a.0 a.1 a.2 c b.0.1 (named b.0.0) n r (fields_lie n a.1 b.0 r b.1 c))))
+        rw b.2 (name-lies M p s.0 s.1 s.2 c (Exprs.and a.0 b.0.1) (none ∷ named b.0.0) n r (fewer {es = Exprs.and a.0 b.0.1} {fs = none ∷ named b.0.0} (omega arith) (h.lay s.1 a.0 a.1 a.2 c b.0.1 (named b.0.0) n r (fields_lie n a.1 b.0 r b.1 c))))
 
     fields-many : (n p : ℕ) (x : List ℕ × Exprs) (r : ℕ) → fields M n R (tokens gs vs) p ≡ got x r → (length x.0 ≡ n) × (many x.1 ≡ n)
     unfolding fields
@@ -300,7 +279,7 @@ module _ (gs vs : List ℕ) (same : length vs ≡ length gs) (M : ℕ) (S : Cloc
 
     counted-all : (p n s : ℕ) (us : Exprs) (r : ℕ) → count most_counted (tokens gs vs) p ≡ got n s → exprs n R (tokens gs vs) s ≡ got us r → (c : Clock) → Lies gs vs S c us (some (tag_value 3 n) ∷ holes n []) p 1 r
     unfolding count
-    counted-all p n s us r y x c = count-lies 0 most_counted p n s y c us (holes n []) 0 r (change (omega arith) (all_lie n s us r x c))
+    counted-all p n s us r y x c = count-lies 0 most_counted p n s y c us (holes n []) 0 r (fewer (omega arith) (all_lie n s us r x c))
 
     -- forms, by what stands before and between their operands
     module _ (p : ℕ) (t : ExprToken) (g : token (expr_token_of M) (tokens gs vs) p ≡ got t (p + 1)) (a : is_plain (code_of (Token.Expression t)).tag ≡ true) (b : false ≡ eqb (code_of (Token.Expression t)).tag 54) (e : Expr) (r : ℕ) (T : tree M (tokens gs vs) p ≡ got e r) (c : Clock) (es : Exprs) (fs : Frame) (k q : ℕ) (d : Lies gs vs S c es fs r k q) where
@@ -324,11 +303,11 @@ module _ (gs vs : List ℕ) (same : length vs ≡ length gs) (M : ℕ) (S : Cloc
       starting H f o m s u v n w us x y z j i =
           plain p t g e (Expr.op (H m) (append u us)) (append u us) (some (tag_value 3 m) ∷ holes m (some (tag_value 3 n) ∷ holes n [])) 2 r i a b Computes.computing
           (λ ps l. ap (map code_of) (f m ps) ∙ ap {B = List TagValue} (λ z. code_of (Token.Expression t) ∷ z) (sym (iteration-law m n ps (omega (arith, l, many-append u us, exprs-many m s u v y, exprs-many n w us r j))))) o
-          T c (count-lies 0 1 (p + 1) m s x c (append u us) _ 1 r (exprs-lie m s u v y c us _ 1 r (count-lies 0 most_counted v n w z c us (holes n []) 0 r (change (omega arith) (all_lie n w us r j c))))) es fs k q d
+          T c (count-lies 0 1 (p + 1) m s x c (append u us) _ 1 r (exprs-lie m s u v y c us _ 1 r (count-lies 0 most_counted v n w z c us (holes n []) 0 r (fewer (omega arith) (all_lie n w us r j c))))) es fs k q d
 
     fields-all : (p n s : ℕ) (x : List ℕ × Exprs) (r : ℕ) → count most_counted (tokens gs vs) p ≡ got n s → fields M n R (tokens gs vs) s ≡ got x r → (c : Clock) → Lies gs vs S c x.1 (some (tag_value 3 n) ∷ named x.0) p 1 r
     unfolding count
-    fields-all p n s x r y g c = count-lies 0 most_counted p n s y c x.1 (named x.0) 0 r (change (omega arith) (fields_lie n s x r g c))
+    fields-all p n s x r y g c = count-lies 0 most_counted p n s y c x.1 (named x.0) 0 r (fewer (omega arith) (fields_lie n s x r g c))
 
     -- what follows a first token
     head-lies : (p : ℕ) (t : ExprToken) → token (expr_token_of M) (tokens gs vs) p ≡ got t (p + 1) → (e : Expr) (r : ℕ) → form M t R (tokens gs vs) (p + 1) ≡ got e r →

@@ -16,25 +16,21 @@ use Rattle.std.specs.Option.{MatchOption, unwrap_or}
 use Rattle.definitions.specs.Tree.{Node}
 use Rattle.definitions.specs.Declock.{Stem}
 use Rattle.definitions.specs.Output.{stem_letters, new_letters}
+use Rattle.std.proofs.lemmas.List.{length-map}
+use Rattle.shapes.proofs.Facts.{letters-eq}
 use Rattle.spelling.proofs.Stems.{new-same}
+use Rattle.spelling.specs.declared.StemName.{StemName}
+use Rattle.spelling.specs.declared.TakenNames.{TakenNames}
+use Rattle.spelling.specs.Stems.{stem_of}
+use Rattle.spelling.specs.Places.{letters_in}
 use Rattle.spelling.specs.Free.{is_free, seek, next_free, free_below, new_number, new_numbers, taken_of}
 
 -- ---- tests and lists
-same-letters : (x y : Letters) → same_letters x y ≡ true → x ≡ y
-same-letters [] [] e = refl
-same-letters [] (b ∷ y) e = absurd (let z : ◌≡◌ {A = ℕ} 0 1 = cc in omega arith)
-same-letters (a ∷ x) [] e = absurd (let z : ◌≡◌ {A = ℕ} 0 1 = cc in omega arith)
-same-letters (a ∷ x) (b ∷ y) e = go (eqb a b) refl e (same-letters x y)
-  where
-    go : (t : Bool) → eqb a b ≡ t → elim t [ true ↦ same_letters x y | false ↦ false ] ≡ true → (same_letters x y ≡ true → x ≡ y) → a ∷ x ≡ b ∷ y
-    go true f g h = let p : a ≡ b = eqb-true a b f in let q : x ≡ y = h g in cc
-    go false f g h = absurd (let z : ◌≡◌ {A = ℕ} 0 1 = cc in omega arith)
-
-up-add : (k m n : ℕ) → up_from k (m + n) ≡ up_from k m ++ up_from (k + m) n
+pub up-add : (k m n : ℕ) → up_from k (m + n) ≡ up_from k m ++ up_from (k + m) n
 up-add k zero n = rw (zero-add n, add-zero k)
 up-add k (suc m) n = rw (suc-add m n) (ap (λ l. k ∷ l) (up-add (suc k) m n ∙ ap (λ i. up_from (suc k) m ++ up_from i n) (suc-add k m ∙ sym (add-suc k m))))
 
-up-length : (k n : ℕ) → length (up_from k n) ≡ n
+pub up-length : (k n : ℕ) → length (up_from k n) ≡ n
 up-length k zero = refl
 up-length k (suc n) = ap suc (up-length (suc k) n)
 
@@ -85,7 +81,7 @@ module _ (f : ℕ → Letters) (most : ℕ) (inj : (i j : ℕ) → i < most → 
   once t k (suc n) h = go (same_letters (f k) t) refl (once t (suc k) n (omega arith))
     where
       rest : same_letters (f k) t ≡ true → (i : ℕ) → suc k ≤ i → i < suc k + n → (u : Bool) → same_letters (f i) t ≡ u → u ≡ false
-      rest e i a b true g = absurd (let z : i ≡ k = inj i k (omega arith) (omega arith) (same-letters (f i) t g ∙ sym (same-letters (f k) t e)) in omega arith)
+      rest e i a b true g = absurd (let z : i ≡ k = inj i k (omega arith) (omega arith) (letters-eq (f i) t g ∙ sym (letters-eq (f k) t e)) in omega arith)
       rest e i a b false g = refl
 
       go : (u : Bool) → same_letters (f k) t ≡ u → length (keep (λ i. same_letters (f i) t) (up_from (suc k) n)) ≤ 1
@@ -282,17 +278,43 @@ pub new-letters : (names : List Letters) (node : Node) (stem : Stem) (j : ℕ) �
 unfolding new_letters new_number is_free
 new-letters names node stem j = refl
 
--- the numbers written one by one
-module _ (taken : List Letters) (stem : Stem) (i from : ℕ) (e : free_below taken stem from ≡ i) (h : from + length taken < 2 ^ 64) where
-  pub numbers_more : (out : List ℕ) {r : ℕ} → r ≡ next_free taken stem from → i < length out → take i out ≡ new_numbers taken stem i → take (i + 1) (set out i r) ≡ new_numbers taken stem (i + 1)
-  numbers_more out {r} f b g =
-      let z : 0 + i ≡ i = omega arith in
-      let n : new_number taken stem i ≡ r = ap (new_number taken stem) (sym e) ∙ number-next taken stem from h ∙ sym f in
-      rw (add-one i) (take-suc-set out i r b ∙ ap (λ l. l ++ (r ∷ [])) g)
-      ∙ sym (ap (map (new_number taken stem)) (up-add 0 i 1) ∙ map-append (new_number taken stem) (up_from 0 i) (up_from (0 + i) 1) ∙ ap (λ k. new_numbers taken stem i ++ (k ∷ [])) (ap (new_number taken stem) z ∙ n))
+-- the names that these are
+abbrev pub names_taken : TakenNames → List Letters
+names_taken t = map (letters_in t.spelling) t.ids.now
 
-  pub numbers-next : {r : ℕ} → r ≡ next_free taken stem from → free_below taken stem (r + 1) ≡ i + 1
-  numbers-next {r} f = ap (λ n. free_below taken stem (n + 1)) f ∙ number-after taken stem from h ∙ ap (λ n. n + 1) e
+-- so many numbers are written, and as many below the next to be tried are free
+pub record Numbering (t : TakenNames) (stem : StemName) (i from : ℕ) (out : List ℕ) : Type 0 where
+  pub near : from ≤ i + length t.ids.now
+  pub below : free_below (names_taken t) (stem_of stem) from ≡ i
+  pub written : take i out ≡ new_numbers (names_taken t) (stem_of stem) i
 
-pub numbers-end : (taken : List Letters) (stem : Stem) (i : ℕ) (out : List ℕ) → length out ≤ i → i ≤ length out → take i out ≡ new_numbers taken stem i → out ≡ new_numbers taken stem (length out)
-numbers-end taken stem i out a b g = let z : i ≡ length out = omega arith in rw z at (sym (take_all i out a) ∙ g)
+module _ {t : TakenNames} {stem : StemName} where
+  pub numbering_none : {out : List ℕ} → Numbering t stem 0 0 out
+  numbering_none = record { near = omega arith; below = below_none (names_taken t) (stem_of stem); written = refl }
+
+  module _ {i from : ℕ} {out : List ℕ} (h : Numbering t stem i from out) where
+    as-many : length (names_taken t) ≡ length t.ids.now
+    as-many = length-map t.ids.now (letters_in t.spelling)
+
+    pub number-near : {r : ℕ} → r ≡ next_free (names_taken t) (stem_of stem) from → r ≤ i + (length t.ids.now + length t.ids.now)
+    number-near f = omega (arith, next-most (names_taken t) (stem_of stem) from, as-many, h.near, f)
+
+    pub numbering_more : {r : ℕ} → r ≡ next_free (names_taken t) (stem_of stem) from → i < length out → i + (length t.ids.now + length t.ids.now) < 2 ^ 64
+        → Numbering t stem (i + 1) (r + 1) (set out i r)
+    numbering_more {r} f b few =
+        let taken = names_taken t in
+        let free = stem_of stem in
+        let small : from + length taken < 2 ^ 64 = omega (arith, as-many, h.near, few) in
+        let e : free_below taken free (r + 1) ≡ i + 1 = ap (λ n. free_below taken free (n + 1)) f ∙ number-after taken free from small ∙ ap (λ n. n + 1) h.below in
+        let z : 0 + i ≡ i = omega arith in
+        let n : new_number taken free i ≡ r = ap (new_number taken free) (sym h.below) ∙ number-next taken free from small ∙ sym f in
+        record {
+          near = omega (arith, below-many taken free (r + 1) (omega (arith, number-near f, few)), e, as-many);
+          below = e;
+          written =
+              rw (add-one i) (take-suc-set out i r b ∙ ap (λ l. l ++ (r ∷ [])) h.written)
+              ∙ sym (ap (map (new_number taken free)) (up-add 0 i 1) ∙ map-append (new_number taken free) (up_from 0 i) (up_from (0 + i) 1) ∙ ap (λ k. new_numbers taken free i ++ (k ∷ [])) (ap (new_number taken free) z ∙ n));
+        }
+
+    pub numbering-end : {n : ℕ} → length out ≡ n → n ≤ i → i ≤ n → out ≡ new_numbers (names_taken t) (stem_of stem) n
+    numbering-end {n} e a b = let z : i ≡ n = omega arith in rw z at (sym (take_all i out (omega (arith, e, a))) ∙ h.written)

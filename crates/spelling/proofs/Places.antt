@@ -1,14 +1,14 @@
 -- Laws on where names stand.
 use Prim.Native.Nat.{ℕ, zero, suc, ◌+◌, ◌-◌, ◌≤◌, ◌<◌}
-use mathlib.Core.Path.{◌≡◌, refl, sym, ap, ◌∙◌}
+use mathlib.Core.Path.{◌≡◌, refl, sym, ap, ◌∙◌, fun_ext}
 use mathlib.Core.Bool.{Bool, true, false, ◌&&◌}
 use mathlib.Core.List.{List, [], ◌∷◌, map}
 use mathlib.Core.Logic.{inl, inr}
 use native.Mathlib.Numerals.{add-one}
 use native.Mathlib.Omega.{arith}
 use lib.Dec.{eqb, leb, ltb}
-use lib.ListN.{length, get_or, take, drop, set, get_or-eq_default}
-use lib.Seq.{drop-drop, take-suc, take_all, length-take-le}
+use lib.ListN.{length, get_or, take, drop, set, replicate, get_or-eq_default}
+use lib.Seq.{take-suc, take_all, length-take-le}
 use borrow.Author.Tests.{le-leb, lt-leb, leb-true, leb-false, ltb-true, ltb-false}
 use Rattle.std.specs.Borrow.{Bor}
 use Rattle.std.specs.Option.{unwrap_or}
@@ -17,13 +17,16 @@ use Rattle.std.specs.Slice.{IsGetRangeResult}
 use Rattle.std.proofs.Common.{nat_eq}
 use Rattle.std.specs.Cmp.Lexicographic.{pointwise}
 use Rattle.std.specs.List.{list_any}
-use Rattle.definitions.specs.Lists.{choose, any, sum, Letters, same_letters}
-use Rattle.definitions.specs.Bytes.{cut}
+use Rattle.definitions.specs.Lists.{choose, any, over, sum, Letters, same_letters}
+use Rattle.definitions.specs.Bytes.{lengths, letters, cut}
+use Rattle.definitions.specs.Output.{letters_of}
+use Rattle.parts.specs.Answers.{sizes_of, Accepted}
+use Rattle.parts.proofs.Laws.{lengths-long, letters-long}
 use Rattle.parts.proofs.Cuts.{cut-count}
 use Rattle.spelling.specs.Writing.{over_at}
-use Rattle.spelling.proofs.Writing.{over_nothing, over-then, over-set}
+use Rattle.spelling.proofs.Writing.{over_nothing, over-front, over-then, over-set}
 use Rattle.parts.specs.Places.{start, name_at}
-use Rattle.parts.proofs.NamesLaws.{start-next, start-sum, end-within, part-name}
+use Rattle.parts.proofs.NamesLaws.{start-next, start-sum, end-within, part-name, cut-name, start-cons}
 use Rattle.spelling.specs.Places.{starts_from, between, letters_at}
 
 -- ---- starts
@@ -31,11 +34,6 @@ pub starts-length : (k : ℕ) (lens : List ℕ) → length (starts_from k lens) 
 unfolding starts_from
 starts-length k [] = refl
 starts-length k (n ∷ ns) = omega (arith, starts-length (k + n) ns)
-
-start-cons : (n : ℕ) (ns : List ℕ) (i : ℕ) → start (n ∷ ns) (suc i) ≡ n + start ns i
-unfolding start
-start-cons n ns zero = omega arith
-start-cons n ns (suc i) = omega (arith, start-cons n ns i)
 
 starts-at : (k : ℕ) (lens : List ℕ) (i : ℕ) → i ≤ length lens → get_or (starts_from k lens) i 0 ≡ k + start lens i
 unfolding starts_from start
@@ -107,20 +105,6 @@ module _ (starts letters : List ℕ) (x a b : ℕ) (p : a ≡ get_or starts x 0)
       go false e = between-down letters a b (leb-false a b e)
 
 -- ---- names cut out of letters
-name-tail : (n : ℕ) (ns letters : List ℕ) (i : ℕ) → name_at ns (drop n letters) i ≡ name_at (n ∷ ns) letters (suc i)
-unfolding name_at
-name-tail n ns letters i = ap (λ l. take (get_or ns i 0) l) (drop-drop (start ns i) n letters ∙ ap (λ k. drop k letters) (sym (start-cons n ns i)))
-
-pub cut-length : (lens letters : List ℕ) → length (cut lens letters) ≡ length lens
-cut-length = cut-count
-
--- name i, by the lengths
-pub cut-name : (lens letters : List ℕ) (i : ℕ) → i < length lens → get_or (cut lens letters) i [] ≡ name_at lens letters i
-unfolding cut name_at start
-cut-name [] letters i h = absurd (omega arith)
-cut-name (n ∷ ns) letters zero h = refl
-cut-name (n ∷ ns) letters (suc i) h = cut-name ns (drop n letters) i (omega arith) ∙ name-tail n ns letters i
-
 -- the letters of a name by the starts are those by the lengths
 pub letters-name : (lens letters : List ℕ) (x : ℕ) → sum lens ≤ length letters → letters_at (starts_from 0 lens) letters x ≡ get_or (cut lens letters) x []
 unfolding letters_at name_at
@@ -130,13 +114,43 @@ letters-name lens letters x h = go (ltb x (length lens)) refl
     go true e =
         let k : x < length lens = ltb-true x (length lens) e in
         let a : get_or (starts_from 0 lens) x 0 ≡ start lens x = starts-there lens x (omega arith) in
-        let b : get_or (starts_from 0 lens) (x + 1) 0 ≡ get_or (starts_from 0 lens) x 0 + get_or lens x 0 = starts-there lens (x + 1) (omega arith) ∙ start-next lens letters x ∙ ap (λ n. n + get_or lens x 0) (sym a) in
+        let b : get_or (starts_from 0 lens) (x + 1) 0 ≡ get_or (starts_from 0 lens) x 0 + get_or lens x 0 = starts-there lens (x + 1) (omega arith) ∙ start-next lens x ∙ ap (λ n. n + get_or lens x 0) (sym a) in
         sym (between-fit letters (get_or (starts_from 0 lens) x 0) (get_or (starts_from 0 lens) (x + 1) 0) (omega arith) (omega (arith, end-within lens letters x h)))
         ∙ part-name lens letters x (get_or (starts_from 0 lens) x 0) (get_or (starts_from 0 lens) (x + 1) 0) a b ∙ sym (cut-name lens letters x k)
     go false e =
         let k : length lens ≤ x = ltb-false x (length lens) e in
         let b : get_or (starts_from 0 lens) (x + 1) 0 ≡ 0 = get_or-eq_default (starts_from 0 lens) 0 (omega (arith, starts-length 0 lens)) in
-        between_none letters (get_or (starts_from 0 lens) x 0) (get_or (starts_from 0 lens) (x + 1) 0) b ∙ sym (get_or-eq_default (cut lens letters) [] (omega (arith, cut-length lens letters)))
+        between_none letters (get_or (starts_from 0 lens) x 0) (get_or (starts_from 0 lens) (x + 1) 0) b ∙ sym (get_or-eq_default (cut lens letters) [] (omega (arith, cut-count lens letters)))
+
+-- ---- the names of an accepted sheet
+-- a list over zeros, read at any place
+zero-at : (n i : ℕ) → ◌≡◌ {A = ℕ} (get_or (replicate n 0) i 0) 0
+zero-at zero i = refl
+zero-at (suc n) zero = refl
+zero-at (suc n) (suc i) = zero-at n i
+
+over-zeros : (l : List ℕ) (n i : ℕ) → length l ≤ n → get_or (over l (replicate n 0)) i 0 ≡ get_or l i 0
+over-zeros [] n i h = zero-at n i
+over-zeros (a ∷ l) zero i h = absurd (omega arith)
+over-zeros (a ∷ l) (suc n) zero h = refl
+over-zeros (a ∷ l) (suc n) (suc i) h = over-zeros l n i (omega arith)
+
+module _ {b : List ℕ} (a : Accepted b) where
+  -- as many letters as the lengths say, within the limits
+  pub names-fit : (ls ts : List ℕ) → ls ≡ lengths b → ts ≡ letters b → (sum ls ≡ length ts) × (length ls ≤ 1024) × (length ts ≤ 16384)
+  names-fit ls ts e f =
+      let m = lengths-long b (sizes_of b) a.sized in
+      let l = letters-long b (sizes_of b) a.sized in
+      rw (e, f) (omega (arith, a.summed, l), omega (arith, m, a.sized.names), omega (arith, l, a.sized.letters))
+
+  -- the starts over zeros
+  pub starts-stand : (ls starts : List ℕ) → ls ≡ lengths b → starts ≡ over_at 0 (starts_from 0 ls) (replicate 1025 0) → letters_at starts (letters b) ≡ letters_of (cut (lengths b) (letters b))
+  unfolding letters_at
+  starts-stand ls starts e f =
+      let z = names-fit ls (letters b) e refl in
+      let at : (i : ℕ) → get_or starts i 0 ≡ get_or (starts_from 0 ls) i 0 =
+      λ i. ap (λ (s : List ℕ). get_or s i 0) (f ∙ over-front (starts_from 0 ls) (replicate 1025 0)) ∙ over-zeros (starts_from 0 ls) 1025 i (omega (arith, starts-length 0 ls, z.1)) in
+      fun_ext (λ x. rw (at x, at (x + 1), ← e) (letters-name ls (letters b) x (omega (arith, z.0))))
 
 -- ---- ids
 -- letters compared one by one are the same where the test says it

@@ -19,12 +19,13 @@ use Rattle.definitions.specs.Lists.{choose, any, place_by, sum, join, bytes, Let
 use Rattle.definitions.specs.Bytes.{cut}
 use Rattle.definitions.specs.Tree.{Sheet}
 use Rattle.definitions.specs.Output.{id_of, condact_id, add_name, add_names, within_limits, sheet_tokens, most_tokens_out}
-use Rattle.parts.proofs.Cuts.{cut-join}
+use Rattle.shapes.proofs.Names.{id_below}
+use Rattle.parts.proofs.Cuts.{cut-join, cut-count}
 use Rattle.spelling.specs.Table.{names_of, within, NamesHeld}
 use Rattle.spelling.specs.declared.name_table.NameTable.{NameTable}
 use Rattle.spelling.specs.Writing.{over_at}
 use Rattle.spelling.proofs.Writing.{over-take}
-use Rattle.spelling.proofs.Places.{cut-length, same-pointwise}
+use Rattle.spelling.proofs.Places.{same-pointwise}
 
 -- ---- lists
 sum-append : (a b : List ℕ) → sum (a ++ b) ≡ sum a + sum b
@@ -52,15 +53,6 @@ place_out p (a ∷ l) h = go (p a) h (place_out p l)
     go true h f = absurd (omega arith)
     go false h f = f (omega arith)
 
--- an id is no more than the names
-pub id-most : (names : List Letters) (n : Letters) → id_of names n ≤ length names
-id-most [] n = omega arith
-id-most (m ∷ names) n = go (same_letters n m) (id-most names n)
-  where
-    go : (t : Bool) → id_of names n ≤ length names → choose t 0 (suc (id_of names n)) ≤ suc (length names)
-    go true h = omega arith
-    go false h = omega arith
-
 -- a name looked for among those that are left: the first is it, or is not
 module _ (n m : Letters) {l left : List Letters} {r : Bool} (s : left ≡ m ∷ l) (e : r ≡ pointwise nat_eq n m) where
   pub id-first : r ≡ true → id_of left n ≡ 0
@@ -71,7 +63,7 @@ module _ (n m : Letters) {l left : List Letters} {r : Bool} (s : left ≡ m ∷ 
 
 -- that of `condact` among names cut out of letters
 pub condact-few : (lens letters : List ℕ) (x : ℕ) → x ≡ condact_id (cut lens letters) → length lens ≤ 1024 → x ≤ 1024
-condact-few lens letters x e h = omega (arith, id-most (cut lens letters) (bytes "condact"), cut-length lens letters)
+condact-few lens letters x e h = omega (arith, id_below (cut lens letters) (bytes "condact"), cut-count lens letters)
 
 -- ---- a place, if there is one
 there-within : (o : Option ℕ) (n : ℕ) → IfSome o (λ i. i < n) → is_some o ≡ true → unwrap_or o n < n
@@ -109,8 +101,7 @@ within_more many long names name e =
     let a : length names ≤ many = omega (arith, length-append names (name ∷ [])) in
     let b : length (join names) ≤ long = omega (arith, join_last names name) in
     let f : within many long names ≡ true = rw (le-leb (length names) many a, le-leb (length (join names)) long b) in
-    let z : ◌≡◌ {A = ℕ} 0 1 = cc in
-    omega arith)
+    cc)
 
 -- a text at the front is read there
 pub over-taken : {A : Type 0} (l s : List A) → length l ≤ length s → take (length l) (over_at 0 l s) ≡ l
@@ -131,7 +122,7 @@ module _ {many long : ℕ} where
 
     pub names-count : length (names_of t) ≡ t.names
     unfolding names_of
-    names-count = cut-length (take t.names t.lengths) (take t.used t.letters) ∙ length-take-le t.names t.lengths names-within
+    names-count = cut-count (take t.names t.lengths) (take t.used t.letters) ∙ length-take-le t.names t.lengths names-within
 
     pub names-letters : length (join (names_of t)) ≡ t.used
     unfolding names_of
@@ -153,14 +144,14 @@ module _ {many long : ℕ} where
         let g : take t₁.used t₁.letters ≡ take t.used t.letters ++ name = rw (b, l) (over-take t.used name t.letters (omega (arith, k, t.short, t.sized.1))) in
         record {
           kept = λ _. ap (λ x. x ++ (name ∷ [])) e ∙ sym (cut-last (take t.names t.lengths) (take t.used t.letters) name (used t)) ∙ rw (f, g);
-          past = λ z. absurd (let y : ◌≡◌ {A = ℕ} 0 1 = cc in omega arith);
+          past = λ z. absurd cc;
         }
 
     -- there is no place for it
     pub not-added : (long - t.used < length name) ⊎ (many ≤ t.names) → t₁.full ≡ true → NamesHeld t₁ (names ++ (name ∷ []))
     not-added h f =
         record {
-          kept = λ z. absurd (let y : ◌≡◌ {A = ℕ} 0 1 = cc in omega arith);
+          kept = λ z. absurd cc;
           past = λ _. within-not many long (names ++ (name ∷ [])) (no h);
         }
       where
@@ -185,7 +176,7 @@ module _ {many long : ℕ} where
         go true = h
         go false =
             record {
-              kept = λ z. absurd (let y : ◌≡◌ {A = ℕ} 0 1 = cc in omega arith);
+              kept = λ z. absurd cc;
               past = λ _. within_more many long names name (h.past e);
             }
 
@@ -213,7 +204,7 @@ module _ {many long : ℕ} where
       let g : take t₁.used t₁.letters ≡ text = rw (d, m) (over-taken text letters k) in
       record {
         kept = λ _. sym (rw (f, g));
-        past = λ z. absurd (let y : ◌≡◌ {A = ℕ} 0 1 = cc in omega arith);
+        past = λ z. absurd cc;
       }
 
   -- ---- what a table that is not full says of the names

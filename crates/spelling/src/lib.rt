@@ -10,18 +10,18 @@ mod text_writer;
 ghost use Rattle.std.specs.Prelude.{◌≡◌, map, ◌+◌, ◌≤◌, ◌^◌, ◌<◌, length, IfSome};
 ghost use Rattle.std.specs.Option.{unwrap_or};
 ghost use Rattle.definitions.specs.Lists.{sum, any, same_letters};
-ghost use Rattle.definitions.specs.Output.{id_of};
+ghost use Rattle.definitions.specs.Output.{id_of, letters_of};
 ghost use Rattle.spelling.specs.Writing.{over_at};
 ghost use Rattle.spelling.specs.Stems.{stem_of, new_letters};
-ghost use Rattle.definitions.specs.Bytes.{cut};
-ghost use Rattle.spelling.specs.Places.{starts_from, letters_in};
+ghost use Rattle.definitions.specs.Bytes.{lengths, letters, cut};
+ghost use Rattle.spelling.specs.Places.{starts_from, letters_at, letters_in};
 ghost use Rattle.spelling.specs.Free.{is_free, next_free, new_numbers};
 
-use definitions::NAME_LETTERS;
+use definitions::{MOST_NAMES, NAME_LETTERS};
 pub use name_table::{NameTable, OutputNames};
 pub use named::NamedSource;
 pub use names::Spelling;
-use parts::EachName;
+use parts::{AcceptedSheet, EachName};
 pub use sheet_names::SheetNames;
 pub use text_writer::TextWriter;
 
@@ -59,7 +59,7 @@ fn spell(name: NewName, buffer: &mut [u8; NAME_LETTERS]) -> &[u8]
 // ---- Tables of names: where a name's letters stand, its id, a name added, the next number free for a new name.
 
 // Where each name starts, and where the last one ends.
-pub fn fill_starts(lengths: &[u8], starts: &mut [u32])
+fn fill_starts(lengths: &[u8], starts: &mut [u32])
     requires lengths_in_bounds { length lengths.now < length starts.old }
     requires lengths_bound { sum lengths.now < 2 ^ 32 }
     ensures { starts.new ≡ over_at 0 (starts_from 0 lengths.now) starts.old }
@@ -71,6 +71,15 @@ pub fn fill_starts(lengths: &[u8], starts: &mut [u32])
         at += u32::from(n);
     }
     starts[lengths.len()] = at;
+}
+
+// Where the letters of an accepted sheet's names start.
+pub fn starts_of(sheet: AcceptedSheet<'_>) -> [u32; MOST_NAMES + 1]
+    ensures { letters_at result (letters sheet.entry.parts.bytes.now) ≡ letters_of (cut (lengths sheet.entry.parts.bytes.now) (letters sheet.entry.parts.bytes.now)) }
+{
+    let mut starts = [0u32; MOST_NAMES + 1];
+    fill_starts(sheet.parts.lengths(), &mut starts);
+    starts
 }
 
 // The names that new ones may not have: those of these ids.

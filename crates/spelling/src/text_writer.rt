@@ -13,6 +13,7 @@ const FARTHEST: usize = 4294967296;
 
 // Lent bytes with a place in them: what is put there goes in as far as they reach; past them it is only measured. What the ghost fields
 // say is so of any slice and any place.
+// Stays (no plainer): made by its two fields: a function for it would have a contract that says just these.
 #[derive(Drop)]
 pub struct TextWriter<'a> {
     pub out: &'a mut [u8],

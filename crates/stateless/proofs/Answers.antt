@@ -17,7 +17,7 @@ use Rattle.definitions.specs.Bytes.{most_names, most_letters, fewest_tokens, mos
 use Rattle.definitions.specs.Grammar.{sheet}
 use Rattle.definitions.specs.Types.{first_cycle}
 use Rattle.definitions.specs.Output.{ClockedNode, names_out, sheet_out, within_limits, written}
-use Rattle.definitions.specs.Answer.{Input, input, answered, clockings, unless_faulty, rewrite_answer, text_answer}
+use Rattle.definitions.specs.Answer.{Input, input, answered, clockings, unless_faulty, rewrite_answer}
 use Rattle.stateless.specs.Sheets.{first_faults_from}
 use Rattle.stateless.proofs.Nodes.{first-faults}
 
@@ -66,7 +66,7 @@ pub input-refused : (bytes : List ℕ) (x : Refusal) → told (input bytes) ≡ 
 input-refused bytes x e = go (plain-input bytes) e
   where
     go : {a : Answer Input} → Plain a → told a ≡ down x → a ≡ refused x
-    go accepts h = let z : ◌≡◌ {A = ℕ} 0 1 = cc in absurd (omega arith)
+    go accepts h = absurd cc
     go (refuses {r}) h = ap refused (down-eq r x h)
 
 -- ---- what is lent
@@ -134,10 +134,3 @@ module _ (bytes : List ℕ) (lent : ℕ) where
           -- none
           pub rewrite-accepted : length (written (all_names r ns) (out_sheet r ns)) ≤ lent → rewrite_answer bytes lent ≡ accepted (written (all_names r ns) (out_sheet r ns))
           rewrite-accepted h = limited-answer ∙ lent-enough (length (written (all_names r ns) (out_sheet r ns))) lent (written (all_names r ns) (out_sheet r ns)) h
-
--- ---- the text of fault j of node k
-module _ (bytes : List ℕ) (k j lent : ℕ) where
-  -- refusals 1 to 7
-  pub text-refused : (x : Refusal) → told (input bytes) ≡ down x → text_answer bytes k j lent ≡ refused x
-  unfolding text_answer
-  text-refused x e = rw (input-refused bytes x e)

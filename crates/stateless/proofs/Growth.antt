@@ -1,95 +1,39 @@
 -- What is needed only grows: a clock with a flag keeps its place, and the clocks with flags stay closed under parents.
-use Prim.Native.Nat.{ℕ, suc, ◌≤◌}
+use Prim.Native.Nat.{ℕ, ◌+◌, ◌≤◌}
 use mathlib.Core.Path.{◌≡◌, refl, sym, ap, ◌∙◌}
-use mathlib.Core.Bool.{Bool, true, false, ◌||◌, true≢false, false≢true}
-use mathlib.Core.List.{List, [], ◌∷◌, ◌++◌}
+use mathlib.Core.Bool.{Bool, true, false, false≢true}
+use mathlib.Core.List.{List}
 use mathlib.Core.Logic.{◌⊎◌, inl, inr}
 use native.Mathlib.Omega.{arith}
+use lib.ListN.{length, length-append}
 use Rattle.definitions.specs.declared.Condition.{Condition}
-use Rattle.definitions.specs.Lists.{choose, any}
-use Rattle.definitions.specs.Clock.{Clock, base, ◌↓◌, parent, same_clock, is_base}
-use Rattle.definitions.specs.Declock.{clock_place, add, add_with_parents}
-use Rattle.clock_tables.proofs.ClockLaws.{same-clock, clock-same}
-use Rattle.stateless.specs.Need.{Needs, with_first}
-use Rattle.stateless.specs.Whole.{no_needs}
+use Rattle.definitions.specs.Tree.{TypeDef, Expr, Exprs, Node}
+use Rattle.definitions.specs.Clock.{Clock, base, ◌↓◌, parent, is_base}
+use Rattle.definitions.specs.InferClocks.{Clocked}
+use Rattle.definitions.specs.Declock.{add, add_with_parents}
+use Rattle.shapes.proofs.Facts.{Goes}
+use Rattle.shapes.proofs.Added.{has, has-parents, add-cases, has-goes, place-goes, goes_add, goes-parents}
+use Rattle.stateless.specs.Need.{Turn, Needs, with_flag, with_first, settled, needed, needed_all}
+use Rattle.stateless.specs.Leads.{Keeps, Leads}
+use Rattle.stateless.specs.Whole.{no_needs, right_needs, old_needs}
+use Rattle.stateless.proofs.Kept.{KeptSettled, needed-kept, all-kept, right-kept, old-kept}
 
--- is a clock among clocks?
-abbrev pub has : Clock → List Clock → Bool
-has c cs = any (same_clock c) cs
+keeps_self : (l : List Clock) → Keeps l l
+keeps_self l = record { there = λ c h. h; place = λ c h. refl; many = omega arith }
 
--- each clock that is there stays, at its place
-pub record Keeps (l m : List Clock) : Type 0 where
-  pub there : (c : Clock) → has c l ≡ true → has c m ≡ true
-  pub place : (c : Clock) → has c l ≡ true → clock_place c l ≡ clock_place c m
+keeps-trans : (l m n : List Clock) → Keeps l m → Keeps m n → Keeps l n
+keeps-trans l m n p q = record { there = λ c h. q.there c (p.there c h); place = λ c h. p.place c h ∙ q.place c (p.there c h); many = omega (arith, p.many, q.many) }
 
-pub keeps_self : (l : List Clock) → Keeps l l
-keeps_self l = record { there = λ c h. h; place = λ c h. refl }
+-- a list that goes on keeps what is there
+keeps-goes : (l m : List Clock) → Goes l m → Keeps l m
+keeps-goes l m g = record { there = λ c. has-goes c l m g; place = λ c h. place-goes c l m h g; many = omega (arith, ap length g.1, length-append l g.0) }
 
-pub keeps-trans : (l m n : List Clock) → Keeps l m → Keeps m n → Keeps l n
-keeps-trans l m n p q = record { there = λ c h. q.there c (p.there c h); place = λ c h. p.place c h ∙ q.place c (p.there c h) }
+-- clocks that are added keep what is there
+keeps-add : (c : Clock) (cs : List Clock) → Keeps cs (add c cs)
+keeps-add c cs = keeps-goes cs (add c cs) (goes_add c cs)
 
--- one clock more at the end
-has_last : (c d : Clock) (cs : List Clock) → has c (cs ++ (d ∷ [])) ≡ (has c cs || same_clock c d)
-has_last c d [] = go (same_clock c d)
-  where
-    go : (u : Bool) → (u || false) ≡ u
-    go true = refl
-    go false = refl
-has_last c d (e ∷ cs) = go (same_clock c e) (has_last c d cs)
-  where
-    go : (u : Bool) → has c (cs ++ (d ∷ [])) ≡ (has c cs || same_clock c d) → (u || has c (cs ++ (d ∷ []))) ≡ ((u || has c cs) || same_clock c d)
-    go true h = refl
-    go false h = h
-
-place-last : (c d : Clock) (cs : List Clock) → has c cs ≡ true → clock_place c cs ≡ clock_place c (cs ++ (d ∷ []))
-place-last c d [] h = absurd (false≢true h)
-place-last c d (e ∷ cs) h = go (same_clock c e) h (place-last c d cs)
-  where
-    go : (u : Bool) → (u || has c cs) ≡ true → (has c cs ≡ true → clock_place c cs ≡ clock_place c (cs ++ (d ∷ []))) → choose u 0 (suc (clock_place c cs)) ≡ choose u 0 (suc (clock_place c (cs ++ (d ∷ []))))
-    go true h r = refl
-    go false h r = ap suc (r h)
-
-pub keeps-add : (c : Clock) (cs : List Clock) → Keeps cs (add c cs)
-keeps-add c cs = go (has c cs)
-  where
-    go : (u : Bool) → Keeps cs (choose u cs (cs ++ (c ∷ [])))
-    go true = keeps_self cs
-    go false = record { there = λ d h. has_last d c cs ∙ ap (λ (u : Bool). u || same_clock d c) h; place = λ d h. place-last d c cs h }
-
-pub keeps-parents : (c : Clock) (cs : List Clock) → Keeps cs (add_with_parents c cs)
-unfolding add_with_parents
-keeps-parents base cs = keeps_self cs
-keeps-parents (c ↓ k) cs = keeps-trans cs (add_with_parents c cs) (add (c ↓ k) (add_with_parents c cs)) (keeps-parents c cs) (keeps-add (c ↓ k) (add_with_parents c cs))
-
--- what was added is there
-pub has-add : (c : Clock) (cs : List Clock) → has c (add c cs) ≡ true
-has-add c cs = go (has c cs) refl
-  where
-    or-true : (u : Bool) → (u || true) ≡ true
-    or-true true = refl
-    or-true false = refl
-
-    go : (u : Bool) → has c cs ≡ u → has c (choose u cs (cs ++ (c ∷ []))) ≡ true
-    go true e = e
-    go false e = has_last c c cs ∙ (ap (λ (u : Bool). has c cs || u) (clock-same c) ∙ or-true (has c cs))
-
-pub has-parents : (c : Clock) (cs : List Clock) → is_base c ≡ false → has c (add_with_parents c cs) ≡ true
-unfolding add_with_parents
-has-parents base cs e = absurd (true≢false e)
-has-parents (c ↓ k) cs e = has-add (c ↓ k) (add_with_parents c cs)
-
--- what is there after adding was there or was added
-add-cases : (c d : Clock) (cs : List Clock) → has d (add c cs) ≡ true → (has d cs ≡ true) ⊎ (d ≡ c)
-add-cases c d cs = go (has c cs)
-  where
-    last : (u v : Bool) → has d cs ≡ u → same_clock d c ≡ v → (u || v) ≡ true → (has d cs ≡ true) ⊎ (d ≡ c)
-    last true v e f h = inl e
-    last false true e f h = inr (same-clock d c f)
-    last false false e f h = absurd (false≢true h)
-
-    go : (u : Bool) → has d (choose u cs (cs ++ (c ∷ []))) ≡ true → (has d cs ≡ true) ⊎ (d ≡ c)
-    go true h = inl h
-    go false h = last (has d cs) (same_clock d c) refl refl (sym (has_last d c cs) ∙ h)
+keeps-parents : (c : Clock) (cs : List Clock) → Keeps cs (add_with_parents c cs)
+keeps-parents c cs = keeps-goes cs (add_with_parents c cs) (goes-parents c cs)
 
 -- the parents of clocks are there too
 abbrev pub Closed : List Clock → Type 0
@@ -116,24 +60,54 @@ pub record Sound (v : Needs) : Type 0 where
 pub nothing-sound : Sound no_needs
 nothing-sound = record { closed = λ c k h b. absurd (false≢true h); within = λ c h. absurd (false≢true h) }
 
--- what is needed leads to more
-pub record Leads (v w : Needs) : Type 0 where
-  pub flags : Keeps v.flags w.flags
-  pub firsts : Keeps v.firsts w.firsts
-  pub holds : v.holds ≤ w.holds
-
 pub leads-self : (v : Needs) → Leads v v
 leads-self v = record { flags = keeps_self v.flags; firsts = keeps_self v.firsts; holds = omega arith }
 
 pub leads-trans : (u v w : Needs) → Leads u v → Leads v w → Leads u w
 leads-trans u v w p q =
-    let a = p.holds in
-    let b = q.holds in
     record {
       flags = keeps-trans u.flags v.flags w.flags p.flags q.flags;
       firsts = keeps-trans u.firsts v.firsts w.firsts p.firsts q.firsts;
-      holds = omega arith;
+      holds = omega (arith, p.holds, q.holds);
     }
+
+-- a flag with its parents', perhaps a hold, perhaps `condact`
+leads-flag : (c : Clock) (v : Needs) (n : ℕ) (b : Bool) → v.holds ≤ n → Leads v (record { flags = add_with_parents c v.flags; firsts = v.firsts; holds = n; condact = b })
+leads-flag c v n b h = record { flags = keeps-parents c v.flags; firsts = keeps_self v.firsts; holds = h }
+
+-- what an expression needs for itself
+pub leads-settled : (t : Turn) (c : Clock) (v : Needs) → Leads v (settled t c v)
+leads-settled Turn.Keep c v = leads-self v
+leads-settled Turn.Hold c v = leads-flag c v (v.holds + 1) v.condact (omega arith)
+leads-settled Turn.First c v = record { flags = keeps-parents c v.flags; firsts = keeps-add c v.firsts; holds = omega arith }
+leads-settled Turn.Gate c v = leads-flag c v v.holds true (omega arith)
+
+settles : (v : Needs) → KeptSettled (Leads v)
+settles v t c w h = leads-trans v w (settled t c w) h (leads-settled t c w)
+
+flags-lead : (u v : Needs) (c : Clock) → Leads u v → Leads u (with_flag c v)
+flags-lead u v c h = leads-trans u v (with_flag c v) h (leads-flag c v v.holds v.condact (omega arith))
+
+-- an expression, and operands
+module _ (nodes : List Node) where
+  pub leads-needed : (e : Expr) (c : Clock) (v : Needs) → Leads v (needed nodes c e v)
+  leads-needed e c v = needed-kept (Leads v) (settles v) nodes e c v (leads-self v)
+
+  pub leads-all : (es : Exprs) (c d : Clock) (v : Needs) → Leads v (needed_all nodes c d es v)
+  leads-all es c d v = all-kept (Leads v) (settles v) nodes es c d v (leads-self v)
+
+module _ (types : List TypeDef) (nodes : List Node) (node : Node) (condact : ℕ) where
+  -- an equation leads on from its right side
+  pub leads-right : (c : Clock) (xs : List ℕ) (e : Expr) (v : Needs) → Leads (needed nodes c e v) (right_needs types nodes node condact c xs e v)
+  leads-right c xs e v =
+      let u = needed nodes c e v in
+      right-kept (Leads u) condact c (record { flag = λ w. flags-lead u w c; gate = settles u Turn.Gate c }) types nodes node xs e v (leads-self u)
+
+  pub leads-equation : (c : Clock) (xs : List ℕ) (e : Expr) (v : Needs) → Leads v (right_needs types nodes node condact c xs e v)
+  leads-equation c xs e v = leads-trans v (needed nodes c e v) (right_needs types nodes node condact c xs e v) (leads-needed nodes e c v) (leads-right c xs e v)
+
+  pub leads-old : (es : List Clocked) (v : Needs) → Leads v (old_needs types nodes node condact es v)
+  leads-old es v = old-kept (Leads v) (settles v) (λ c w. flags-lead v w c) types nodes node condact es v (leads-self v)
 
 -- a step of rewriting: it leads on, and what is sound stays so
 pub record Step (v w : Needs) : Type 0 where
@@ -150,7 +124,7 @@ step-trans u v w p q = record { leads = leads-trans u v w p.leads q.leads; sound
 pub step-flag : (c : Clock) (v : Needs) (n : ℕ) (b : Bool) → v.holds ≤ n → Step v (record { flags = add_with_parents c v.flags; firsts = v.firsts; holds = n; condact = b })
 step-flag c v n b h =
     record {
-      leads = record { flags = keeps-parents c v.flags; firsts = keeps_self v.firsts; holds = h };
+      leads = leads-flag c v n b h;
       sound = λ o. record { closed = closed-parents c v.flags o.closed; within = λ d i. (keeps-parents c v.flags).there d (o.within d i) };
     }
 
@@ -158,7 +132,7 @@ step-flag c v n b h =
 pub step-first : (c : Clock) (v : Needs) → is_base c ≡ false → Step v (with_first c v)
 step-first c v b =
     record {
-      leads = record { flags = keeps-parents c v.flags; firsts = keeps-add c v.firsts; holds = omega arith };
+      leads = leads-settled Turn.First c v;
       sound = λ o. record { closed = closed-parents c v.flags o.closed; within = λ d i. go o d (add-cases c d v.firsts i) };
     }
   where

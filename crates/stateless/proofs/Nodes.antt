@@ -1,7 +1,7 @@
 -- A sheet's nodes one by one: each has its clocks (`clockings-form`, `node-here`), its faults are its clock faults, else the one that
 -- rewriting stops at (`node-faults`, `no-faults`). For loops over nodes, faults, names and tokens of the output up to node i (`..-front`).
 use Prim.Native.Nat.{ℕ, zero, suc, ◌+◌, ◌≤◌, ◌<◌}
-use mathlib.Core.Path.{◌≡◌, refl, sym, ap, ap₂, ◌∙◌, subst}
+use mathlib.Core.Path.{◌≡◌, refl, sym, ap, ap₂, ◌∙◌}
 use mathlib.Core.List.{List, [], ◌∷◌, ◌++◌, map, append_assoc, append-nil, cons≢nil, Memᴰ}
 use mathlib.Core.Bool.{Bool, true, false, ◌&&◌, false≢true}
 use mathlib.Core.Option.{Option, none, some, some-injective, none-ne-some}
@@ -14,9 +14,9 @@ use borrow.Author.Tests.{lt-leb}
 use Rattle.definitions.specs.declared.Refusal.{Refusal}
 use Rattle.definitions.specs.declared.FaultRecord.{FaultRecord}
 use Rattle.definitions.specs.declared.Token.{Token}
-use Rattle.definitions.specs.Lists.{choose, any, all, join, numbered, Letters}
+use Rattle.definitions.specs.Lists.{choose, all, join, numbered, Letters}
 use Rattle.definitions.specs.Tree.{Node, Sheet}
-use Rattle.definitions.specs.InferClocks.{Formed, deep, formed, ◌>>=◌, Inferred, inferred, Finding, NodeFault, Clocked, Clocking, clocked_by, check_equation, is_too_deep, clocking, clock_faults, uses_clocks}
+use Rattle.definitions.specs.InferClocks.{Formed, deep, formed, NodeFault, Clocking, clocking, clock_faults, uses_clocks}
 use Rattle.definitions.specs.Refusals as answers
 use Rattle.definitions.specs.Refusals.{Answer, accepted, refused}
 use Rattle.definitions.specs.Output.{ClockedNode, rewritten, stopped_at, node_faults, with_new_names, output_names, output_node, names_out, sheet_out, definition_tokens, node_tokens, sheet_tokens, within_limits}
@@ -82,58 +82,6 @@ node-here {nodes} {ns} h i l =
 pub all-before : {nodes : List Node} {ns : List ClockedNode} → Formings nodes ns → (i : ℕ) → length nodes ≤ i → take i ns ≡ ns
 all-before {nodes} {ns} h i l = take_all i ns (omega (arith, h.same_length, l))
 
--- ---- what is found in a node
-not-deep : {A : Type 0} {B : Type 0} (a : A) → deep ≡ formed a → B
-not-deep {A} {B} a e = absurd (subst IsDeep e tt)
-  where
-    IsDeep : Formed A → Type 0
-    IsDeep deep = Unit {0}
-    IsDeep (formed b) = ⊥
-
-formed-eq : {A : Type 0} (a b : A) → formed a ≡ formed b → a ≡ b
-formed-eq {A} a b e = ap un e
-  where
-    un : Formed A → A
-    un deep = a
-    un (formed c) = c
-
-formed-after : {A B : Type 0} (a : Formed A) (f : A → Formed B) (b : B) → a >>= f ≡ formed b → (x : A) × (a ≡ formed x) × (f x ≡ formed b)
-formed-after deep f b e = not-deep b e
-formed-after (formed x) f b e = (x, refl, e)
-
--- a node's clocks are formed once, and then none is too deep
-pub same-clocking : (n : Node) (k l : Clocking) → clocking n ≡ formed k → clocking n ≡ formed l → k ≡ l
-same-clocking n k l e f = formed-eq k l (sym e ∙ f)
-
--- what `clocking` says when it forms
-pub record Checks (n : Node) (k : Clocking) : Type 0 where
-  pub inference : inferred n ≡ formed (record { passes = k.passes; clocks = k.names })
-  pub equations : clocked_by k.names n.equations ≡ formed k.equations
-  pub findings : k.findings ≡ join (numbered (check_equation n k.names) 0 k.equations)
-  pub shallow : any is_too_deep k.findings ≡ false
-
-pub node-checks : (n : Node) (k : Clocking) → clocking n ≡ formed k → Checks n k
-unfolding clocking
-node-checks n k q =
-    let a = formed-after (inferred n) _ k q in
-    let b = formed-after (clocked_by a.0.clocks n.equations) _ k a.2 in
-    end a.0 a.1 b.0 b.1 (any is_too_deep (found_in a.0 b.0)) refl b.2
-  where
-    found_in : Inferred → List Clocked → List Finding
-    found_in r es = join (numbered (check_equation n r.clocks) 0 es)
-
-    whole : Inferred → List Clocked → Clocking
-    whole r es = record { passes = r.passes; names = r.clocks; equations = es; findings = found_in r es }
-
-    end : (r : Inferred) → inferred n ≡ formed r → (es : List Clocked) → clocked_by r.clocks n.equations ≡ formed es
-        → (u : Bool) → any is_too_deep (found_in r es) ≡ u → choose u deep (formed (whole r es)) ≡ formed k → Checks n k
-    end r i es f true d e = not-deep k e
-    end r i es f false d e = subst (Checks n) (formed-eq (whole r es) k e) (record { inference = i; equations = f; findings = refl; shallow = d })
-
--- the equations with their clocks
-pub clocked : (n : Node) (k : Clocking) → clocking n ≡ formed k → clocked_by k.names n.equations ≡ formed k.equations
-clocked n k e = (node-checks n k e).equations
-
 -- ---- a node's faults
 module _ (names : List Letters) (sheet : Sheet) (n : ClockedNode) where
   -- THE LAW: a node's faults are its clock faults, else the one that rewriting stops at, if it uses clocks
@@ -198,7 +146,7 @@ module _ (r : Input) where
   no-faults ns h n m = faultless r.names r.sheet n (no-node-faulty 0 ns h n m)
 
 -- ---- from node i on, and up to node i
-append-joined : {A B : Type 0} (f : A → List B) (l m : List A) → join (map f (l ++ m)) ≡ join (map f l) ++ join (map f m)
+pub append-joined : {A B : Type 0} (f : A → List B) (l m : List A) → join (map f (l ++ m)) ≡ join (map f l) ++ join (map f m)
 append-joined f [] m = refl
 append-joined f (a ∷ l) m = ap (λ k. f a ++ k) (append-joined f l m) ∙ sym (append_assoc (f a) (join (map f l)) (join (map f m)))
 

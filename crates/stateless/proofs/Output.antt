@@ -1,7 +1,7 @@
 -- A node of the output by the ids of its new names, and the names that it adds by what it needs.
-use Prim.Native.Nat.{ℕ, suc, ◌+◌, ◌≤◌, Ordering}
+use Prim.Native.Nat.{ℕ, suc, ◌+◌, ◌≤◌}
 use mathlib.Core.Path.{◌≡◌, refl, sym, ap, ap₂, ◌∙◌, subst}
-use mathlib.Core.Bool.{Bool, true, false, ◌||◌}
+use mathlib.Core.Bool.{Bool, true, false}
 use mathlib.Core.List.{List, [], ◌∷◌, ◌++◌, map, map-append, Memᴰ}
 use mathlib.Core.Option.{none}
 use native.Mathlib.Omega.{arith}
@@ -9,45 +9,21 @@ use lib.ListN.{length}
 use Rattle.definitions.specs.declared.Primitive.{Primitive}
 use Rattle.definitions.specs.Lists.{choose, numbered, up_from, Letters}
 use Rattle.definitions.specs.Tree.{Ty, Expr, Equation, Node, Sheet}
-use Rattle.definitions.specs.Clock.{Clock, base, ◌↓◌, same_clock, is_base, chain_order, insert, in_chain_order}
+use Rattle.definitions.specs.Clock.{Clock, base, ◌↓◌, is_base, in_chain_order}
 use Rattle.definitions.specs.InferClocks.{uses_clocks}
 use Rattle.definitions.specs.Declock.{State, nothing_needed, Hold, done, Stem, ck, first, hold, clock_place, New, activation, first_tick, and_of, condition_expr, new_locals, with_new}
 use Rattle.definitions.specs.Output.{letters_of, new_letters, new_id, condact_id, ClockedNode, rewritten, with_new_names, output_node}
-use Rattle.clock_tables.proofs.ClockLaws.{clock-same}
-use Rattle.shapes.proofs.Facts.{All, all_cons, all_head, all_tail}
+use Rattle.shapes.proofs.Facts.{All}
+use Rattle.shapes.proofs.Added.{has, member-has}
+use Rattle.shapes.proofs.RewriteShape.{order-all}
 use Rattle.stateless.specs.Need.{Needs, needs_of}
 use Rattle.stateless.specs.Yield.{Ids, Yield, old_yield}
 use Rattle.stateless.specs.Locals.{Agree, Local, activation_by, flag_locals, first_locals, hold_locals, local_declared, local_equation, with_locals}
 use Rattle.stateless.specs.Rewritten.{locals_by, node_by, new_names, names_by}
 use Rattle.stateless.proofs.Stops.{fault_of, done-where}
 use Rattle.stateless.proofs.Condact.{needs_of_node}
-use Rattle.stateless.proofs.Growth.{has, Sound, nothing-sound, leads-self}
+use Rattle.stateless.proofs.Growth.{Sound, nothing-sound, leads-self}
 use Rattle.stateless.proofs.Yields.{old-yields, old-sound, old-needs}
-
--- chain order adds no clock
-module _ (letters : ℕ → Letters) (P : Clock → Type 0) where
-  insert_all : (c : Clock) (cs : List Clock) → P c → All P cs → All P (insert letters c cs)
-  unfolding insert
-  insert_all c [] p h = all_cons P c [] p h
-  insert_all c (d ∷ cs) p h = go (chain_order letters c d) (insert_all c cs p (all_tail P d cs h))
-    where
-      go : (o : Ordering) → All P (insert letters c cs) → All P (elim o as (λ x. List Clock) [ Ordering.lt ↦ c ∷ d ∷ cs | Ordering.eq ↦ d ∷ cs | Ordering.gt ↦ d ∷ insert letters c cs ])
-      go Ordering.lt ih = all_cons P c (d ∷ cs) p h
-      go Ordering.eq ih = h
-      go Ordering.gt ih = all_cons P d (insert letters c cs) (all_head P d cs h) ih
-
-  order-all : (cs : List Clock) → All P cs → All P (in_chain_order letters cs)
-  unfolding in_chain_order
-  order-all [] h = h
-  order-all (c ∷ cs) h = insert_all c (in_chain_order letters cs) (all_head P c cs h) (order-all cs (all_tail P c cs h))
-
-all_there : (c : Clock) (cs : List Clock) → Memᴰ c cs → has c cs ≡ true
-all_there c cs (Memᴰ.head {x = d} {xs = r} q) = ap (λ (u : Bool). u || has c r) (subst (λ (z : Clock). same_clock c z ≡ true) q (clock-same c))
-all_there c cs (Memᴰ.tail {x = d} {xs = r} m) = go (same_clock c d) (all_there c r m)
-  where
-    go : (u : Bool) → has c r ≡ true → (u || has c r) ≡ true
-    go true h = refl
-    go false h = h
 
 -- maps that agree on the members, and one after another
 map_same : {A B C : Type 0} (f : B → C) (g : A → B) (h : A → C) (l : List A) → All (λ a. f (g a) ≡ h a) l → map f (map g l) ≡ map h l
@@ -85,13 +61,13 @@ module _ (names : List Letters) (new : Stem → ℕ → ℕ) (condact : ℕ) (s 
       go false b = ap (λ (x : ℕ). and_of (Expr.var x) (condition_expr k)) (sym (agree.flags-agree c (sound.closed c k h b)))
 
   flags-same : map named (flags_new (letters_of names) new s) ≡ flag_locals ids (in_chain_order (letters_of names) s.flags)
-  flags-same = map_same named _ _ (in_chain_order (letters_of names) s.flags) (order-all (letters_of names) _ s.flags (λ c m.
-      let h = all_there c s.flags m in
+  flags-same = map_same named _ _ (in_chain_order (letters_of names) s.flags) (order-all _ (letters_of names) s.flags (λ c m.
+      let h = member-has c s.flags m in
       rw (agree.flags-agree c h, activation-same c h)))
 
   firsts_same : map named (firsts_new (letters_of names) new s) ≡ first_locals ids (in_chain_order (letters_of names) s.firsts)
-  firsts_same = map_same named _ _ (in_chain_order (letters_of names) s.firsts) (order-all (letters_of names) _ s.firsts (λ c m.
-      let h = all_there c s.firsts m in
+  firsts_same = map_same named _ _ (in_chain_order (letters_of names) s.firsts) (order-all _ (letters_of names) s.firsts (λ c m.
+      let h = member-has c s.firsts m in
       rw (agree.firsts-agree c h, agree.flags-agree c (sound.within c h))))
 
   holds_same : (k : ℕ) (hs : List Hold) → k + length hs ≤ length s.holds → map named (holds_new (letters_of names) new s k hs) ≡ hold_locals ids k hs

@@ -11,7 +11,7 @@ use Rattle.definitions.specs.Clock.{Clock, base, ◌↓◌, parent, is_on, is_no
 use Rattle.definitions.specs.Types.{default}
 use Rattle.definitions.specs.InferClocks.{pre_untyped, no_output_default}
 use Rattle.definitions.specs.Declock.{State, Hold, Rewritten, stopped, done, Rewriter, after, need as require, clock_place, add_with_parents, Stem, ck, hold, flag, first_flag, new_hold, gated, output_defaults, operator_outputs, call_on, held_pre, pre_on, arrow_on, rewrite, rewrites, operand_type, declared, if_of}
-use Rattle.index.specs.Callees.{is_there}
+use Rattle.defaults.specs.Has.{is_some}
 use Rattle.stateless.specs.Need.{Needs, needs_of, with_flag, with_hold, with_first, with_gate, settled, is_bare, pre_turn, arrow_turn, call_turn, needed, needed_all}
 
 -- where no fault was met, this is needed then
@@ -46,12 +46,12 @@ module _ (types : List TypeDef) (nodes : List Node) (new : Stem → ℕ → ℕ)
       go (some e) h = leaves_after w w (output_defaults types nodes new condact node i f ds s) (λ es s₂. done (Exprs.and e es) s₂) h (λ es s₂ k. k)
 
   -- a call
-  call-leaves : (c : Clock) (f : ℕ) (es : Exprs) (s : State) (w : Needs) → needs_of s ≡ w → Leaves (settled (call_turn c (is_there (operator_outputs nodes f))) c w) (call_on types nodes new condact node i c f es s)
+  call-leaves : (c : Clock) (f : ℕ) (es : Exprs) (s : State) (w : Needs) → needs_of s ≡ w → Leaves (settled (call_turn c (is_some (operator_outputs nodes f))) c w) (call_on types nodes new condact node i c f es s)
   unfolding call_on Leaves flag gated
   call-leaves base f es s w h = h
   call-leaves (c ↓ k) f es s w h = go (operator_outputs nodes f)
     where
-      go : (o : Option (List Declared)) → Leaves (settled (call_turn (c ↓ k) (is_there o)) (c ↓ k) w)
+      go : (o : Option (List Declared)) → Leaves (settled (call_turn (c ↓ k) (is_some o)) (c ↓ k) w)
           ((elim o as (λ x. Rewriter Expr) [ none ↦ (λ s. done (Expr.call f es) s) | some outputs ↦ (λ s. after (flag new (c ↓ k) s) (λ a s₁. after (output_defaults types nodes new condact node i f outputs s₁) (λ ds s₂. gated condact a (Expr.call f es) ds s₂))) ]) s)
       go none = h
       go (some ds) = leaves_after (with_flag (c ↓ k) w) (with_gate (c ↓ k) w) (output_defaults types nodes new condact node i f ds _) _ (outputs-leave f ds _ (with_flag (c ↓ k) w) (ap (with_flag (c ↓ k)) h)) (λ es s₂ e. ap (λ (n : Needs). record { flags = n.flags; firsts = n.firsts; holds = n.holds; condact = true }) e)

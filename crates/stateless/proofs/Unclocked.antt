@@ -7,6 +7,7 @@ use mathlib.Core.List.{List, [], ◌∷◌, ◌++◌, map}
 use native.Mathlib.Omega.{arith}
 use lib.ListN.{length}
 use borrow.Author.Tests.{le-leb}
+use Rattle.std.proofs.lemmas.Bool.{or_parts}
 use Rattle.definitions.specs.declared.Refusal.{Refusal}
 use Rattle.definitions.specs.Lists.{any, join, Letters}
 use Rattle.definitions.specs.Bytes.{most_names, most_letters}
@@ -16,7 +17,6 @@ use Rattle.definitions.specs.InferClocks.{formed, clocking, uses_clocks}
 use Rattle.definitions.specs.Output.{ClockedNode, sheet_tokens, written, most_tokens_out, within_limits, output_node, output_names, names_out, sheet_out}
 use Rattle.definitions.specs.Answer.{Input, input, clockings, first_of, rewrite_answer}
 use Rattle.shapes.specs.Shape.{Bytes}
-use Rattle.shapes.proofs.Facts.{or_left, or_right}
 use Rattle.shapes.proofs.Source.{read-facts}
 use Rattle.shapes.proofs.Clockless.{clockless, output-as-came, no-node-faults}
 use Rattle.stateless.specs.Sheets.{first_faults_from}
@@ -37,9 +37,9 @@ clocked-calm : (i : ℕ) (nodes : List Node) → any uses_clocks nodes ≡ false
 unfolding clockings
 clocked-calm i [] h = ([], refl, calm-end)
 clocked-calm i (n ∷ nodes) h =
-    let u = or_left (uses_clocks n) (any uses_clocks nodes) h in
+    let u = (or_parts (uses_clocks n) (any uses_clocks nodes) h).0 in
     let k = clockless n u in
-    let rest = clocked-calm (suc i) nodes (or_right (uses_clocks n) (any uses_clocks nodes) h) in
+    let rest = clocked-calm (suc i) nodes (or_parts (uses_clocks n) (any uses_clocks nodes) h).1 in
     let this : ClockedNode = record { node = n; clocking = k.0 } in
     (this ∷ rest.0, rw (k.1.clocks, clockings, rest.1), calm_more this (record { forms = k.1.clocks; unused = u }) rest.2)
 

@@ -13,6 +13,7 @@ use Rattle.definitions.specs.Clock.{Clock, base, ◌↓◌, parent, is_on, is_no
 use Rattle.definitions.specs.Types.{default}
 use Rattle.definitions.specs.InferClocks.{Fault, undeclared, no_default, no_output_default, not_single_call, pre_untyped, Clocked}
 use Rattle.definitions.specs.Declock.{State, nothing_needed, Hold, Rewritten, done, Rewriter, after, stop, need as require, clock_place, add, add_with_parents, Stem, ck, first, hold, flag, first_flag, new_hold, gated, output_defaults, left_default, left_defaults, operator_outputs, call_on, held_pre, pre_on, arrow_on, rewrite, rewrites, gate_several, under_flag, right_side, old_equations, Shape, bare, other, calls, shape_of, last_type, operand_type, declared, if_of}
+use Rattle.shapes.proofs.Added.{has-add, has-parents}
 use Rattle.stateless.specs.Need.{Needs, needs_of, with_flag, with_first, with_gate, is_bare, pre_turn, needed}
 use Rattle.stateless.proofs.Rewrite.{rewrite-needs}
 use Rattle.stateless.specs.Yield.{Ids, Yield, still, mapped, joined, type_or, expr_or, default_or, output_trees, left_tree, left_trees, gate_of, shape_after, held, pre_yield, arrow_tree, call_tree, yield, yields, several_tree, flagged_tree, right_yield, old_yield}
@@ -20,7 +21,8 @@ use Rattle.stateless.specs.Whole.{no_needs, several_needs, flagged_needs, right_
 use Rattle.stateless.specs.Locals.{Agree}
 use Rattle.stateless.proofs.Ends.{Ends, stops, ends, ends-after, ends-map, ends-both, ends_of, ended}
 use Rattle.stateless.proofs.Stops.{Meets, fault_at, rewrite-outcome}
-use Rattle.stateless.proofs.Growth.{has-add, has-parents, Sound, Leads, leads-trans, Step, step-self, step-trans, step-flag, step-first}
+use Rattle.stateless.specs.Leads.{Leads}
+use Rattle.stateless.proofs.Growth.{Sound, leads-trans, Step, step-self, step-trans, step-flag, step-first}
 
 -- a state with more flags, these holds, and `condact` or not
 abbrev flagged : Clock → List Hold → Bool → State → State

@@ -1,4 +1,5 @@
 pub mod Need
+pub mod Leads
 pub mod Yield
 pub mod Faults
 pub mod Whole

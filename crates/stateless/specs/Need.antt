@@ -5,7 +5,7 @@ use Rattle.definitions.specs.Tree.{Expr, Exprs, Node}
 use Rattle.definitions.specs.Clock.{Clock, ◌↓◌, parent, is_on, is_not, is_base}
 use Rattle.definitions.specs.Declock.{State, add, add_with_parents, operator_outputs}
 use Rattle.clock_tables.specs.Rows.{RowsHold}
-use Rattle.index.specs.Callees.{is_there}
+use Rattle.defaults.specs.Has.{is_some}
 use Rattle.stateless.specs.declared.Counts.{Counts}
 
 -- what an expression needs for itself, its operands apart: nothing; a flag and a hold; both flags; a flag and `condact`
@@ -77,7 +77,7 @@ module _ (nodes : List Node) where
     needed c (Expr.op h es) s = needed_all c c es s
     needed c (Expr.pre e) s = settled (pre_turn c (is_bare e)) c (needed c e s)
     needed c (Expr.arrow a b) s = settled (arrow_turn c) c (needed c b (needed c a s))
-    needed c (Expr.call f es) s = settled (call_turn c (is_there (operator_outputs nodes f))) c (needed_all c c es s)
+    needed c (Expr.call f es) s = settled (call_turn c (is_some (operator_outputs nodes f))) c (needed_all c c es s)
     needed c (Expr.when k e) s = needed (parent c) e s
     needed c (Expr.merge x a b) s = needed (c ↓ is_not x) b (needed (c ↓ is_on x) a s)
 

@@ -30,6 +30,7 @@ pub record NodeHere (nodes : List Node) (ns : List ClockedNode) (i : ℕ) : Type
   pub member : Memᴰ clocked ns
 
 -- none or one
+-- Stays (no plainer): `runs` `Accepted`, below, has it in place for one step; mathlib's `Option-to_list` does not compute by itself.
 abbrev pub one_of : Option NodeFault → List NodeFault
 one_of none = []
 one_of (some f) = f ∷ []

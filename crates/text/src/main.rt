@@ -29,6 +29,7 @@ const WRONG: &[u8] =
     b"text: write text NODE FAULT, both numbers counted from 0; text --help says more\n";
 
 // The text into the bytes lent, and a line feed.
+// Stays (no plainer): two streams, here and below: a struct of both would name both types still, and each use takes one of them.
 fn tell(
     output: &mut impl Write,
     errors: &mut impl Write,

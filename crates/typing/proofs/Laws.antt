@@ -46,13 +46,14 @@ use Rattle.typing.specs.declared.TypeFound.{TypeFound}
 use Rattle.std.specs.Option.{option_map, option_or, MatchOption, IsSomeAnd}
 use Rattle.std.specs.declared.option.Option as code
 use Rattle.std.specs.declared.option.Option.TheVariants.{None, Some}
-use Rattle.typing.specs.Found.{IsFound, place_of, found_by, Declares}
+use Rattle.clock_tables.specs.Words.{place_of}
+use Rattle.typing.specs.Found.{IsFound, found_by, Declares}
 
 or_assoc : {A : Type 0} (a b c : Option A) → or_else (or_else a b) c ≡ or_else a (or_else b c)
 or_assoc none b c = refl
 or_assoc (some a) b c = refl
 
-or-none : {A : Type 0} (a : Option A) → or_else a none ≡ a
+pub or-none : {A : Type 0} (a : Option A) → or_else a none ≡ a
 or-none none = refl
 or-none (some a) = refl
 
@@ -206,24 +207,24 @@ declared-name M gs vs t ds e q p x g i d a j r h = rw (mapped a r h) (placed M (
 -- ---- constants
 const-token : (t : ExprToken) → role_of t ≡ Role.Constant → (l : Literal) × (t ≡ ExprToken.Const l)
 const-token (ExprToken.Const l) h = (l, refl)
-const-token (ExprToken.Unary o) h = let z : ◌≡◌ {A = ℕ} 0 1 = cc in absurd (omega arith)
-const-token (ExprToken.Binary o) h = let z : ◌≡◌ {A = ℕ} 0 1 = cc in absurd (omega arith)
-const-token ExprToken.If h = let z : ◌≡◌ {A = ℕ} 0 1 = cc in absurd (omega arith)
-const-token ExprToken.Pre h = let z : ◌≡◌ {A = ℕ} 0 1 = cc in absurd (omega arith)
-const-token ExprToken.Arrow h = let z : ◌≡◌ {A = ℕ} 0 1 = cc in absurd (omega arith)
-const-token (ExprToken.Call f) h = let z : ◌≡◌ {A = ℕ} 0 1 = cc in absurd (omega arith)
-const-token (ExprToken.Field x) h = let z : ◌≡◌ {A = ℕ} 0 1 = cc in absurd (omega arith)
-const-token ExprToken.Index h = let z : ◌≡◌ {A = ℕ} 0 1 = cc in absurd (omega arith)
-const-token ExprToken.Tuple h = let z : ◌≡◌ {A = ℕ} 0 1 = cc in absurd (omega arith)
-const-token ExprToken.Array h = let z : ◌≡◌ {A = ℕ} 0 1 = cc in absurd (omega arith)
-const-token (ExprToken.Struct x) h = let z : ◌≡◌ {A = ℕ} 0 1 = cc in absurd (omega arith)
-const-token ExprToken.Cast h = let z : ◌≡◌ {A = ℕ} 0 1 = cc in absurd (omega arith)
-const-token (ExprToken.When x) h = let z : ◌≡◌ {A = ℕ} 0 1 = cc in absurd (omega arith)
-const-token (ExprToken.WhenNot x) h = let z : ◌≡◌ {A = ℕ} 0 1 = cc in absurd (omega arith)
-const-token (ExprToken.Merge x) h = let z : ◌≡◌ {A = ℕ} 0 1 = cc in absurd (omega arith)
-const-token (ExprToken.Map f) h = let z : ◌≡◌ {A = ℕ} 0 1 = cc in absurd (omega arith)
-const-token (ExprToken.Fold f) h = let z : ◌≡◌ {A = ℕ} 0 1 = cc in absurd (omega arith)
-const-token (ExprToken.Var x) h = let z : ◌≡◌ {A = ℕ} 0 1 = cc in absurd (omega arith)
+const-token (ExprToken.Unary o) h = absurd cc
+const-token (ExprToken.Binary o) h = absurd cc
+const-token ExprToken.If h = absurd cc
+const-token ExprToken.Pre h = absurd cc
+const-token ExprToken.Arrow h = absurd cc
+const-token (ExprToken.Call f) h = absurd cc
+const-token (ExprToken.Field x) h = absurd cc
+const-token ExprToken.Index h = absurd cc
+const-token ExprToken.Tuple h = absurd cc
+const-token ExprToken.Array h = absurd cc
+const-token (ExprToken.Struct x) h = absurd cc
+const-token ExprToken.Cast h = absurd cc
+const-token (ExprToken.When x) h = absurd cc
+const-token (ExprToken.WhenNot x) h = absurd cc
+const-token (ExprToken.Merge x) h = absurd cc
+const-token (ExprToken.Map f) h = absurd cc
+const-token (ExprToken.Fold f) h = absurd cc
+const-token (ExprToken.Var x) h = absurd cc
 
 const-literal : (M : ℕ) (ts : List TagValue) (p : ℕ) (k l : Literal) (w q : ℕ) → constant M k ts p ≡ got (Expr.const l w) q → k ≡ l
 unfolding constant
@@ -258,7 +259,7 @@ module _ (r : Result (ExprToken × ℕ) Refusal) (l : Literal) (s : ℕ) (i : r 
       let m : t ≡ ExprToken.Const l = cc in h l m
 
   pub const-refused : (x : Refusal) → r ≡ Err x → ⊥
-  const-refused x e = let z : ◌≡◌ {A = ℕ} 0 1 = cc in omega arith
+  const-refused x e = cc
 
 -- ---- operands
 pub split-of : (M : ℕ) (ts : List TagValue) (g : Gap) (n p : ℕ) (o : Operand) → Stepped M ts g p o → (es : Exprs) (q : ℕ) → spread M g n (tree M) ts p ≡ got es q → (a : Expr) (rs : Exprs) → es ≡ Exprs.and a rs →
@@ -266,7 +267,7 @@ pub split-of : (M : ℕ) (ts : List TagValue) (g : Gap) (n p : ℕ) (o : Operand
 split-of M ts g n p o s es q h a rs w = go
   where
     some_left : n ≡ 0 → ⊥
-    some_left z = let m = (spread-nil M (tree M) ts g n p es q z h).0 in let z : ◌≡◌ {A = ℕ} 0 1 = cc in omega arith
+    some_left z = let m = (spread-nil M (tree M) ts g n p es q z h).0 in cc
 
     go : (u : ℕ) × (tree M ts o.at ≡ got a u) × (spread M o.rest.gap (n - 1) (tree M) ts o.rest.next ≡ got rs q) × (p < o.rest.next)
     go =
@@ -279,7 +280,7 @@ pub first_of : (M : ℕ) (gs vs : List ℕ) → length vs ≡ length gs → (g :
 first_of M gs vs same g n p place i es q h a rs w = go
   where
     some_left : n ≡ 0 → ⊥
-    some_left z = let m = (spread-nil M (tree M) (tokens gs vs) g n p es q z h).0 in let z : ◌≡◌ {A = ℕ} 0 1 = cc in omega arith
+    some_left z = let m = (spread-nil M (tree M) (tokens gs vs) g n p es q z h).0 in cc
 
     go : (u : ℕ) × (tree M (tokens gs vs) place ≡ got a u)
     go = let x = apart M gs vs same g n p es q place some_left i h in let j : x.first ≡ a = cc x.whole in (x.end, x.here ∙ ap (λ (y : Expr). got y x.end) j)

@@ -5,7 +5,6 @@ use mathlib.Core.Path.{◌≡◌, refl, sym, ◌∙◌, ap}
 use mathlib.Core.List.{List}
 use mathlib.Core.Bool.{Bool, true, false}
 use mathlib.Core.Option.{Option, none, some}
-use native.Mathlib.Omega.{arith}
 use Rattle.definitions.specs.declared.Condition.{Condition}
 use Rattle.definitions.specs.Lists.{choose}
 use Rattle.definitions.specs.Tree.{Declared, TypeDef, Expr, Exprs, Node}
@@ -13,7 +12,7 @@ use Rattle.definitions.specs.Clock.{Clock, is_base, parent}
 use Rattle.definitions.specs.Declock.{Shape, bare, other, calls, operator_outputs}
 use Rattle.operands.specs.declared.Role.{Role}
 use Rattle.operands.specs.Role.{role_of_expr}
-use Rattle.index.specs.Callees.{is_there}
+use Rattle.defaults.specs.Has.{is_some}
 use Rattle.stateless.specs.Yield.{shape_after}
 use Rattle.std.specs.declared.option.Option.TheVariants.{None}
 use Rattle.typing.specs.After.{called_by}
@@ -40,22 +39,22 @@ module _ (types : List TypeDef) (l : List Node) (node : Node) (k : ℕ) (c : Clo
     unfolding shape_after
     call-plain j = ap (λ (m : Bool). of-call m (operator_outputs l f)) (sym j ∙ on)
 
-    module _ (j : b ≡ false) (m : Bool) (i : m ≡ is_there (operator_outputs l f)) where
+    module _ (j : b ≡ false) (m : Bool) (i : m ≡ is_some (operator_outputs l f)) where
       pub call-gated : m ≡ true → calls k ≡ shape_after types l node k c (Expr.call f es)
       unfolding shape_after
       call-gated h = go (operator_outputs l f) (sym h ∙ i) ∙ ap (λ (m : Bool). of-call m (operator_outputs l f)) (sym j ∙ on)
         where
-          go : (o : Option (List Declared)) → true ≡ is_there o → calls k ≡ of-call false o
-          go none e = let z : ◌≡◌ {A = ℕ} 0 1 = cc in absurd (omega arith)
+          go : (o : Option (List Declared)) → true ≡ is_some o → calls k ≡ of-call false o
+          go none e = absurd cc
           go (some os) e = refl
 
       pub call-other : m ≡ false → calls f ≡ shape_after types l node k c (Expr.call f es)
       unfolding shape_after
       call-other h = go (operator_outputs l f) (sym h ∙ i) ∙ ap (λ (m : Bool). of-call m (operator_outputs l f)) (sym j ∙ on)
         where
-          go : (o : Option (List Declared)) → false ≡ is_there o → calls f ≡ of-call false o
+          go : (o : Option (List Declared)) → false ≡ is_some o → calls f ≡ of-call false o
           go none e = refl
-          go (some os) e = let z : ◌≡◌ {A = ℕ} 0 1 = cc in absurd (omega arith)
+          go (some os) e = absurd cc
 
   -- ---- an expression
   pub name-after : (e : Expr) (x : ℕ) → e ≡ Expr.var x → bare ≡ shape_after types l node k c e

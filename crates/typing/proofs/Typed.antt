@@ -42,28 +42,28 @@ module _ (M : ℕ) (ts : List TagValue) where
     where
       go : (h : TypeToken) → token (type_token_of M) ts p ≡ got h (p + 1) → allows d h ≡ true → typed h (element d) ts (p + 1) ≡ got (Ty.primitive b) q → (token (type_token_of M) ts p ≡ got (TypeToken.Basic b) (p + 1)) × (q ≡ p + 1)
       go (TypeToken.Basic c) k a t = let e = primitive-got M ts p c d (Ty.primitive b) q (p + 1) t in let i : c ≡ b = cc e.0 in (k ∙ ap (λ (z : Primitive). got (TypeToken.Basic z) (p + 1)) i, e.1)
-      go (TypeToken.Array n) k a t = let e = (element-got M ts p n d (Ty.primitive b) q (p + 1) t a).4 in let z : ◌≡◌ {A = ℕ} 0 1 = cc in absurd (omega arith)
-      go (TypeToken.Named x) k a t = let e = (named-got M ts p x d (Ty.primitive b) q (p + 1) t).0 in let z : ◌≡◌ {A = ℕ} 0 1 = cc in absurd (omega arith)
+      go (TypeToken.Array n) k a t = let e = (element-got M ts p n d (Ty.primitive b) q (p + 1) t a).4 in absurd cc
+      go (TypeToken.Named x) k a t = let e = (named-got M ts p x d (Ty.primitive b) q (p + 1) t).0 in absurd cc
 
   name-got : (d p x q : ℕ) → ty M d ts p ≡ got (Ty.named x) q → (token (type_token_of M) ts p ≡ got (TypeToken.Named x) (p + 1)) × (q ≡ p + 1)
   name-got d p x q g = let y = type-got M ts p d (Ty.named x) q g in go y.0 y.1 y.2 y.3
     where
       go : (h : TypeToken) → token (type_token_of M) ts p ≡ got h (p + 1) → allows d h ≡ true → typed h (element d) ts (p + 1) ≡ got (Ty.named x) q → (token (type_token_of M) ts p ≡ got (TypeToken.Named x) (p + 1)) × (q ≡ p + 1)
-      go (TypeToken.Basic c) k a t = let e = (primitive-got M ts p c d (Ty.named x) q (p + 1) t).0 in let z : ◌≡◌ {A = ℕ} 0 1 = cc in absurd (omega arith)
-      go (TypeToken.Array n) k a t = let e = (element-got M ts p n d (Ty.named x) q (p + 1) t a).4 in let z : ◌≡◌ {A = ℕ} 0 1 = cc in absurd (omega arith)
+      go (TypeToken.Basic c) k a t = let e = (primitive-got M ts p c d (Ty.named x) q (p + 1) t).0 in absurd cc
+      go (TypeToken.Array n) k a t = let e = (element-got M ts p n d (Ty.named x) q (p + 1) t a).4 in absurd cc
       go (TypeToken.Named y) k a t = let e = named-got M ts p y d (Ty.named x) q (p + 1) t in let i : y ≡ x = cc e.0 in (k ∙ ap (λ (z : ℕ). got (TypeToken.Named z) (p + 1)) i, e.1)
 
   array-got : (d p n : ℕ) (b : Ty) (q : ℕ) → ty M d ts p ≡ got (Ty.array n b) q → (token (type_token_of M) ts p ≡ got (TypeToken.Array n) (p + 1)) × (d ≡ 0 → ⊥) × (n ≤ 256) × (ty M (d - 1) ts (p + 1) ≡ got b q)
   array-got d p n b q g = let y = type-got M ts p d (Ty.array n b) q g in go y.0 y.1 y.2 y.3
     where
       go : (h : TypeToken) → token (type_token_of M) ts p ≡ got h (p + 1) → allows d h ≡ true → typed h (element d) ts (p + 1) ≡ got (Ty.array n b) q → (token (type_token_of M) ts p ≡ got (TypeToken.Array n) (p + 1)) × (d ≡ 0 → ⊥) × (n ≤ 256) × (ty M (d - 1) ts (p + 1) ≡ got b q)
-      go (TypeToken.Basic c) k a t = let e = (primitive-got M ts p c d (Ty.array n b) q (p + 1) t).0 in let z : ◌≡◌ {A = ℕ} 0 1 = cc in absurd (omega arith)
+      go (TypeToken.Basic c) k a t = let e = (primitive-got M ts p c d (Ty.array n b) q (p + 1) t).0 in absurd cc
       go (TypeToken.Array m) k a t =
           let e = element-got M ts p m d (Ty.array n b) q (p + 1) t a in
           let i : m ≡ n = cc e.4 in
           let j : e.0 ≡ b = cc e.4 in
           (k ∙ ap (λ (z : ℕ). got (TypeToken.Array z) (p + 1)) i, e.1, rw i at e.2, e.3 ∙ ap (λ (z : Ty). got z q) j)
-      go (TypeToken.Named y) k a t = let e = (named-got M ts p y d (Ty.array n b) q (p + 1) t).0 in let z : ◌≡◌ {A = ℕ} 0 1 = cc in absurd (omega arith)
+      go (TypeToken.Named y) k a t = let e = (named-got M ts p y d (Ty.array n b) q (p + 1) t).0 in absurd cc
 
   -- ---- a type is read by its first token
   basic-read : (d p : ℕ) (b : Primitive) → token (type_token_of M) ts p ≡ got (TypeToken.Basic b) (p + 1) → ty M d ts p ≡ got (Ty.primitive b) (p + 1)
@@ -99,7 +99,7 @@ module _ (M : ℕ) (ts : List TagValue) where
   each_read : (ds : List Declared) (k p q : ℕ) → times k (declaration M) ts p ≡ got ds q → EachRead ds
   unfolding EachRead
   each_read [] k p q g = tt
-  each_read (d ∷ ds) zero p q g = let e = (times-nil (declaration M) ts zero p (d ∷ ds) q refl g).0 in let z : ◌≡◌ {A = ℕ} 0 1 = cc in absurd (omega arith)
+  each_read (d ∷ ds) zero p q g = let e = (times-nil (declaration M) ts zero p (d ∷ ds) q refl g).0 in absurd cc
   each_read (d ∷ ds) (suc k) p q g =
       let a = times-cons (declaration M) ts (suc k) p (d ∷ ds) q (λ z. omega (arith, z)) g in
       let i : a.0 ≡ d = cc a.5 in
@@ -115,13 +115,13 @@ module _ (M : ℕ) (ts : List TagValue) where
 
   each_last : (ds : List Declared) (x : ℕ) (t : Ty) → EachRead ds → last_type ds x ≡ some t → (s r : ℕ) × (ty M 8 ts s ≡ got t r)
   unfolding EachRead last_type
-  each_last [] x t h e = let z : ◌≡◌ {A = ℕ} 0 1 = cc in absurd (omega arith)
+  each_last [] x t h e = absurd cc
   each_last (d ∷ ds) x t h e = go (last_type ds x) (eqb d.name x) (λ i. each_last ds x t h.1 i) e
     where
       go : (o : Option Ty) (b : Bool) → (o ≡ some t → (s r : ℕ) × (ty M 8 ts s ≡ got t r)) → or_else o (choose b (some d.type) none) ≡ some t → (s r : ℕ) × (ty M 8 ts s ≡ got t r)
       go (some u) b f i = f i
       go none true f i = let j : d.type ≡ t = cc in (h.0.0, h.0.1, h.0.2 ∙ ap (λ (u : Ty). got u h.0.1) j)
-      go none false f i = let z : ◌≡◌ {A = ℕ} 0 1 = cc in absurd (omega arith)
+      go none false f i = absurd cc
 
   declared-read : (n : Node) (u : ℕ) (lay : NodeLayout) → LaidNode M ts n u lay → EachRead (declared n)
   declared-read n u lay d = each_append n.inputs (n.outputs ++ n.locals) (each_read n.inputs _ _ _ d.inputs.items) (each_append n.outputs n.locals (each_read n.outputs _ _ _ d.outputs.items) (each_read n.locals _ _ _ d.locals.items))

@@ -1,12 +1,12 @@
 -- The type that an answer says.
-use Rattle.std.specs.Prelude.{ℕ, ◌-◌, ◌<◌, ◌≡◌, List, eqb, get_or}
+use Rattle.std.specs.Prelude.{ℕ, ◌<◌, ◌≡◌, List, get_or}
 use Rattle.std.proofs.Math.Option.{Option, none, some}
-use Rattle.definitions.specs.Lists.{choose}
 use Rattle.definitions.specs.Tokens.{TagValue}
 use Rattle.definitions.specs.Tree.{Ty, Declared}
 use Rattle.definitions.specs.Reading.{got}
 use Rattle.definitions.specs.Grammar.{ty}
 use Rattle.definitions.specs.Declock.{last_type}
+use Rattle.clock_tables.specs.Words.{place_of}
 use Rattle.typing.specs.declared.TypeFound.{TypeFound}
 use Rattle.std.specs.Option.{option_map}
 use Rattle.std.specs.declared.option.Option as code
@@ -21,10 +21,7 @@ IsFound M ts (some t) (Some (TypeFound.At p)) = (d : ℕ) × (q : ℕ) × (ty M 
 IsFound M ts (some t) (Some (TypeFound.Basic k)) = t ≡ Ty.primitive k
 IsFound M ts (some t) None = ⊥
 
--- what a name's word says: where its type stands
-abbrev pub place_of : ℕ → code.Option ℕ
-place_of w = choose (eqb w 0) None (Some (w - 1))
-
+-- what a name's word says: the type that stands there
 abbrev pub found_by : ℕ → code.Option TypeFound
 found_by w = option_map TypeFound.At (place_of w)
 

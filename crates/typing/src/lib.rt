@@ -11,8 +11,9 @@ ghost use Rattle.definitions.specs.Declock.{declared, element, literal_type, ope
 ghost use Rattle.operands.specs.Spread.{tree};
 ghost use Rattle.layout.specs.Laid.{LaidNode};
 ghost use Rattle.layout.specs.Spans.{Spans};
-ghost use Rattle.typing.specs.Found.{IsFound, place_of, Declares};
+ghost use Rattle.typing.specs.Found.{IsFound, Declares};
 ghost use Rattle.clock_tables.specs.Value.{value_of};
+ghost use Rattle.clock_tables.specs.Words.{place_of};
 ghost use Rattle.index.specs.Indexed.{NodesIn};
 ghost use Rattle.stateless.specs.Yield.{shape_after};
 ghost use Rattle.typing.specs.After.{called_by};
@@ -99,8 +100,7 @@ pub fn declared_types(source: &Source<'_>, node: NodeLayout, types: &mut [u32])
 pub fn last_type(types: &[u32], x: u32) -> Option<usize>
     ensures { result ≡ place_of (get_or types.now x 0) }
 {
-    let w = clock_tables::word_at(types, x as usize);
-    Some(w.checked_sub(1)? as usize)
+    clock_tables::place_in(clock_tables::word_at(types, x as usize))
 }
 
 // The type of the expression that stands there.

@@ -11,7 +11,7 @@ ghost use Rattle.vectors.specs.Fields.{place_of, before, behind, digit_of, decod
 
 use clock_pass::TOLD_CLOCKS;
 use clock_tables::ClockList;
-use definitions::{CHAIN_TABLE, FaultRecord, MOST_NODES, MOST_TOKENS, Refusal};
+use definitions::{CHAIN_TABLE, FaultRecord, MOST_NODES, Refusal};
 use lines::NamedText;
 use parts::TokenArrays;
 use query::NodeCounts;
@@ -202,16 +202,20 @@ fn is_told(listed: ListedSheet<'_>, node: usize, fault: usize, out: &mut [u8]) -
     }
 }
 
-// 65,536 bytes are enough for any rewritten sheet.
-fn rewrite_lent(listed: ListedSheet<'_>, lent: usize) -> bool {
+// Does this hold of so many lent bytes? 65,536 are enough for any rewritten sheet, and for any text.
+fn with_lent<F: FnOnce(&mut [u8]) -> bool>(lent: usize, check: F) -> bool
+    requires { F.IsAlwaysCallable check }
+{
     let mut out = [0u8; 65536];
-    is_rewritten(listed, &mut out[..lent.min(65536)])
+    check(&mut out[..lent.min(65536)])
 }
 
-// They are enough for any text too.
+fn rewrite_lent(listed: ListedSheet<'_>, lent: usize) -> bool {
+    with_lent(lent, |out| is_rewritten(listed, out))
+}
+
 fn text_lent(listed: ListedSheet<'_>, node: usize, fault: usize, lent: usize) -> bool {
-    let mut out = [0u8; 65536];
-    is_told(listed, node, fault, &mut out[..lent.min(65536)])
+    with_lent(lent, |out| is_told(listed, node, fault, out))
 }
 
 // The byte at a place, 0 past the end.
@@ -246,6 +250,7 @@ struct NodeClocks<'a> {
 }
 
 // A line for each chain.
+// Stays (no plainer): by row, here and below: `ClockList` lends no iterator, which no other crate would use.
 fn put_chain_lines(lines: &mut NamedText<'_, '_>, chains: ClockList<'_>) {
     for i in 0..chains.count {
         lines.put_chain_line(chains.get(i));
@@ -394,10 +399,7 @@ fn check_text(line: &[u8]) -> Option<bool> {
 
 // What reading a sheet is refused for.
 fn reading(bytes: &[u8]) -> Option<NumberedPlace> {
-    let mut tokens = TokenArrays {
-        tags: [0; MOST_TOKENS],
-        values: [0; MOST_TOKENS],
-    };
+    let mut tokens = TokenArrays::none();
     let refusal = sheet::read(bytes, &mut tokens).err()?;
     Some(NumberedPlace {
         number: refusals::number(refusal) as usize,

@@ -4,6 +4,7 @@ use mathlib.Core.Path.{◌≡◌, refl, ◌∙◌}
 use mathlib.Core.List.{List}
 use native.Mathlib.Omega.{arith}
 use lib.ListN.{length}
+use Rattle.grammar.specs.declared.source.Source.{Source}
 use Rattle.workspace.specs.declared.Working.{Working}
 use Rattle.workspace.specs.Room.{SameRoom, Roomy, Ample, RoomToList, RoomToPlan, Rooms}
 
@@ -46,16 +47,16 @@ module _ (table rows chain : List ℕ) (r : Ample table rows chain) where
   pub ample-kept : (table' rows' chain' : List ℕ) → length table' ≡ length table → length rows' ≡ length rows → length chain' ≡ length chain → Ample table' rows' chain'
   ample-kept table' rows' chain' a b c = record { few = omega (arith, r.few); chained = omega (arith, r.chained); ordered = omega (arith, r.ordered) }
 
-module _ {M many : ℕ} {w w' : Working} (s : SameRoom w w') where
-  pub roomy-kept : Roomy M many w → Roomy M many w'
-  roomy-kept r = record { few = r.few; clocks = omega (arith, r.clocks, s.env); found = omega (arith, r.found, s.table); sited = omega (arith, r.sited, s.sites) }
+module _ {s : Source} {w w' : Working} (k : SameRoom w w') where
+  pub roomy-kept : Roomy s w → Roomy s w'
+  roomy-kept r = record { few = r.few; clocks = omega (arith, r.clocks, k.env); found = omega (arith, r.found, k.table); sited = omega (arith, r.sited, k.sites) }
 
-  pub list-kept : RoomToList M many w → RoomToList M many w'
-  list-kept r = record { clocks = roomy-kept r.clocks; chains = ample-kept _ _ _ r.chains _ _ _ s.table s.rows s.chain }
+  pub list-kept : RoomToList s w → RoomToList s w'
+  list-kept r = record { clocks = roomy-kept r.clocks; chains = ample-kept _ _ _ r.chains _ _ _ k.table k.rows k.chain }
 
-  pub plan-kept : RoomToPlan M many w → RoomToPlan M many w'
-  plan-kept r = record { clocks = roomy-kept r.clocks; few-tokens = r.few-tokens; typed = omega (arith, r.typed, s.rows); planned = omega (arith, r.planned, s.chain) }
+  pub plan-kept : RoomToPlan s w → RoomToPlan s w'
+  plan-kept r = record { clocks = roomy-kept r.clocks; few-tokens = r.few-tokens; typed = omega (arith, r.typed, k.rows); planned = omega (arith, r.planned, k.chain) }
 
 -- room to plan, of tables that have room for whatever is asked
-pub to-plan : {M many : ℕ} {w : Working} → Rooms M many w → many ≤ 4096 → RoomToPlan M many w
+pub to-plan : {s : Source} {w : Working} → Rooms s w → length s.tags.now ≤ 4096 → RoomToPlan s w
 to-plan r few = record { clocks = r.listed.clocks; few-tokens = few; typed = r.typed; planned = r.planned }

@@ -1,7 +1,7 @@
 -- The walk: an expression by its first token, parts one after another; what is on the same clock is met in the loop.
-use mathlib.Core.List.{List}
 use Rattle.clock_tables.specs.Value.{value_of}
-use Rattle.checking.specs.Walk.{CheckedTo, Stays}
+use Rattle.checking.specs.Walk.{Stays}
+use Rattle.checking.specs.declared.CheckOutput.{CheckOutput}
 use Rattle.checking.proofs.Walk.{WalksAll}
 use Prim.Native.Nat.{ℕ, ◌+◌, ◌-◌, ◌*◌, ◌^◌, ◌≤◌}
 use Rattle.checking.proofs.+checks.Given as goal
@@ -27,8 +27,7 @@ decreases-check_sample l = 5 * (2 ^ 64 - l.at) + 2
 abbrev pub invariant-check_exprs-loop-left : goal.invariant-check_exprs-loop-left
 invariant-check_exprs-loop-left l =
     (l.at ≤ l.from) × Stays l.initial.output l.output
-    × ((table'' sites'' : List ℕ) (r : CheckedTo) → WalksAll l.input.source.names l.input.source.tags.now l.input.source.values.now l.input.env.now l.input.equation l.output.findings.now.words.now table'' l.output.sites.now sites'' (value_of l.on) l.output.findings.now.count l.left l.from r
-    → WalksAll l.input.source.names l.input.source.tags.now l.input.source.values.now l.input.env.now l.input.equation l.initial.output.findings.now.words.now table'' l.initial.output.sites.now sites'' (value_of l.on) l.initial.output.findings.now.count l.many l.at r)
+    × ((out : CheckOutput) (r : ℕ) → WalksAll l.input l.output out (value_of l.on) l.left l.from r → WalksAll l.input l.initial.output out (value_of l.on) l.many l.at r)
 
 abbrev pub decreases-check_exprs-loop-left : goal.decreases-check_exprs-loop-left
 decreases-check_exprs-loop-left l = 2 ^ 64 - l.from

@@ -7,23 +7,19 @@ use Rattle.checking.proofs.check_equation.Goals as goal
 
 pub returns-clause-ends : goal.returns-clause-ends
 returns-clause-ends c = λ e q g.
-    let s = c.args.input.now.source in
-    let p = left-laid s.names s.tags.now s.values.now s.same_length c.args.at _ c.names_at-left.ensures e q g in
+    let p = left-laid c.args.input.now.source c.args.at _ c.names_at-left.ensures e q g in
     (c.check_expr.ensures.traversed e.right q p.1).end
 
 pub returns-clause-held : goal.returns-clause-held
-returns-clause-held c = λ node clocks e q fs r g h.
+returns-clause-held c = λ node clocks e q r g.
     let s = c.args.input.now.source in
-    let p = left-laid s.names s.tags.now s.values.now s.same_length c.args.at _ c.names_at-left.ensures e q g in
+    let p = left-laid s c.args.at _ c.names_at-left.ensures e q g in
     let same = c.names_in-names.ensures.read e.left _ p.0 in
-    let below = name-below s.names s.tags.now s.values.now s.same_length _ _ _ e.left _ same p.0 in
-    let l = c.check_left.ensures.held node clocks fs r below (rw c.put_site.ensures.same_findings h) in
-    let w = c.check_expr.ensures.traversed e.right q p.1 in
-    equation-whole node clocks c.args.input.now.equation (value_of c.args.on) e _ _ fs (w.holds clocks _ r.agrees (rw same at l))
+    let below = name-below s _ _ _ e.left _ same p.0 in
+    let l = c.check_left.ensures.held node clocks r below in
+    equation-whole node clocks c.args.input.now.equation (value_of c.args.on) e _ _ _ _ _ same c.put_site.ensures.same_findings l ((c.check_expr.ensures.traversed e.right q p.1).holds clocks r.agrees)
 
 pub returns-clause-stored : goal.returns-clause-stored
 returns-clause-stored c = λ e q g.
-    let i = c.args.input.now in
-    let s = i.source in
-    let p = left-laid s.names s.tags.now s.values.now s.same_length c.args.at _ c.names_at-left.ensures e q g in
-    equation-stored s.names s.tags.now s.values.now i.env.now i.equation s.same_length _ _ _ _ _ (value_of c.args.on) _ c.args.at _ _ c.put_site.ensures.stored c.check_expr.ensures.stays.sites_length c.check_expr.ensures.traversed e q g p.1 p.2 p.3
+    let p = left-laid c.args.input.now.source c.args.at _ c.names_at-left.ensures e q g in
+    equation-stored c.args.input.now _ _ _ (value_of c.args.on) c.args.at _ _ c.check_expr.ensures.traversed c.put_site.ensures.stored c.check_expr.ensures.stays.sites_length e q g p.1 p.2 p.3

@@ -4,7 +4,8 @@ use Rattle.definitions.specs.Clock.{Clock}
 use Rattle.chain_order.specs.Order.{row_of}
 use Rattle.emit.specs.Out.{emits}
 use Rattle.declock.specs.Tabled.{FlagIds, ordered_clocks}
-use Rattle.declock.proofs.FlagsLaws.{Left, declarations}
+use Rattle.declock.specs.Parts.{declarations}
+use Rattle.declock.proofs.FlagsLaws.{Left}
 use Rattle.declock.proofs.put_declarations.Given as goal
 
 abbrev pub invariant-loop-row : goal.invariant-loop-row

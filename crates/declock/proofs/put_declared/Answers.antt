@@ -4,4 +4,4 @@ use Rattle.declock.proofs.Written.{flags-tabled, firsts-tabled, hold-ids, ready-
 use Rattle.declock.proofs.put_declared.Goals as goal
 
 pub returns : goal.returns
-returns c = λ names h ids q. ready-front names h ids q _ c.count_of-more.ensures (c.put_front.ensures _ _ _ h.grounds.laid) (c.put_locals.ensures _ _ _ h.grounds.laid) (c.put_declarations.ensures.result_after ids (flags-tabled names h ids q)) (c.put_declarations-2.ensures.result_after_2 ids (firsts-tabled names h ids q)) (c.put_hold_declarations.ensures h.writer _ _ ids (holds-many names h ids q) (ready-holds names h ids q) h.grounds.declares (hold-ids names h ids q))
+returns c = λ names h ids q. ready-front names h ids q _ c.count_of-more.ensures (c.put_front.ensures _ _ _ h.grounds.laid) (c.put_locals.ensures _ _ _ h.grounds.laid) (c.put_declarations.ensures ids.flag (flags-tabled names h ids q)) (c.put_declarations-2.ensures ids.first (firsts-tabled names h ids q)) (c.put_hold_declarations.ensures h.writer _ _ ids (holds-many names h ids q) (ready-holds names h ids q) h.grounds.declares (hold-ids names h ids q))

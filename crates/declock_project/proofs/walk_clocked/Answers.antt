@@ -1,16 +1,35 @@
 -- `declock_project::walk_clocked` meets its contract: what has a clock too deep or a fault is not written. Assumes nothing.
 use mathlib.Core.Path.{sym, ap, ◌∙◌}
+use Rattle.std.proofs.lemmas.Result.{err_from_is_err_and}
 use Rattle.workspace.proofs.Kept.{plan-kept}
 use Rattle.node_plan.specs.Outcomes.{met_by}
 use Rattle.first_faults.proofs.Laws.{deep-unformed}
 use Rattle.declock_project.proofs.Nodes.{never-put, full_put, deep-unclean, unclean, plan-put}
 use Rattle.declock_project.proofs.walk_clocked.Goals as goal
 
+pub returns-in_err-counts-clause-deepness : goal.returns-in_err-counts-clause-deepness
+returns-in_err-counts-clause-deepness c =
+    let e = err_from_is_err_and c.from_residual.result c.from_residual.ensures.1 in
+    let d = c.in_err-counts.ensures.deepness in
+    rw (e.1, e.2) (record { refused_at = d.refused_at; deep = d.deep })
+
+pub returns-in-Err-clause-deepness : goal.returns-in-Err-clause-deepness
+returns-in-Err-clause-deepness c = record { refused_at = tt; deep = c.in_ok-counts.ensures.deepness.deep }
+
+pub returns-then-sheet-clause-deepness : goal.returns-then-sheet-clause-deepness
+returns-then-sheet-clause-deepness c = record { refused_at = tt; deep = c.in_ok-counts.ensures.deepness.deep }
+
+pub returns-then-has_rows-clause-deepness : goal.returns-then-has_rows-clause-deepness
+returns-then-has_rows-clause-deepness c = record { refused_at = tt; deep = c.in_ok-counts.ensures.deepness.deep }
+
+pub returns-clause-deepness : goal.returns-clause-deepness
+returns-clause-deepness c = record { refused_at = tt; deep = c.in_ok-counts.ensures.deepness.deep }
+
 pub returns-in_err-counts-clause-laid_put : goal.returns-in_err-counts-clause-laid_put
-returns-in_err-counts-clause-laid_put c = λ r. never-put (λ i n h u. deep-unclean n (c.in_err-counts.ensures.deep_value n.node _ u.laid r.plans) u.clean.forms)
+returns-in_err-counts-clause-laid_put c = λ r. never-put (λ i n h u. deep-unclean n (c.in_err-counts.ensures.deepness.deep n.node _ u.laid r.plans) u.clean.forms)
 
 pub returns-in_err-counts-clause-fault_value : goal.returns-in_err-counts-clause-fault_value
-returns-in_err-counts-clause-fault_value c = λ i n q k h d u f r. absurd (deep-unformed n k (c.in_err-counts.ensures.deep_value n q d r.plans) f)
+returns-in_err-counts-clause-fault_value c = λ i n q k h d u f r. absurd (deep-unformed n k (c.in_err-counts.ensures.deepness.deep n q d r.plans) f)
 
 pub returns-in-Err-clause-laid_put : goal.returns-in-Err-clause-laid_put
 returns-in-Err-clause-laid_put c = λ r. never-put (λ i n h u. unclean i n _ (sym (ap met_by c.in-Err.is) ∙ (c.in_ok-counts.ensures.found_in i n.node _ n.clocking h u.laid u.uses u.clean.forms r.plans).fault) u.clean.clean)

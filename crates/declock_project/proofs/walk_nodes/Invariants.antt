@@ -1,6 +1,5 @@
 -- `declock_project::walk_nodes` meets its contract: in the first k nodes no clock is too deep, their first faults are recorded, and where
--- there
--- are none their names and tokens are put. Assumes nothing.
+-- there are none their names and tokens are put. Assumes nothing.
 use Prim.Native.Nat.{ℕ, ◌≤◌}
 use mathlib.Core.Path.{◌≡◌}
 use mathlib.Core.List.{List}

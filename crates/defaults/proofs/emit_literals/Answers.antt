@@ -1,13 +1,13 @@
 -- `defaults::emit_literals` meets its contract: an int and a float have a high word. Assumes nothing.
 use mathlib.Core.Logic.{inl, inr}
 use Rattle.std.proofs.Common.{rules}
-use Rattle.defaults.proofs.Written.{many-bool, many-char, literal-one}
+use Rattle.defaults.proofs.Written.{many-short, literal-one}
 use Rattle.defaults.proofs.emit_literals.Goals as goal
 
 pub returns-in-Bool : goal.returns-in-Bool
 returns-in-Bool c = elim c.in-Bool.is [
-  | inl w ↦ many-bool _ _ _ _ _ w.1 c.emit_many.ensures
-  | inr w ↦ many-char _ _ _ _ _ w.1 c.emit_many.ensures
+  | inl w ↦ many-short _ _ _ _ (rw w.1) c.emit_many.ensures
+  | inr w ↦ many-short _ _ _ _ (rw w.1) c.emit_many.ensures
 ]
 
 pub returns-in-Int : goal.returns-in-Int

@@ -1,24 +1,22 @@
 -- `fault_text::text_in` meets its contract: the refusal of node k stands before one behind it. Assumes nothing.
-use mathlib.Core.Path.{◌≡◌, refl, sym, ◌∙◌, ap}
-use lib.ListN.{length}
+use mathlib.Core.Path.{◌≡◌, refl}
 use Rattle.std.proofs.lemmas.Result.{err_from_is_err_and}
 use Rattle.definitions.specs.Bytes.{cut}
-use Rattle.definitions.specs.Output.{condact_id}
 use Rattle.definitions.specs.Answer.{Input}
 use Rattle.query.specs.Standing.{Standing}
 use Rattle.query.proofs.Nodes.{found-turned}
 use Rattle.workspace.specs.Room.{RoomToPlan}
 use Rattle.workspace.proofs.Kept.{plan-kept}
-use Rattle.fault_text.proofs.Texts.{Sought, node-of, text-turned, text-as, text-deep, text-behind, text-there, room-of}
+use Rattle.first_faults.proofs.Standing.{stands-in}
+use Rattle.fault_text.proofs.Texts.{Sought, node-of, text-turned, text-as, text-deep, text-behind, text-there}
 use Rattle.fault_text.proofs.text_in.Goals as goal
 use Rattle.fault_text.proofs.text_in.Goals.{After-find_node}
 
 sought : (c : After-find_node) (i : Input) → Standing c.args.names.spelling c.args.source.now i → i.names ≡ cut c.args.names.lengths.now c.args.names.spelling.letters.now
-    → RoomToPlan c.args.source.now.names (length c.args.source.now.tags.now) c.args.working.now → Sought c.index_of-index.result i c.args.k c.find_node.result c.find_node.new.working
+    → RoomToPlan c.args.source.now c.args.working.now → Sought c.index_of-index.result i c.args.k c.find_node.result c.find_node.new.working
 sought c i s named room =
-    let h = c.index_of-index.ensures.indexed i _ s.tree (c.condact.ensures ∙ ap condact_id (sym named)) in
-    let r = room-of c.index_of-index.ensures.source_value room in
-    record { indexed = h; found = c.find_node.ensures.node_found i h.laid.nodes r.clocks; room = plan-kept c.find_node.ensures.same_room r }
+    let z = stands-in c.index_of-index.ensures.source_value c.index_of-index.ensures.indexed c.args.names c.condact.ensures s named room in
+    record { indexed = z.0; found = c.find_node.ensures.node_found i z.0.laid.nodes z.1.clocks; room = plan-kept c.find_node.ensures.same_room z.1 }
 
 pub returns-in_err-layout-clause-given : goal.returns-in_err-layout-clause-given
 returns-in_err-layout-clause-given c = λ i s named room.
@@ -31,17 +29,17 @@ returns-in_err-fault-clause-given c = λ i s named room.
     let z = sought (goal.at.returns-in_err-fault-clause-given c).After-find_node i s named room in
     let f = node-of _ z c.in_ok-layout.was in
     let e = err_from_is_err_and c.from_residual-in_err-fault.result c.from_residual-in_err-fault.ensures.1 in
-    rw (e.1, e.2, c.in_err-fault.ensures.refused_at) (text-as i _ _ f.asked c.args.j c.args.out.now _ _ (text-deep i c.args.k c.args.j c.args.out.now f.node f.rest _ (c.in_err-fault.ensures.deep_value f.node f.end f.laid z.room) refl))
+    rw (e.1, e.2, c.in_err-fault.ensures.deepness.refused_at) (text-as i _ _ f.asked c.args.j c.args.out.now _ _ (text-deep i c.args.k c.args.j c.args.out.now f.node f.rest _ (c.in_err-fault.ensures.deepness.deep f.node f.end f.laid z.room) refl))
 
 pub returns-in_err-behind-clause-given : goal.returns-in_err-behind-clause-given
 returns-in_err-behind-clause-given c = λ i s named room.
     let z = sought (goal.at.returns-in_err-behind-clause-given c).After-find_node i s named room in
     let f = node-of _ z c.in_ok-layout.was in
     let e = err_from_is_err_and c.from_residual-in_err-behind.result c.from_residual-in_err-behind.ensures.1 in
-    rw (e.1, e.2) (text-as i _ _ f.asked c.args.j c.args.out.now _ _ (text-behind i c.args.k c.args.j c.args.out.now f.node f.rest _ (c.in_ok-fault.ensures.deep_value f.node f.end f.laid z.room) refl f.last _ f.behind _ c.in_err-behind.was))
+    rw (e.1, e.2) (text-as i _ _ f.asked c.args.j c.args.out.now _ _ (text-behind i c.args.k c.args.j c.args.out.now f.node f.rest _ (c.in_ok-fault.ensures.deepness.deep f.node f.end f.laid z.room) refl f.last _ f.behind _ c.in_err-behind.was))
 
 pub returns-clause-given : goal.returns-clause-given
 returns-clause-given c = λ i s named room.
     let z = sought (goal.at.returns-clause-given c).After-find_node i s named room in
     let f = node-of _ z c.in_ok-layout.was in
-    text-as i _ _ f.asked c.args.j c.args.out.now _ _ (text-there i c.args.k c.args.j c.args.out.now f.node f.rest _ (c.in_ok-fault.ensures.deep_value f.node f.end f.laid z.room) refl f.last _ f.behind _ c.in_ok-behind.was _ (λ k e. c.in_ok-fault.ensures.fault_value i f.node f.end k z.indexed f.laid e z.room) _ _ (c.text_found.ensures i.names s.named))
+    text-as i _ _ f.asked c.args.j c.args.out.now _ _ (text-there i c.args.k c.args.j c.args.out.now f.node f.rest _ (c.in_ok-fault.ensures.deepness.deep f.node f.end f.laid z.room) refl f.last _ f.behind _ c.in_ok-behind.was _ (λ k e. c.in_ok-fault.ensures.fault_value i f.node f.end k z.indexed f.laid e z.room) _ _ (c.text_found.ensures i.names s.named))

@@ -9,9 +9,10 @@ use Rattle.infer_clocks.proofs.Laws.{sites-fit, chains-sorted}
 use Rattle.infer_clocks.proofs.chain_rows.Goals as goal
 
 pub returns : goal.returns
-returns c = λ r w.
+returns c = λ r.
     let u = r.rowed in
     let v = r.placed in
+    let w = r.numbered in
     let l = c.site_rows.ensures in
     let held = l.held [] (has-none _) in
     let fit = sites-fit c.args.findings.words.now c.args.rows.now c.site_rows.new.rows _ _ u l.same_length held in

@@ -3,7 +3,7 @@ use mathlib.Core.Path.{◌≡◌}
 use mathlib.Core.List.{List}
 use Prim.Native.Nat.{ℕ, ◌+◌, ◌-◌}
 use lib.ListN.{length}
-use Rattle.definitions.specs.Bytes.{tokens}
+use Rattle.grammar.specs.Read.{tokens_of}
 use Rattle.definitions.specs.Tree.{Node}
 use Rattle.definitions.specs.Reading.{got, times}
 use Rattle.definitions.specs.Grammar.{node}
@@ -14,4 +14,4 @@ use Rattle.infer_clocks.proofs.first_deep.Given as goal
 
 abbrev pub invariant-loop-k : goal.invariant-loop-k
 invariant-loop-k l =
-    (length l.env ≡ length l.initial.env) × (length l.marks ≡ length l.initial.marks) × (length l.table ≡ length l.initial.table) × (length l.sites ≡ length l.initial.sites) × ((ns : List Node) (q : ℕ) → times l.count (node l.source.names) (tokens l.source.tags.now l.source.values.now) l.at ≡ got ns q → RoomToClock l.source.names (length l.source.tags.now) l.initial.env l.initial.marks l.initial.table → Nodes l.source.names (tokens l.source.tags.now l.source.values.now) (l.number + l.count - l.k) l.k l.place q (clockings l.number ns))
+    (length l.env ≡ length l.initial.env) × (length l.marks ≡ length l.initial.marks) × (length l.table ≡ length l.initial.table) × (length l.sites ≡ length l.initial.sites) × ((ns : List Node) (q : ℕ) → times l.count (node l.source.names) (tokens_of l.source) l.at ≡ got ns q → RoomToClock l.source l.initial.env l.initial.marks l.initial.table → Nodes l.source (l.number + l.count - l.k) l.k l.place q (clockings l.number ns))

@@ -3,7 +3,6 @@
 use native.Mathlib.Omega.{arith}
 use Rattle.std.proofs.lemmas.Result.{err_from_is_err_and}
 use lib.ListN.{length}
-use Rattle.definitions.specs.Bytes.{tokens}
 use Rattle.operands.proofs.Laws.{left_there}
 use Rattle.operands.proofs.Apart.{spread_end}
 use Rattle.operands.proofs.Roles.{arm}
@@ -15,10 +14,10 @@ use Rattle.inference.proofs.+natural.Goals.{first_found-in-None+in_ok-found-in-N
 
 -- whichever way it came, the operand has no clock and ends there
 first-found-passed : (t : ℕ) (c : goal.first_found-Joined-free_leaf t) →
-    Passed c.args.input.now.source.names (tokens c.args.input.now.source.tags.now c.args.input.now.source.values.now) c.args.input.now.env.now c.args.up c.place-place.result c.match-free_leaf.end
+    Passed c.args.input.now c.args.up c.place-place.result c.match-free_leaf.end
 first-found-passed t c = elim c.match-free_leaf.branch [
-  | first_found-in-None+in_ok-found-in-None+in-Free w ↦ rw w.end-is (passed-walk _ _ _ _ _ _ _ _ w.in_ok-found-in-None.was w.in-Free.is w.operand_clock.ensures)
-  | first_found-in-Some w ↦ rw w.end-is (passed-leaf _ _ _ _ _ _ _ w.in-Some.is c.free_leaf.ensures)
+  | first_found-in-None+in_ok-found-in-None+in-Free w ↦ rw w.end-is (passed-walk _ _ _ _ _ _ w.in_ok-found-in-None.was w.in-Free.is w.operand_clock.ensures)
+  | first_found-in-Some w ↦ rw w.end-is (passed-leaf _ _ _ _ _ w.in-Some.is c.free_leaf.ensures)
 ]
 
 -- where operands begin behind it, the place is among the tokens
@@ -26,19 +25,19 @@ found-at-inside : (t : ℕ) (c : goal.found_at-Else-v-at t) → c.args.at < leng
 found-at-inside t c = left_there _ _ _ c.args.input.now.source.same_length _ _ c.view_at-v.ensures c.if-v-at.false
 
 pub first_found-returns-in-On : goal.first_found-returns-in-On
-first_found-returns-in-On t c = let l = c.loop in λ es q clocks g a. remains-on c.args.input.now.source.names c.args.input.now.source.tags.now c.args.input.now.source.values.now c.args.input.now.env.now c.args.input.now.source.same_length c.args.up l.rest.gap c.args.operands.count l.counter l.rest.next _ c.place-place.ensures c.loop-test.true q clocks a _ (l.invariant.1 es q clocks g a) _ c.operand_clock.ensures _ _ c.in_ok-found-in-None.was c.in-On.is
+first_found-returns-in-On t c = let l = c.loop in λ es q clocks g a. remains-on c.args.input.now c.args.up l.rest.gap c.args.operands.count l.counter l.rest.next _ c.place-place.ensures c.loop-test.true q clocks a _ (l.invariant.1 es q clocks g a) _ c.operand_clock.ensures _ _ c.in_ok-found-in-None.was c.in-On.is
 
 pub first_found-returns-in_err-found-in-None : goal.first_found-returns-in_err-found-in-None
-first_found-returns-in_err-found-in-None t c = let l = c.loop in λ es q clocks g a. let v = err_from_is_err_and c.from_residual.result c.from_residual.ensures.1 in rw v.1 (remains-deep c.args.input.now.source.names c.args.input.now.source.tags.now c.args.input.now.source.values.now c.args.input.now.env.now c.args.input.now.source.same_length c.args.up l.rest.gap c.args.operands.count l.counter l.rest.next _ c.place-place.ensures c.loop-test.true q clocks a _ (l.invariant.1 es q clocks g a) _ c.operand_clock.ensures c.in_err-found-in-None.was)
+first_found-returns-in_err-found-in-None t c = let l = c.loop in λ es q clocks g a. let v = err_from_is_err_and c.from_residual.result c.from_residual.ensures.1 in rw v.1 (remains-deep c.args.input.now c.args.up l.rest.gap c.args.operands.count l.counter l.rest.next _ c.place-place.ensures c.loop-test.true q clocks a _ (l.invariant.1 es q clocks g a) _ c.operand_clock.ensures c.in_err-found-in-None.was)
 
 pub first_found-returns-then-others-rest : goal.first_found-returns-then-others-rest
-first_found-returns-then-others-rest t c = let l = c.loop in λ es q clocks g a. absurd (omega (arith, remains-past c.args.input.now.source.names c.args.input.now.source.tags.now c.args.input.now.source.values.now c.args.input.now.env.now c.args.input.now.source.same_length c.args.up l.rest.gap c.args.operands.count l.counter l.rest.next _ c.place-place.ensures c.loop-test.true q clocks a _ (l.invariant.1 es q clocks g a) _ (first-found-passed t (goal.at.first_found-returns-then-others-rest t c).Joined-free_leaf) _ c.behind-others.ensures.0, c.if-others-rest.true))
+first_found-returns-then-others-rest t c = let l = c.loop in λ es q clocks g a. absurd (omega (arith, remains-past c.args.input.now c.args.up l.rest.gap c.args.operands.count l.counter l.rest.next _ c.place-place.ensures c.loop-test.true q clocks a _ (l.invariant.1 es q clocks g a) _ (first-found-passed t (goal.at.first_found-returns-then-others-rest t c).Joined-free_leaf) _ c.behind-others.ensures.0, c.if-others-rest.true))
 
 pub first_found-loop-preserved : goal.first_found-loop-preserved
-first_found-loop-preserved t c = let l = c.loop in (omega (arith, l.invariant.0, c.if-others-rest.false), λ es q clocks g a. remains-rest c.args.input.now.source.names c.args.input.now.source.tags.now c.args.input.now.source.values.now c.args.input.now.env.now c.args.input.now.source.same_length c.args.up l.rest.gap c.args.operands.count l.counter l.rest.next _ c.place-place.ensures c.loop-test.true q clocks a _ (l.invariant.1 es q clocks g a) _ (first-found-passed t (goal.at.first_found-loop-preserved t c).Joined-free_leaf) _ c.behind-others.ensures.0 _ c.behind-others.ensures.1)
+first_found-loop-preserved t c = let l = c.loop in (omega (arith, l.invariant.0, c.if-others-rest.false), λ es q clocks g a. remains-rest c.args.input.now c.args.up l.rest.gap c.args.operands.count l.counter l.rest.next _ c.place-place.ensures c.loop-test.true q clocks a _ (l.invariant.1 es q clocks g a) _ (first-found-passed t (goal.at.first_found-loop-preserved t c).Joined-free_leaf) _ c.behind-others.ensures.0 _ c.behind-others.ensures.1)
 
 pub first_found-returns : goal.first_found-returns
-first_found-returns t c = λ es q clocks g a. remains-none _ _ clocks _ _ _ _ q _ (c.loop.invariant.1 es q clocks g a) (omega (arith, c.loop-test.false))
+first_found-returns t c = λ es q clocks g a. remains-none _ clocks _ _ _ _ q _ (c.loop.invariant.1 es q clocks g a) (omega (arith, c.loop-test.false))
 
 pub found_at-first_found-requires : goal.found_at-first_found-requires
 found_at-first_found-requires t c = let i = found-at-inside t (goal.at.found_at-first_found-requires t c).Else-v-at in omega (arith, c.if-v-at.false)

@@ -2,7 +2,7 @@
 -- Assumes nothing.
 use mathlib.Core.Path.{◌≡◌}
 use lib.ListN.{length}
-use Rattle.definitions.specs.Bytes.{tokens}
+use Rattle.grammar.specs.Read.{tokens_of}
 use Rattle.definitions.specs.Tree.{Exprs}
 use Rattle.definitions.specs.Reading.{got}
 use Rattle.definitions.specs.InferClocks.{Clocks}
@@ -23,4 +23,4 @@ abbrev pub decreases-operand_clock : goal.decreases-operand_clock
 decreases-operand_clock l = 3 * (length l.input.now.source.tags.now - l.at) + 1
 
 abbrev pub invariant-first_found-loop : goal.invariant-first_found-loop
-invariant-first_found-loop l = (l.fn.operands.rest.next ≤ l.rest.next) × ((es : Exprs) (q : ℕ) (clocks : Clocks) → spread l.input.source.names l.initial.rest.gap l.fn.operands.count (tree l.input.source.names) (tokens l.input.source.tags.now l.input.source.values.now) l.initial.rest.next ≡ got es q → Agrees l.input.env.now l.input.source.names clocks → Remains l.input.source.names (tokens l.input.source.tags.now l.input.source.values.now) clocks l.up l.rest.gap (l.fn.operands.count - l.counter) l.rest.next q (first_of clocks l.up es))
+invariant-first_found-loop l = (l.fn.operands.rest.next ≤ l.rest.next) × ((es : Exprs) (q : ℕ) (clocks : Clocks) → spread l.input.source.names l.initial.rest.gap l.fn.operands.count (tree l.input.source.names) (tokens_of l.input.source) l.initial.rest.next ≡ got es q → Agrees l.input.env.now l.input.source.names clocks → Remains l.input.source clocks l.up l.rest.gap (l.fn.operands.count - l.counter) l.rest.next q (first_of clocks l.up es))

@@ -1,4 +1,4 @@
--- `inference::equation_ends` meets its contract: the table so far says where the first equations end. The measure is what is left.
+-- `inference::equation_ends` meets its contract: the table so far says where the first equations end.
 -- Assumes nothing.
 use mathlib.Core.Path.{refl, ◌∙◌}
 use native.Mathlib.Omega.{arith}

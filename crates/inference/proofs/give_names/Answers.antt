@@ -21,12 +21,11 @@ loop-x-preserved c = (
   λ n p xs q b m g s.
       let r = c.args.round.now in
       let l = c.loop-x in
-      let below = name-below r.source.now.names r.source.now.tags.now r.source.now.values.now r.source.now.same_length c.args.left.count c.args.left.at c.names_in-names.result.now xs q (c.names_in-names.ensures.read xs q g) g l.x-index c.loop-x-test.true in
-      giving-step r.source.now.names n (value_of c.args.c) r.present l.tables.env.now l.tables.since.now c.names_in-names.result.now _ _ _ _ r.marks.now l.changed c.give_name-changed.result b l.x-index _ c.loop-x-test.true refl below m c.give_name-changed.ensures.held (l.invariant.1 n p xs q b m g s),
+      let below = name-below r.source.now c.args.left.count c.args.left.at c.names_in-names.result.now xs q (c.names_in-names.ensures.read xs q g) g l.x-index c.loop-x-test.true in
+      giving-step r n (value_of c.args.c) l.tables c.names_in-names.result.now _ _ c.give_name-changed.new.tables l.changed c.give_name-changed.result b l.x-index _ c.loop-x-test.true refl below m c.give_name-changed.ensures.held (l.invariant.1 n p xs q b m g s),
 )
 
 pub returns-clause-held : goal.returns-clause-held
 returns-clause-held c = λ n p xs q b m g s.
-    let r = c.args.round.now in
     let l = c.loop-x in
-    giving-end r.source.now.names n (value_of c.args.c) r.present l.tables.env.now l.tables.since.now c.names_in-names.result.now _ _ (l.changed || b) l.x-index c.loop-x-test.false (l.invariant.1 n p xs q b m g s)
+    giving-end c.args.round.now n (value_of c.args.c) l.tables c.names_in-names.result.now _ _ (l.changed || b) l.x-index c.loop-x-test.false (l.invariant.1 n p xs q b m g s)

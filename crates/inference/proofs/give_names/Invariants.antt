@@ -18,4 +18,4 @@ use Rattle.inference.proofs.give_names.Given as goal
 abbrev pub invariant-loop-x : goal.invariant-loop-x
 invariant-loop-x l =
     Kept l.initial.tables l.tables
-    × ((n : Node) (p : Pass) (xs : List ℕ) (q : ℕ) (b : Bool) → Marked l.round.marks.now l.round.source.now.names (ports n) → times l.fn.left.count (name l.round.source.now.names) (tokens_of l.round.source.now) l.fn.left.at ≡ got xs q → PassSoFar l.initial.tables.env.now l.round.source.now.names b p → Giving l.round.source.now.names n (value_of l.c) l.round.present l.tables.env.now l.tables.since.now (l.changed || b) (drop l.x-index l.names) (give n (value_of l.c) xs p) (dates n (value_of l.c) l.round.present xs p l.initial.tables.since.now))
+    × ((n : Node) (p : Pass) (xs : List ℕ) (q : ℕ) (b : Bool) → Marked l.round.marks.now l.round.source.now.names (ports n) → times l.fn.left.count (name l.round.source.now.names) (tokens_of l.round.source.now) l.fn.left.at ≡ got xs q → PassSoFar l.initial.tables.env.now l.round.source.now.names b p → Giving l.round n (value_of l.c) l.tables (l.changed || b) (drop l.x-index l.names) (give n (value_of l.c) xs p) (dates n (value_of l.c) l.round.present xs p l.initial.tables.since.now))

@@ -1,4 +1,4 @@
--- `inference::one_pass` meets its contract: what is left to do makes the whole. The measure is the number left.
+-- `inference::one_pass` meets its contract: what is left to do makes the whole.
 -- Assumes nothing.
 use mathlib.Core.Path.{◌≡◌}
 use Prim.Native.Nat.{ℕ, ◌-◌}
@@ -18,4 +18,4 @@ use Rattle.inference.proofs.one_pass.Given as goal
 abbrev pub invariant-loop-i : goal.invariant-loop-i
 invariant-loop-i l =
     Kept l.initial.tables l.tables
-    × ((n : Node) (es : List Equation) (q : ℕ) (clocks : Clocks) → Marked l.round.marks.now l.round.source.now.names (ports n) → Ended l.round.source.now.names (tokens_of l.round.source.now) l.fn.equations.at l.fn.equations.count l.ends → times l.fn.equations.count (equation l.round.source.now.names) (tokens_of l.round.source.now) l.fn.equations.at ≡ got es q → Agrees l.initial.tables.env.now l.round.source.now.names clocks → Calms n l.initial.tables.since.now (l.round.present - 1) clocks es → Going l.round.source.now.names (tokens_of l.round.source.now) n es l.round.present l.fn.equations.at l.tables.env.now l.tables.since.now l.changed l.fn.equations.count l.i l.place q (pass n es (record { changed = false; clocks = clocks })))
+    × ((n : Node) (es : List Equation) (q : ℕ) (clocks : Clocks) → Marked l.round.marks.now l.round.source.now.names (ports n) → Ended l.round.source.now.names (tokens_of l.round.source.now) l.fn.equations.at l.fn.equations.count l.ends → times l.fn.equations.count (equation l.round.source.now.names) (tokens_of l.round.source.now) l.fn.equations.at ≡ got es q → Agrees l.initial.tables.env.now l.round.source.now.names clocks → Calms n l.initial.tables.since.now (l.round.present - 1) clocks es → Going l.round n es l.fn.equations.at l.tables l.changed l.fn.equations.count l.i l.place q (pass n es (record { changed = false; clocks = clocks })))

@@ -7,7 +7,8 @@ use lib.ListN.{length, drop, length-append}
 use Rattle.std.specs.Iterator.Adapters.{zip_first, zip_second}
 use Rattle.std.specs.Slice.Iter.{iter_rest}
 use Rattle.std.proofs.lemmas.Slice.Zip.{zip_turn}
-use Rattle.inference.proofs.Scan.{Here, here-of, all-left, left-all, left-on, left-none, left-found}
+use Rattle.std.proofs.lemmas.List.{take_rest}
+use Rattle.inference.proofs.Scan.{Here, here-of, left-all, left-on, left-none, left-found}
 use Rattle.inference.proofs.scanned.Goals as goal
 use Rattle.inference.proofs.scanned.Goals.{After-gives}
 
@@ -16,8 +17,8 @@ here : (c : After-gives) → Here c.args.input.now.source.tags.now c.args.input.
 here c =
     let s = c.args.input.now.source in
     let n = c.min-from.result in
-    let first : iter_rest (zip_first c.into_iter-tag-iterator.result) ≡ drop n s.tags.now = ap (λ z. iter_rest (zip_first z)) c.into_iter-tag-iterator.ensures.into_iter_gives ∙ (ap iter_rest c.zip-tag-items.ensures.first ∙ (c.iter.ensures.rest ∙ all-left s.tags.now n)) in
-    let second : iter_rest (zip_second c.into_iter-tag-iterator.result) ≡ drop n s.values.now = ap (λ z. iter_rest (zip_second z)) c.into_iter-tag-iterator.ensures.into_iter_gives ∙ (ap iter_rest c.zip-tag-items.ensures.second ∙ (c.iter-2.ensures.rest ∙ all-left s.values.now n)) in
+    let first : iter_rest (zip_first c.into_iter-tag-iterator.result) ≡ drop n s.tags.now = ap (λ z. iter_rest (zip_first z)) c.into_iter-tag-iterator.ensures.into_iter_gives ∙ (ap iter_rest c.zip-tag-items.ensures.first ∙ (c.iter.ensures.rest ∙ take_rest s.tags.now n)) in
+    let second : iter_rest (zip_second c.into_iter-tag-iterator.result) ≡ drop n s.values.now = ap (λ z. iter_rest (zip_second z)) c.into_iter-tag-iterator.ensures.into_iter_gives ∙ (ap iter_rest c.zip-tag-items.ensures.second ∙ (c.iter-2.ensures.rest ∙ take_rest s.values.now n)) in
     here-of s.tags.now s.values.now c.args.at n _ _ _ c.min-from.ensures (zip_turn _ _ c.loop-tag.yielded c.into_iter-tag-iterator.result c.loop-tag.tag-iterator c.next.new.self c.next.result first second c.loop-tag.yielded_by (c.in-Some.field-0-0, c.in-Some.field-0-1) c.in-Some.is c.next.ensures.steps)
 
 pub loop-tag-init : goal.loop-tag-init

@@ -6,9 +6,9 @@ use Rattle.listings.proofs.listing_in.Goals as goal
 
 pub returns-in_err-told-clause-given : goal.returns-in_err-told-clause-given
 returns-in_err-told-clause-given c = λ i s r. let e = err_from_is_err_and c.from_residual.result c.from_residual.ensures.1 in
-    rw (e.1, e.2) (listing-turned _ _ _ _ _ i _ _ _ (c.in_err-told.ensures.node_told i _ s.tree r.clocks))
+    rw (e.1, e.2) (listing-turned _ _ _ i _ _ _ (c.in_err-told.ensures.node_told i _ s.tree r.clocks))
 
 pub returns-clause-given : goal.returns-clause-given
 returns-clause-given c = λ i s r.
-    let z = node-there _ _ _ _ _ i _ _ (c.in_ok-told.ensures.node_told i _ s.tree r.clocks) in
+    let z = node-there _ _ _ i _ _ (c.in_ok-told.ensures.node_told i _ s.tree r.clocks) in
     listing-given _ i _ _ z.0 _ _ _ s.named z.3 z.1 (given _ _ _ _ (c.put_clocked.ensures z.0 z.2 (list-kept c.clock_at.ensures.same_room r).chains (short-of s)))

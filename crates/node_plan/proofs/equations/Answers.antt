@@ -4,8 +4,9 @@ use mathlib.Core.Path.{refl}
 use native.Mathlib.Omega.{arith}
 use Rattle.std.proofs.Common.{rules}
 use Rattle.std.proofs.lemmas.Result.{err_from_is_err_and}
+use Rattle.findings.proofs.Laws.{ok-told}
 use Rattle.plan.proofs.Walk.{sized, still-then}
-use Rattle.node_plan.proofs.Noting.{equations-none, equations-met, equations-step, err-told, ok-told}
+use Rattle.node_plan.proofs.Noting.{equations-none, equations-met, equations-step, err-told}
 use Rattle.findings.specs.declared.Found.{Found}
 use Rattle.node_plan.proofs.equations.Goals as goal
 

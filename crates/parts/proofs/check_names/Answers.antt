@@ -3,10 +3,10 @@ use Rattle.parts.proofs.Laws.{sum-answer, bad-answer, good-answer}
 use Rattle.parts.proofs.check_names.Goals as goal
 
 pub returns-then-total-sizes : goal.returns-then-total-sizes
-returns-then-total-sizes c = sum-answer c.args.sheet.now c.args.sizes c.requires _ _ c.lengths_of-lengths.ensures.value c.letters_of-letters.ensures.value _ c.total.ensures c.if-total-sizes.true
+returns-then-total-sizes c = sum-answer c.args.sheet.sized c.lengths-lengths.ensures.value c.letters-letters.ensures.value c.total.ensures c.if-total-sizes.true
 
 pub returns-in-Some : goal.returns-in-Some
-returns-in-Some c = bad-answer c.args.sheet.now c.args.sizes c.requires _ _ c.lengths_of-lengths.ensures.value c.letters_of-letters.ensures.value _ c.total.ensures c.if-total-sizes.false _ c.in-Some.ensures
+returns-in-Some c = bad-answer c.args.sheet.sized c.lengths-lengths.ensures.value c.letters-letters.ensures.value c.total.ensures c.if-total-sizes.false _ c.in-Some.ensures
 
 pub returns-in-None : goal.returns-in-None
-returns-in-None c = good-answer c.args.sheet.now c.args.sizes c.requires _ _ c.lengths_of-lengths.ensures.value c.letters_of-letters.ensures.value _ c.total.ensures c.if-total-sizes.false c.in-None.ensures
+returns-in-None c = good-answer c.args.sheet.sized c.lengths-lengths.ensures.value c.letters-letters.ensures.value c.total.ensures c.if-total-sizes.false c.in-None.ensures

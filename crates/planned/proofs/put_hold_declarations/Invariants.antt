@@ -17,4 +17,4 @@ use Rattle.planned.proofs.put_hold_declarations.Given as goal
 
 abbrev pub invariant-loop-j : goal.invariant-loop-j
 invariant-loop-j l =
-    (W : Writer) (plan : List ℕ) (hs : List Hold) (ids : Ids) → length hs ≡ length l.written.holds.now → HeldFrom l.written.index.now.source.names l.written.index.now.source.tags.now l.written.index.now.source.values.now W plan l.written.holds.now 0 hs → Declares l.written.index.now.source.names (tokens_of l.written.index.now.source) l.written.types.now (declared W.node) → ((j : ℕ) → ids.hold j ≡ get_or l.written.hold_ids.now j 0) → Left l.written.index.now.source.names l.written.index.now.source.tags.now l.written.index.now.source.values.now W plan l.written.holds.now (hold_declarations ids) (emits l.initial.output (hold_declarations ids 0 hs)) l.output (length l.written.holds.now) l.j
+    (W : Writer) (plan : List ℕ) (hs : List Hold) (ids : Ids) → length hs ≡ length l.written.holds.now → HeldFrom l.written.index.now.source.names l.written.index.now.source.tags.now l.written.index.now.source.values.now W plan l.written.holds.now 0 hs → Declares l.written.index.now.source.names (tokens_of l.written.index.now.source) l.written.types.now (declared W.node) → ((j : ℕ) → ids.hold j ≡ get_or l.written.ids.holds.now j 0) → Left l.written.index.now.source.names l.written.index.now.source.tags.now l.written.index.now.source.values.now W plan l.written.holds.now (hold_declarations ids) (emits l.initial.output (hold_declarations ids 0 hs)) l.output (length l.written.holds.now) l.j

@@ -16,4 +16,4 @@ use Rattle.planned.proofs.put_hold_equations.Given as goal
 
 abbrev pub invariant-loop-j : goal.invariant-loop-j
 invariant-loop-j l =
-    (W : Writer) (hs : List Hold) (ids : Ids) → length hs ≡ length l.written.holds.now → WriterStands l.written W → HeldFrom l.written.index.now.source.names l.written.index.now.source.tags.now l.written.index.now.source.values.now W l.written.plan.now l.written.holds.now 0 hs → ((j : ℕ) → ids.hold j ≡ get_or l.written.hold_ids.now j 0) → Left l.written.index.now.source.names l.written.index.now.source.tags.now l.written.index.now.source.values.now W l.written.plan.now l.written.holds.now (hold_equations ids) (emits l.initial.output (hold_equations ids 0 hs)) l.output (length l.written.holds.now) l.j
+    (W : Writer) (hs : List Hold) (ids : Ids) → length hs ≡ length l.written.holds.now → WriterStands l.written W → HeldFrom l.written.index.now.source.names l.written.index.now.source.tags.now l.written.index.now.source.values.now W l.written.plan.now l.written.holds.now 0 hs → ((j : ℕ) → ids.hold j ≡ get_or l.written.ids.holds.now j 0) → Left l.written.index.now.source.names l.written.index.now.source.tags.now l.written.index.now.source.values.now W l.written.plan.now l.written.holds.now (hold_equations ids) (emits l.initial.output (hold_equations ids 0 hs)) l.output (length l.written.holds.now) l.j

@@ -1,16 +1,23 @@
--- `query::write_faults` meets its contract: the faults of the first rows are in the list. Assumes nothing.
+-- `query::write_faults` meets its contract: the faults before those that are left are in the list. Assumes nothing.
+use Prim.Native.Nat.{◌≤◌}
 use mathlib.Core.Path.{refl, ◌∙◌}
-use native.Mathlib.Omega.{arith}
-use Rattle.findings.proofs.Laws.{not-fault}
-use Rattle.query.proofs.Entries.{faults-none, fault-written, fault-passed}
+use Rattle.std.proofs.Common.{rules}
+use Rattle.spelling.specs.Writing.{last_place}
+use Rattle.query.proofs.Entries.{faults-none, fault-written, faults-all, faults-few}
 use Rattle.query.proofs.write_faults.Goals as goal
-use Rattle.query.proofs.write_faults.Goals.{in-Fault, in_default}
 
-pub loop-i-init : goal.loop-i-init
-loop-i-init c = (refl, faults-none _ _ _ _ refl refl)
+pub loop-found-init : goal.loop-found-init
+loop-found-init c = (refl, rw (c.into_iter-found-iterator.ensures.into_iter_gives, c.faults-found-items.ensures) (faults-none _ _ _ _ refl refl))
 
-pub loop-i-preserved : goal.loop-i-preserved
-loop-i-preserved c = elim c.match-finding_at.branch [
-  | in-Fault w ↦ rw w.list-is (w.push.ensures.same ∙ c.loop-i.invariant.0, fault-written _ _ _ _ _ c.loop-i.invariant.1 _ w.in-Fault.ensures _ _ refl (omega (arith, c.loop-i-test.true)) w.push.ensures)
-  | in_default w ↦ rw w.list-is (c.loop-i.invariant.0, fault-passed _ _ _ _ _ c.loop-i.invariant.1 _ c.finding_at.ensures (not-fault _ w.in_default.not-Fault))
-]
+pub loop-found-preserved : goal.loop-found-preserved
+loop-found-preserved c =
+    let many : c.args.findings.count ≤ last_place = search rules in
+    (c.push.ensures.same ∙ c.loop-found.invariant.0, fault-written _ _ _ _ _ _ _ (faults-few c.args.findings.words.now c.args.findings.count many) (rw c.in-Some.ensures.steps at c.loop-found.invariant.1) c.push.ensures)
+
+pub returns-clause-value : goal.returns-clause-value
+returns-clause-value c = (faults-all _ _ _ _ (rw c.in-None.ensures.steps.0 at c.loop-found.invariant.1)).0
+
+pub returns-clause-list_after : goal.returns-clause-list_after
+returns-clause-list_after c =
+    let put = (faults-all _ _ _ _ (rw c.in-None.ensures.steps.0 at c.loop-found.invariant.1)).1 in
+    search (rules, put)

@@ -3,7 +3,6 @@
 use mathlib.Core.Path.{◌≡◌}
 use mathlib.Core.List.{List}
 use Prim.Native.Nat.{ℕ}
-use lib.ListN.{length}
 use Rattle.definitions.specs.Tree.{Node}
 use Rattle.definitions.specs.Reading.{got, times}
 use Rattle.definitions.specs.Grammar.{node}
@@ -18,4 +17,4 @@ use Rattle.query.proofs.write_listings.Given as goal
 abbrev pub invariant-loop-i : goal.invariant-loop-i
 invariant-loop-i l =
     (l.text.out.ghost_name ≡ l.initial.text.out.ghost_name) × SameRoom l.initial.working l.working
-    × ((ns : List Node) (q : ℕ) → times l.fn.nodes.count (node l.fn.named.source.names) (tokens_of l.fn.named.source) l.fn.nodes.at ≡ got ns q → RoomToList l.fn.named.source.names (length l.fn.named.source.tags.now) l.initial.working → Short l.fn.named → Putting l.fn.named.source (letters_in l.fn.named.spelling) l.fn.nodes.count l.i-iterator.count q l.i-iterator.iter l.initial.text l.text (clockings 0 ns))
+    × ((ns : List Node) (q : ℕ) → times l.fn.nodes.count (node l.fn.named.source.names) (tokens_of l.fn.named.source) l.fn.nodes.at ≡ got ns q → RoomToList l.fn.named.source l.initial.working → Short l.fn.named → Putting l.fn.named.source (letters_in l.fn.named.spelling) l.fn.nodes.count l.i-iterator.count q l.i-iterator.iter l.initial.text l.text (clockings 0 ns))

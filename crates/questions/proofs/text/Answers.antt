@@ -1,12 +1,12 @@
 -- `questions::text` meets its contract. Assumes nothing.
-use mathlib.Core.Logic.{⊎_elim}
+use lib.ListN.{length}
 use Rattle.std.proofs.Common.{rules, of_calls}
-use Rattle.questions.proofs.Asked.{text-down, text-called}
+use Rattle.definitions.specs.Answer.{text_answer}
 use Rattle.workspace.proofs.Kept.{to-plan}
+use Rattle.fault_text.specs.Texts.{text_of}
+use Rattle.questions.proofs.Asked.{letters-asked}
 use Rattle.questions.proofs.text.Goals as goal
 
 pub returns : goal.returns
-returns c = ⊎_elim
-    (λ d. text-down _ _ _ _ d.told d.answer (search rules) _ _)
-    (λ u. text-called _ _ _ _ u.call.read.reading _ _ (search (rules, of_calls, u.call.called, u.call.read.standing, u.call.read.lengths, to-plan u.call.room u.call.read.standing.few-tokens)))
-    c.ask.ensures
+unfolding text_answer
+returns c = letters-asked (λ i. text_of i c.args.node c.args.fault (length c.args.out.now)) c.ask.ensures (λ d. search rules) (λ u. search (rules, of_calls, u.call.called, u.call.read.standing, u.call.read.lengths, to-plan u.call.room u.call.read.standing.few-tokens))

@@ -15,12 +15,12 @@ loop-i-init c = (refl, refl, fill_none c.args.lengths.now _)
 pub overflow_add-at : goal.overflow_add-at
 overflow_add-at c =
     let l = c.loop-i in
-    record { fits = omega (arith, start-within c.args.lengths.now (l.i + 1), start-next c.args.lengths.now c.args.lengths.now l.i, c.requires.lengths_bound, l.invariant.0) }
+    record { fits = omega (arith, start-within c.args.lengths.now (l.i + 1), start-next c.args.lengths.now l.i, c.requires.lengths_bound, l.invariant.0) }
 
 pub loop-i-preserved : goal.loop-i-preserved
 loop-i-preserved c =
     let l = c.loop-i in
-    (omega (arith, start-next c.args.lengths.now c.args.lengths.now l.i, l.invariant.0), simp length-set l.invariant.1, fill_more c.args.lengths.now _ l.i l.at _ (omega (arith, c.loop-i-test.true)) l.invariant.0 l.invariant.2)
+    (omega (arith, start-next c.args.lengths.now l.i, l.invariant.0), simp length-set l.invariant.1, fill_more c.args.lengths.now _ l.i l.at _ (omega (arith, c.loop-i-test.true)) l.invariant.0 l.invariant.2)
 
 pub returns : goal.returns
 returns c =

@@ -1,30 +1,29 @@
 -- `spelling::find_name` meets its contract. Assumes nothing.
-use mathlib.Core.Path.{◌≡◌, refl, ap}
+use mathlib.Core.Path.{◌≡◌, ap}
 use mathlib.Core.Logic.{inl}
 use native.Mathlib.Omega.{arith}
 use lib.ListN.{length}
-use Rattle.definitions.specs.Bytes.{cut}
+use Prim.Native.Nat.{◌+◌}
+use Rattle.parts.proofs.Walked.{to_give}
 use Rattle.definitions.specs.Output.{id_of}
-use Rattle.spelling.proofs.Places.{cut-length}
+use Rattle.parts.proofs.Cuts.{cut-count}
 use Rattle.spelling.proofs.Table.{id-first, id-later}
 use Rattle.spelling.proofs.find_name.Goals as goal
+use Rattle.spelling.proofs.find_name.Goals.{After-into_iter-i-iterator}
+
+-- all names are left
+all : (c : goal.After-into_iter-i-iterator) → c.into_iter-i-iterator.result.count + length (to_give c.into_iter-i-iterator.result) ≡ length c.args.names.lengths.now
+all c =
+    let e = c.enumerate-i-items.ensures in
+    rw (c.into_iter-i-iterator.ensures.into_iter_gives, e.count, e.source) (omega (arith, cut-count c.args.names.lengths.now c.args.names.letters.now))
 
 pub loop-i-init-derived : goal.loop-i-init-derived
-loop-i-init-derived c =
-    let w = c.into_iter-i-iterator.result in
-    let g = c.into_iter-i-iterator.ensures.into_iter_gives in
-    let n : w.count ≡ 0 = rw (g, c.enumerate-i-items.ensures.count) refl in
-    let m : length (cut w.iter.lengths.now w.iter.letters.now) ≡ length c.args.names.lengths.now = rw (g, c.enumerate-i-items.ensures.source) (cut-length c.args.names.lengths.now c.args.names.letters.now) in
-    ((tt, tt, inl (omega (arith, n, m, c.ranges.names.0))), tt)
+loop-i-init-derived c = ((tt, tt, inl (omega (arith, all c, c.ranges.names.0))), tt)
 
 pub loop-i-init : goal.loop-i-init
 loop-i-init c =
-    let g = c.into_iter-i-iterator.ensures.into_iter_gives in
     let e = c.enumerate-i-items.ensures in
-    record {
-      sought = rw (g, e.count, e.source) (omega arith);
-      counted = rw (g, e.count, e.source) (omega arith);
-    }
+    record { sought = rw (c.into_iter-i-iterator.ensures.into_iter_gives, e.count, e.source) (omega arith); counted = all c }
 
 pub returns-then-eq-clause-value : goal.returns-then-eq-clause-value
 returns-then-eq-clause-value c =
@@ -34,7 +33,7 @@ returns-then-eq-clause-value c =
 pub returns-then-eq-clause-in_bounds : goal.returns-then-eq-clause-in_bounds
 returns-then-eq-clause-in_bounds c =
     let s = c.in-Some.ensures.steps in
-    omega (arith, s.1, c.loop-i.invariant.counted, ap length s.0, cut-length c.args.names.lengths.now c.args.names.letters.now)
+    omega (arith, s.1, c.loop-i.invariant.counted, ap length s.0)
 
 pub loop-i-preserved : goal.loop-i-preserved
 loop-i-preserved c =
@@ -48,4 +47,4 @@ loop-i-preserved c =
 pub returns-clause-value : goal.returns-clause-value
 returns-clause-value c =
     let e = c.in-None.ensures.steps.0.0 in
-    omega (arith, c.loop-i.invariant.sought, c.loop-i.invariant.counted, ap (λ l. id_of l c.args.name.now) e, ap length e, cut-length c.args.names.lengths.now c.args.names.letters.now)
+    omega (arith, c.loop-i.invariant.sought, c.loop-i.invariant.counted, ap (λ l. id_of l c.args.name.now) e, ap length e)

@@ -3,4 +3,4 @@ use Rattle.index.proofs.CalleesLaws.{lent-has}
 use Rattle.index.proofs.Index.has_default.Goals as goal
 
 pub returns : goal.returns
-returns c = λ types t q k h e. lent-has c.type_table.result c.args.self.now c.type_table.ensures _ _ _ c.type_has_default.ensures types t q k h e
+returns c = lent-has c.type_table.result c.args.self.now c.type_table.ensures _ _ c.type_has_default.ensures

@@ -1,4 +1,4 @@
--- `type_table` meets its contract: the index lends its own. Assumes nothing.
+-- `type_table` meets its contract; without these the check finds it, but edit `table_names` would meet no fact. Assumes nothing.
 use mathlib.Core.Path.{refl}
 use Rattle.index.proofs.Index.type_table.Goals as goal
 

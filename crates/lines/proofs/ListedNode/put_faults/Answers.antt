@@ -1,15 +1,12 @@
--- `lines::ListedNode::put_faults` meets its contract: the lines of the faults of the first rows. Assumes nothing.
-use mathlib.Core.Path.{refl}
-use Rattle.findings.proofs.Laws.{not-fault}
-use Rattle.lines.proofs.Laws.{faults-none, fault-line, fault-pass}
+-- `lines::ListedNode::put_faults` meets its contract: with the lines of the faults that are left, those of all are put. Assumes nothing.
+use Rattle.lines.proofs.Spelled.{spells_then, spells_none}
 use Rattle.lines.proofs.ListedNode.put_faults.Goals as goal
-use Rattle.lines.proofs.ListedNode.put_faults.Goals.{in-Fault, in_default}
 
-pub loop-i-init : goal.loop-i-init
-loop-i-init c = faults-none _ _ _
+pub loop-found-init : goal.loop-found-init
+loop-found-init c = λ w s. rw (c.into_iter-found-iterator.ensures.into_iter_gives, c.faults-found-items.ensures, c.findings.ensures.words_value, c.findings.ensures.count_value) at s
 
-pub loop-i-preserved : goal.loop-i-preserved
-loop-i-preserved c = elim c.match-finding_at.branch [
-  | in-Fault w ↦ rw w.lines-is (fault-line _ _ _ c.loop-i.i _ w.in-Fault.ensures _ _ refl refl c.loop-i.invariant w.put_fault_line.ensures)
-  | in_default w ↦ rw w.lines-is (fault-pass _ _ _ c.loop-i.i _ c.finding_at.ensures (not-fault _ w.in_default.not-Fault) c.loop-i.invariant)
-]
+pub loop-found-preserved : goal.loop-found-preserved
+loop-found-preserved c = λ w s. c.loop-found.invariant w (rw c.in-Some.ensures.steps (spells_then c.put_fault_line.ensures s))
+
+pub returns : goal.returns
+returns c = c.loop-found.invariant _ (rw c.in-None.ensures.steps.0 (spells_none _))

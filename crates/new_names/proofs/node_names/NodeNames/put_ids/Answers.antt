@@ -21,5 +21,6 @@ returns-clause-firsts c =
 pub returns-clause-holds : goal.returns-clause-holds
 returns-clause-holds c = c.put_stem_ids-3.ensures ∙ ids-cut (names_of c.args.table.now) hold c.args.self.now.hold_numbers _ _ c.args.self.now.holds (omega arith) c.held-holds.ensures.value c.held-holds.ensures.counted
 
+-- The check finds this alone. It stands here so that an edit is refused by it.
 pub returns-clause-condact : goal.returns-clause-condact
 returns-clause-condact c = c.id_of-ids.ensures

@@ -1,11 +1,10 @@
 -- The lines of a node's listing, one behind another. Assumes nothing.
 use mathlib.Core.Path.{◌≡◌, refl, sym, ◌∙◌, ap}
-use mathlib.Core.List.{List, [], ◌∷◌, ◌++◌, map, append_assoc, append-nil}
+use mathlib.Core.List.{List, [], ◌∷◌, ◌++◌, map}
 use mathlib.Core.Option.{Option}
 use Prim.Native.Nat.{ℕ, suc, ◌+◌, ◌<◌}
-use native.Mathlib.Omega.{arith}
 use native.Mathlib.Numerals.{add-one}
-use lib.ListN.{length, get_or, take, length-append, length-map}
+use lib.ListN.{length, get_or, take, length-map}
 use lib.Seq.{take-suc}
 use Rattle.std.proofs.lemmas.List.{map-append}
 use Rattle.definitions.specs.Lists.{join, numbered, Letters}
@@ -17,7 +16,7 @@ use Rattle.definitions.specs.Answer.{node_clocks, node_listing}
 use Rattle.shapes.proofs.Formed.{clocked}
 use Rattle.clock_tables.specs.Value.{value_of}
 use Rattle.clock_tables.specs.declared.clock.Clock as value
-use Rattle.std.specs.Prelude.{Some, None}
+use Rattle.std.specs.Prelude.{Some}
 use Rattle.findings.specs.Findings.{findings_in}
 use Rattle.spelling.specs.Places.{letters_in}
 use Rattle.chain_order.specs.Order.{row_of, ordered_clocks}
@@ -26,15 +25,14 @@ use Rattle.definitions.specs.Output.{ClockedNode}
 use Rattle.skeleton.specs.Sites.{EquationsOn}
 use Rattle.spelling.specs.Written.{Wrote}
 use Rattle.spelling.specs.declared.text_writer.TextWriter.{TextWriter}
-use Rattle.spelling.proofs.Writers.{wrote_as, wrote_none}
 use Rattle.lines.specs.Pieces.{head_line, equation_line, chain_line}
 use Rattle.lines.specs.declared.ListedNode.{ListedNode}
 use Rattle.lines.specs.declared.NamedText.{NamedText}
 use Rattle.lines.specs.Spelled.{Spells}
 use Rattle.lines.specs.Listed.{Lists, AreChains, listed}
-use Rattle.lines.specs.Walk.{GivesClock, ClocksLeft}
+use Rattle.lines.specs.Walk.{GivesClock}
 use Rattle.lines.specs.declared.equation_clocks.EquationClocks.{EquationClocks}
-use Rattle.lines.proofs.Walks.{clocks-next, clocks-end}
+use Rattle.lines.proofs.Walks.{Walked, walked-more}
 use Rattle.lines.proofs.Listing.{put-numbered}
 use Rattle.lines.proofs.Spelled.{spells_then, spells_as, spells_none, line_more, listing_spelled}
 
@@ -76,36 +74,12 @@ module _ (clocks : Clocks) where
       ap (λ (l : List Clocked). length (map (λ (c : Clocked). c.clock) l)) a.4 ∙ ap suc (clocked-many es a.1 a.3)
 
 -- the lines so far, and the equations left; all clocks are `all`
-pub record Lines (line : ℕ → Clock → Letters) (i : ℕ) (s : EquationClocks) (w w₁ : TextWriter) (all : List Clock) : Type 0 where
-  pub rest : List Clock
-  pub so_far : List Clock
-  pub left : ClocksLeft rest s
-  pub many : i ≡ length so_far
-  pub whole : so_far ++ rest ≡ all
-  pub lines : Wrote (join (numbered line 0 so_far)) w w₁
+abbrev pub Lines : (ℕ → Clock → Letters) → TextWriter → TextWriter → List Clock → ℕ → EquationClocks → Type 0
+Lines line w w₁ all i s = Walked all (λ cs. Wrote (join (numbered line 0 cs)) w w₁) i s
 
-module _ (line : ℕ → Clock → Letters) (w : TextWriter) (all : List Clock) where
-  pub lines_start : (i : ℕ) (s : EquationClocks) → i ≡ 0 → ClocksLeft all s → Lines line i s w w all
-  lines_start i s z h = record { rest = all; so_far = []; left = h; many = z; whole = refl; lines = wrote_none w }
-
-  module _ {i : ℕ} {s : EquationClocks} {w₁ : TextWriter} (h : Lines line i s w w₁ all) (t : EquationClocks) where
-    pub lines_step : (n j : ℕ) (c : value.Clock) {w₂ : TextWriter} → GivesClock s (Some c) t → j ≡ i → n ≡ i + 1 → Wrote (line j (value_of c)) w₁ w₂ → Lines line n t w w₂ all
-    lines_step n j c g e k u =
-        let v = value_of c in
-        let r = clocks-next h.left t c g in
-        record {
-          rest = r.0;
-          so_far = h.so_far ++ (v ∷ []);
-          left = r.2;
-          many = simp length-append (omega (arith, h.many, k));
-          whole = append_assoc h.so_far (v ∷ []) r.0 ∙ (ap (λ x. h.so_far ++ x) (sym r.1) ∙ h.whole);
-          lines = put-numbered line h.so_far j v (e ∙ h.many) h.lines u;
-        }
-
-    pub lines_end : GivesClock s None t → Wrote (join (numbered line 0 all)) w w₁
-    lines_end g =
-        let z : h.so_far ≡ all = sym (append-nil h.so_far) ∙ (ap (λ x. h.so_far ++ x) (sym (clocks-end h.left t g)) ∙ h.whole) in
-        wrote_as (ap (λ (l : List Clock). join (numbered line 0 l)) z) h.lines
+pub lines_step : (line : ℕ → Clock → Letters) (w : TextWriter) (all : List Clock) {i : ℕ} {s : EquationClocks} {w₁ : TextWriter} (h : Lines line w w₁ all i s) (t : EquationClocks) (n j : ℕ) (c : value.Clock) {w₂ : TextWriter}
+    → GivesClock s (Some c) t → j ≡ i → n ≡ i + 1 → Wrote (line j (value_of c)) w₁ w₂ → Lines line w w₂ all n t
+lines_step line w all h t n j c g e k u = walked-more h t n c g k (put-numbered line h.so_far j (value_of c) (e ∙ h.many) h.holds u)
 
 -- ---- a node
 -- as many clocks as the node has equations

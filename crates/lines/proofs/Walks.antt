@@ -1,9 +1,9 @@
 -- What a walk over the clocks of equations gives. Assumes nothing.
-use Prim.Native.Nat.{ℕ}
-use mathlib.Core.Path.{◌≡◌, refl, sym, ◌∙◌, ap}
-use mathlib.Core.List.{List, [], ◌∷◌, map}
+use Prim.Native.Nat.{ℕ, ◌+◌}
+use mathlib.Core.Path.{◌≡◌, refl, sym, subst, ◌∙◌, ap}
+use mathlib.Core.List.{List, [], ◌∷◌, ◌++◌, map, append_assoc, append-nil}
 use native.Mathlib.Omega.{arith}
-use lib.ListN.{length}
+use lib.ListN.{length, length-append}
 use Rattle.std.specs.Prelude.{Some, None}
 use Rattle.definitions.specs.Clock as clocks
 use Rattle.definitions.specs.InferClocks.{Clocked}
@@ -41,3 +41,33 @@ module _ {cs : List clocks.Clock} {s : EquationClocks} (h : ClocksLeft cs s) (t 
       go : (l : List Clocked) → length l ≡ s.left → clocks_of l ≡ cs → cs ≡ []
       go [] m e = sym e
       go (x ∷ l) m e = absurd (omega (arith, m, g.0))
+
+-- a walk so far: the clocks that it gave, of which this holds, and those left; with these they are all
+pub record Walked (all : List clocks.Clock) (P : List clocks.Clock → Type 0) (i : ℕ) (s : EquationClocks) : Type 0 where
+  pub rest : List clocks.Clock
+  pub so_far : List clocks.Clock
+  pub left : ClocksLeft rest s
+  pub many : i ≡ length so_far
+  pub whole : so_far ++ rest ≡ all
+  pub holds : P so_far
+
+module _ {all : List clocks.Clock} {P : List clocks.Clock → Type 0} {i : ℕ} {s : EquationClocks} where
+  pub walked-none : i ≡ 0 → ClocksLeft all s → P [] → Walked all P i s
+  walked-none z h p = record { rest = all; so_far = []; left = h; many = z; whole = refl; holds = p }
+
+  module _ (h : Walked all P i s) (t : EquationClocks) where
+    pub walked-more : {Q : List clocks.Clock → Type 0} (n : ℕ) (c : Clock) → GivesClock s (Some c) t → n ≡ i + 1 → Q (h.so_far ++ (value_of c ∷ [])) → Walked all Q n t
+    walked-more n c g k q =
+        let v = value_of c in
+        let r = clocks-next h.left t c g in
+        record {
+          rest = r.0;
+          so_far = h.so_far ++ (v ∷ []);
+          left = r.2;
+          many = simp length-append (omega (arith, h.many, k));
+          whole = append_assoc h.so_far (v ∷ []) r.0 ∙ (ap (λ x. h.so_far ++ x) (sym r.1) ∙ h.whole);
+          holds = q;
+        }
+
+    pub walked-all : GivesClock s None t → P all
+    walked-all g = subst P (sym (append-nil h.so_far) ∙ (ap (λ x. h.so_far ++ x) (sym (clocks-end h.left t g)) ∙ h.whole)) h.holds

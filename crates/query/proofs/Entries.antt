@@ -1,6 +1,6 @@
 -- Entries written over the front of a lent list, one after another. Assumes nothing.
 use mathlib.Core.Path.{◌≡◌, refl, sym, ◌∙◌, ap}
-use mathlib.Core.List.{List, [], ◌∷◌, ◌++◌, map, append_assoc, append-nil}
+use mathlib.Core.List.{List, [], ◌∷◌, ◌++◌, map}
 use mathlib.Core.Bool.{Bool, true, false}
 use Prim.Native.Nat.{ℕ, zero, suc, ◌+◌, ◌*◌, ◌/◌, ◌≤◌, ◌<◌}
 use native.Mathlib.Omega.{arith}
@@ -15,7 +15,7 @@ use Rattle.definitions.specs.InferClocks.{Clocked, Finding, NodeFault, chains, c
 use Rattle.definitions.specs.Output.{ClockedNode}
 use Rattle.definitions.specs.declared.FaultRecord.{FaultRecord}
 use Rattle.definitions.specs.Answer.{fault_record, node_clocks}
-use Rattle.std.specs.Prelude.{Some, None}
+use Rattle.std.specs.Prelude.{Some}
 use Rattle.grammar.specs.declared.source.Source.{Source}
 use Rattle.shapes.proofs.Facts.{over-long}
 use Rattle.clock_tables.specs.declared.clock.Clock as value
@@ -23,8 +23,8 @@ use Rattle.clock_tables.specs.Value.{value_of}
 use Rattle.lines.specs.declared.ToldNode.{ToldNode}
 use Rattle.lines.specs.ToldClocks.{NodeWithClocks}
 use Rattle.lines.specs.declared.equation_clocks.EquationClocks.{EquationClocks}
-use Rattle.lines.specs.Walk.{GivesClock, ClocksLeft}
-use Rattle.lines.proofs.Walks.{clocks-next, clocks-end}
+use Rattle.lines.specs.Walk.{GivesClock}
+use Rattle.lines.proofs.Walks.{Walked, walked-more}
 use Rattle.lines.proofs.Laws.{node-many}
 use Rattle.query.specs.declared.NodeCounts.{NodeCounts}
 use Rattle.clock_tables.specs.Flat.{clock_words, with_clock}
@@ -137,37 +137,12 @@ module _ (f : ℕ → Clock) (chain : List ℕ) (cs : List Clock) (h : map f cha
 
 -- ---- the clocks of equations
 -- those left, and those written
-pub record Entered (all : List Clock) (lent : List ℕ) (i : ℕ) (s : EquationClocks) (now : List ℕ) : Type 0 where
-  pub rest : List Clock
-  pub so_far : List Clock
-  pub left : ClocksLeft rest s
-  pub many : i ≡ length so_far
-  pub whole : so_far ++ rest ≡ all
-  pub entered : now ≡ clocks_over so_far lent
+abbrev pub Entered : List Clock → List ℕ → ℕ → EquationClocks → List ℕ → Type 0
+Entered all lent i s now = Walked all (λ cs. now ≡ clocks_over cs lent) i s
 
-module _ (all : List Clock) (lent : List ℕ) where
-  pub entered-none : (i : ℕ) (s : EquationClocks) → i ≡ 0 → ClocksLeft all s → Entered all lent i s lent
-  entered-none i s z h = record { rest = all; so_far = []; left = h; many = z; whole = refl; entered = clocks-none [] lent }
-
-  module _ {i : ℕ} {s : EquationClocks} {now : List ℕ} (h : Entered all lent i s now) (t : EquationClocks) where
-    pub entered-more : (n j : ℕ) (c : value.Clock) (after : List ℕ) → GivesClock s (Some c) t → j ≡ i → n ≡ i + 1
-        → (17 * j + 17 ≤ length now → after ≡ with_clock (17 * j) (value_of c) now) → (length now < 17 * j + 17 → after ≡ now) → Entered all lent n t after
-    entered-more n j c after g e k put kept =
-        let v = value_of c in
-        let r = clocks-next h.left t c g in
-        record {
-          rest = r.0;
-          so_far = h.so_far ++ (v ∷ []);
-          left = r.2;
-          many = simp length-append (omega (arith, h.many, k));
-          whole = append_assoc h.so_far (v ∷ []) r.0 ∙ (ap (λ (x : List Clock). h.so_far ++ x) (sym r.1) ∙ h.whole);
-          entered = clock-behind h.so_far v lent j now after (e ∙ h.many) put kept h.entered;
-        }
-
-    pub entered-all : GivesClock s None t → now ≡ clocks_over all lent
-    entered-all g =
-        let z : h.so_far ≡ all = sym (append-nil h.so_far) ∙ (ap (λ (x : List Clock). h.so_far ++ x) (sym (clocks-end h.left t g)) ∙ h.whole) in
-        h.entered ∙ ap (λ (l : List Clock). clocks_over l lent) z
+pub entered-more : (all : List Clock) (lent : List ℕ) {i : ℕ} {s : EquationClocks} {now : List ℕ} (h : Entered all lent i s now) (t : EquationClocks) (n j : ℕ) (c : value.Clock) (after : List ℕ) → GivesClock s (Some c) t → j ≡ i → n ≡ i + 1
+    → (17 * j + 17 ≤ length now → after ≡ with_clock (17 * j) (value_of c) now) → (length now < 17 * j + 17 → after ≡ now) → Entered all lent n t after
+entered-more all lent {now = now} h t n j c after g e k put kept = walked-more h t n c g k (clock-behind h.so_far (value_of c) lent j now after (e ∙ h.many) put kept h.holds)
 
 -- ---- faults
 -- one record more behind others that stand over the front of a list, if there is a place for it

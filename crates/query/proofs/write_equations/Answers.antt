@@ -1,11 +1,12 @@
 -- `query::write_equations` meets its contract: the clocks so far are written, and the others left. Assumes nothing.
 use mathlib.Core.Path.{◌∙◌, ap}
-use Rattle.lines.proofs.Walks.{clocks-begin}
-use Rattle.query.proofs.Entries.{entered-none, entered-more, entered-all}
+use mathlib.Core.List.{[]}
+use Rattle.lines.proofs.Walks.{clocks-begin, walked-none, walked-all}
+use Rattle.query.proofs.Entries.{clocks-none, entered-more}
 use Rattle.query.proofs.write_equations.Goals as goal
 
 pub loop-i-init : goal.loop-i-init
-loop-i-init c = λ all h. entered-none all _ _ _ (ap (λ s. s.count) c.into_iter-i-iterator.ensures.into_iter_gives ∙ c.enumerate-i-items.ensures.count) h
+loop-i-init c = λ all h. walked-none (ap (λ s. s.count) c.into_iter-i-iterator.ensures.into_iter_gives ∙ c.enumerate-i-items.ensures.count) h (clocks-none [] _)
 
 pub loop-i-preserved : goal.loop-i-preserved
 loop-i-preserved c = let steps = c.in-Some.ensures.steps in
@@ -13,4 +14,4 @@ loop-i-preserved c = let steps = c.in-Some.ensures.steps in
 
 pub returns : goal.returns
 returns c = λ M cs q g h. let e = c.enumerate-i-items.ensures in
-    entered-all _ _ (c.loop-i.invariant _ (rw (c.into_iter-i-iterator.ensures.into_iter_gives, e.source, c.equation_clocks.ensures) (clocks-begin M cs q _ g h))) _ c.in-None.ensures.steps.0
+    walked-all (c.loop-i.invariant _ (rw (c.into_iter-i-iterator.ensures.into_iter_gives, e.source, c.equation_clocks.ensures) (clocks-begin M cs q _ g h))) _ c.in-None.ensures.steps.0

@@ -1,11 +1,12 @@
 -- `lines::ListedNode::put_equations` meets its contract: the lines so far, and the clocks left. Assumes nothing.
 use mathlib.Core.Path.{refl, ◌∙◌, ap}
-use Rattle.lines.proofs.Walks.{clocks-begin}
-use Rattle.lines.proofs.Laws.{lines_start, lines_step, lines_end}
+use Rattle.spelling.proofs.Writers.{wrote_none}
+use Rattle.lines.proofs.Walks.{clocks-begin, walked-none, walked-all}
+use Rattle.lines.proofs.Laws.{lines_step}
 use Rattle.lines.proofs.ListedNode.put_equations.Goals as goal
 
 pub loop-i-init : goal.loop-i-init
-loop-i-init c = (record { names = refl; same = refl; out = refl }, λ all h. lines_start _ _ all _ _ (ap (λ s. s.count) c.into_iter-i-iterator.ensures.into_iter_gives ∙ c.enumerate-i-items.ensures.count) h)
+loop-i-init c = (record { names = refl; same = refl; out = refl }, λ all h. walked-none (ap (λ s. s.count) c.into_iter-i-iterator.ensures.into_iter_gives ∙ c.enumerate-i-items.ensures.count) h (wrote_none _))
 
 pub loop-i-preserved : goal.loop-i-preserved
 loop-i-preserved c =
@@ -23,5 +24,5 @@ returns-clause-spelled c = λ M cs q g h.
     record {
       names = kept.names;
       same = kept.same;
-      wrote = lines_end _ _ _ (c.loop-i.invariant.1 _ (rw (c.into_iter-i-iterator.ensures.into_iter_gives, e.source, c.equation_clocks.ensures) (clocks-begin M cs q _ g h))) _ c.in-None.ensures.steps.0;
+      wrote = walked-all (c.loop-i.invariant.1 _ (rw (c.into_iter-i-iterator.ensures.into_iter_gives, e.source, c.equation_clocks.ensures) (clocks-begin M cs q _ g h))) _ c.in-None.ensures.steps.0;
     }

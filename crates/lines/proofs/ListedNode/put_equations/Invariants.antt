@@ -11,4 +11,4 @@ use Rattle.lines.proofs.ListedNode.put_equations.Given as goal
 abbrev pub invariant-loop-i : goal.invariant-loop-i
 invariant-loop-i l =
     Stays l.initial.lines l.lines
-    × ((all : List Clock) → ClocksLeft all l.initial.i-iterator.iter → Lines (equation_line (letters_in l.initial.lines.spelling)) l.i-iterator.count l.i-iterator.iter l.initial.lines.text.now l.lines.text.now all)
+    × ((all : List Clock) → ClocksLeft all l.initial.i-iterator.iter → Lines (equation_line (letters_in l.initial.lines.spelling)) l.initial.lines.text.now l.lines.text.now all l.i-iterator.count l.i-iterator.iter)

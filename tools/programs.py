@@ -134,7 +134,7 @@ def weights(root, crates):
 
 def prove(root, programs, progress, screen):
     """Runs `rt` for each program and shows how far it is; its lines are kept, and a refusal is told with where the prover's words are."""
-    screen.say('proving and building the programs, once: fifteen to twenty minutes on two cores, less if some of it is there')
+    screen.say('proving and building the programs, once: fifteen to thirty minutes by the machine, less if some of it is there')
     with open(os.path.join(root, 'target', 'declock.log'), 'wb') as kept:
         for program in programs:
             status = proved(root, program, progress, screen, kept)

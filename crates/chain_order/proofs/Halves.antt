@@ -1,4 +1,4 @@
--- Where a clock goes among ordered rows, by the answer of a binary search.
+-- Where a clock goes among ordered rows, by halves.
 -- Assumes nothing.
 use mathlib.Core.Path.{◌≡◌, refl, sym, ◌∙◌, ap}
 use mathlib.Core.List.{List}
@@ -6,17 +6,12 @@ use mathlib.Core.Bool.{Bool, true, false}
 use Prim.Native.Nat.{ℕ, zero, suc, ◌+◌, ◌≤◌, ◌<◌, Ordering}
 use native.Mathlib.Omega.{arith}
 use native.Mathlib.Numerals.{add-one}
-use lib.ListN.{length, get_or, take}
-use lib.Seq.{length-take-le}
+use lib.ListN.{get_or}
 use lib.Dec.{eqb, ltb}
 use borrow.Author.Tests.{eqb-true, eqb-false, ltb-true, ltb-false}
-use Rattle.std.proofs.Common.{Result, Ok, Err}
+use Rattle.std.proofs.Common.{Ok, Err}
 use Rattle.std.specs.declared.cmp.Ordering as cmp
 use Rattle.std.specs.declared.cmp.Ordering.TheVariants.{Less, Equal, Greater}
-use Rattle.std.specs.Ordering.{ordering_index}
-use Rattle.std.specs.List.Sorted.{IsNonDecreasingBy, IsBinarySearchResult, IsSearchInRange}
-use Rattle.std.proofs.lemmas.List.Sorted.{IsNonDecreasingBy-from_default}
-use Rattle.std.proofs.lemmas.List.{get_or-take}
 use Rattle.definitions.specs.Lists.{Letters}
 use Rattle.definitions.specs.Clock.{Clock, chain_order}
 use Rattle.chain_order.specs.Order.{answer_of, row_of, InOrder, Sought}
@@ -40,13 +35,16 @@ answered-more Ordering.eq e = absurd cc
 answered-more Ordering.gt e = refl
 
 module _ (letters : ℕ → Letters) (rows o : List ℕ) (k : ℕ) (c : Clock) where
-  -- a row against the clock, as the search asks
-  abbrev pub asked : ℕ → cmp.Ordering
-  asked y = answer_of (chain_order letters (row_of rows y) c)
-
   -- the clock against row i of the order
   abbrev against : ℕ → Ordering
   against i = chain_order letters c (row_of rows (get_or o i 0))
+
+  -- the clock goes past the first `low` rows, and before row `high`
+  pub record Between (low high : ℕ) : Type 0 where
+    pub ends : low ≤ high
+    pub within : high ≤ k
+    pub past : (i : ℕ) → i < low → against i ≡ Ordering.gt
+    pub under : high < k → against high ≡ Ordering.lt
 
   gone-past : (j : ℕ) → j ≤ k → ((i : ℕ) → i < j → against i ≡ Ordering.gt) → Gone letters rows o k c j
   gone-past zero l h = gone-none letters rows o k c
@@ -54,71 +52,59 @@ module _ (letters : ℕ → Letters) (rows o : List ℕ) (k : ℕ) (c : Clock) w
       let g : Gone letters rows o k c j = gone-past j (omega arith) (λ i u. h i (omega arith)) in
       rw (add-one j) at (gone-more letters rows o k c j g (omega arith) (row_of rows (get_or o j 0)) refl (h j (omega arith)))
 
-  turned : (i : ℕ) {p : Ordering} → chain_order letters (row_of rows (get_or o i 0)) c ≡ p → against i ≡ swap p
-  turned i e = (chain-total letters).swapped (row_of rows (get_or o i 0)) c ∙ ap swap e
+module _ {letters : ℕ → Letters} {rows o : List ℕ} {k : ℕ} {c : Clock} {low high : ℕ} (b : Between letters rows o k c low high) where
+  pub goes-here : high ≤ low → Sought letters rows o k c (Err low)
+  goes-here l = go (ltb low k) refl
+    where
+      go : (t : Bool) → ltb low k ≡ t → Sought letters rows o k c (Err low)
+      go true q =
+          let e : high ≡ low = omega (arith, b.ends) in
+          let m : low < k = ltb-true low k q in
+          sought-less letters rows o k c low (gone-past letters rows o k c low (omega (arith, b.ends, b.within)) b.past) m (row_of rows (get_or o low 0)) refl (rw e at (b.under (omega arith)))
+      go false q =
+          let e : low ≡ k = omega (arith, b.ends, b.within, ltb-false low k q) in
+          rw e (sought-end letters rows o k c low (gone-past letters rows o k c low (omega arith) b.past) (omega arith) (omega arith))
 
-  module _ (s : InOrder letters rows o k) (h : k ≤ length o) where
-    apart : (i j : ℕ) → i < j → j < k → chain_order letters (row_of rows (get_or o j 0)) (row_of rows (get_or o i 0)) ≡ Ordering.gt
-    apart i j l m =
-        let z : 0 + j ≡ j = omega arith in
+  module _ (s : InOrder letters rows o k) (mid : ℕ) (l : low ≤ mid) (m : mid < high) {r : cmp.Ordering} (q : r ≡ answer_of (chain_order letters (row_of rows (get_or o mid 0)) c)) where
+    turned : {p : Ordering} → chain_order letters (row_of rows (get_or o mid 0)) c ≡ p → against letters rows o k c mid ≡ swap p
+    turned e = (chain-total letters).swapped (row_of rows (get_or o mid 0)) c ∙ ap swap e
+
+    apart : (i : ℕ) → i < mid → chain_order letters (row_of rows (get_or o mid 0)) (row_of rows (get_or o i 0)) ≡ Ordering.gt
+    apart i n =
+        let z : 0 + mid ≡ mid = omega arith in
         let y : 0 + i ≡ i = omega arith in
-        rw (z, y) at (rising-at letters rows o 0 k s i j l m)
+        rw (z, y) at (rising-at letters rows o 0 k s i mid n (omega (arith, b.within)))
 
-    -- the answers rise
-    rises-at : (i j : ℕ) → i ≤ j → j < k → ordering_index (asked (get_or o i 0)) ≤ ordering_index (asked (get_or o j 0))
-    rises-at i j l m = go (eqb i j) refl (chain_order letters (row_of rows (get_or o i 0)) c) refl
+    pub first-half : r ≡ Greater → Between letters rows o k c low mid
+    first-half u =
+        record {
+          ends = l;
+          within = omega (arith, b.within);
+          past = b.past;
+          under = λ n. turned (answered-more _ (sym q ∙ u));
+        }
+
+    past-mid : r ≡ Less → (i : ℕ) → i < mid + 1 → against letters rows o k c i ≡ Ordering.gt
+    past-mid u i n = go (eqb i mid) refl
       where
-        go : (t : Bool) → eqb i j ≡ t → (p : Ordering) → chain_order letters (row_of rows (get_or o i 0)) c ≡ p → ordering_index (asked (get_or o i 0)) ≤ ordering_index (asked (get_or o j 0))
-        go true t p e = rw (eqb-true i j t) (omega arith)
-        go false t Ordering.lt e = rw e (omega arith)
-        go false t Ordering.eq e =
-            let n : i ≡ j → ⊥ = eqb-false i j t in
-            let q : chain_order letters (row_of rows (get_or o j 0)) (row_of rows (get_or o i 0)) ≡ Ordering.gt = apart i j (omega arith) m in
-            let a : chain_order letters c (row_of rows (get_or o j 0)) ≡ chain_order letters (row_of rows (get_or o i 0)) (row_of rows (get_or o j 0)) = sym ((chain-total letters).alike (row_of rows (get_or o i 0)) c (row_of rows (get_or o j 0)) e) in
-            let b : chain_order letters (row_of rows (get_or o i 0)) (row_of rows (get_or o j 0)) ≡ Ordering.lt = (chain-total letters).swapped (row_of rows (get_or o j 0)) (row_of rows (get_or o i 0)) ∙ ap swap q in
-            let f : chain_order letters (row_of rows (get_or o j 0)) c ≡ Ordering.gt = (chain-total letters).swapped c (row_of rows (get_or o j 0)) ∙ ap swap (a ∙ b) in
-            rw (e, f) (omega arith)
-        go false t Ordering.gt e =
-            let n : i ≡ j → ⊥ = eqb-false i j t in
-            let q : chain_order letters (row_of rows (get_or o j 0)) (row_of rows (get_or o i 0)) ≡ Ordering.gt = apart i j (omega arith) m in
-            let f : chain_order letters (row_of rows (get_or o j 0)) c ≡ Ordering.gt = (chain-total letters).after (row_of rows (get_or o j 0)) (row_of rows (get_or o i 0)) c q e in
-            rw (e, f) (omega arith)
+        here : against letters rows o k c mid ≡ Ordering.gt
+        here = turned (answered-less _ (sym q ∙ u))
 
-    count : length (take k o) ≡ k
-    count = length-take-le k o h
+        go : (t : Bool) → eqb i mid ≡ t → against letters rows o k c i ≡ Ordering.gt
+        go true w = rw (eqb-true i mid w) here
+        go false w = (chain-total letters).after c (row_of rows (get_or o mid 0)) (row_of rows (get_or o i 0)) here (apart i (omega (arith, eqb-false i mid w)))
 
-    rises : IsNonDecreasingBy (λ y. ordering_index (asked y)) (take k o)
-    rises =
-        IsNonDecreasingBy-from_default (λ y. ordering_index (asked y)) (take k o) 0
-        (λ i j l m. rw (get_or-take k o i 0 (omega (arith, count)), get_or-take k o j 0 (omega (arith, count))) (rises-at i j l (omega (arith, count))))
+    pub last-half : r ≡ Less → Between letters rows o k c (mid + 1) high
+    last-half u =
+        record {
+          ends = omega arith;
+          within = b.within;
+          past = past-mid u;
+          under = b.under;
+        }
 
-    -- rows before one that is alike are before the clock
-    past-alike : (i : ℕ) → i < k → against i ≡ Ordering.eq → (m : ℕ) → m < i → against m ≡ Ordering.gt
-    past-alike i l e m n = (chain-total letters).alike c (row_of rows (get_or o i 0)) (row_of rows (get_or o m 0)) e ∙ apart m i n l
-
-    found : (i : ℕ) → i < k → asked (get_or o i 0) ≡ Equal → Sought letters rows o k c (Ok i)
-    found i l e =
-        let a : against i ≡ Ordering.eq = turned i (answered-same (chain_order letters (row_of rows (get_or o i 0)) c) e) in
-        sought-same letters rows o k c i (gone-past i (omega arith) (past-alike i l a)) l (row_of rows (get_or o i 0)) refl i a
-
-    goes-here : (j : ℕ) → j ≤ k → ((m : ℕ) → m < j → asked (get_or o m 0) ≡ Less) → (j < k → asked (get_or o j 0) ≡ Greater) → Sought letters rows o k c (Err j)
-    goes-here j l p q = go (ltb j k) refl
-      where
-        past : (m : ℕ) → m < j → against m ≡ Ordering.gt
-        past m n = turned m (answered-less (chain_order letters (row_of rows (get_or o m 0)) c) (p m n))
-
-        go : (t : Bool) → ltb j k ≡ t → Sought letters rows o k c (Err j)
-        go true t =
-            let m : j < k = ltb-true j k t in
-            sought-less letters rows o k c j (gone-past j l past) m (row_of rows (get_or o j 0)) refl (turned j (answered-more (chain_order letters (row_of rows (get_or o j 0)) c) (q m)))
-        go false t =
-            let e : j ≡ k = omega (arith, ltb-false j k t) in
-            rw e (sought-end letters rows o k c j (gone-past j l past) (omega arith) (omega arith))
-
-    pub sought : (r : Result ℕ ℕ) → IsSearchInRange r (length (take k o)) → IsBinarySearchResult asked (take k o) r → Sought letters rows o k c r
-    sought (Ok i) l e = let n : i < k = omega (arith, count) in found i n (rw (get_or-take k o i 0 n) at (e 0))
-    sought (Err j) l e =
-        let parts = e rises in
-        goes-here j (omega (arith, count))
-        (λ m n. let u : m < k = omega (arith, count) in rw (get_or-take k o m 0 u) at (parts.0 m 0 (omega arith) n))
-        (λ n. rw (get_or-take k o j 0 n) at (parts.1 j 0 (omega arith) (omega (arith, count))))
+    pub is-there : r ≡ Equal → Sought letters rows o k c (Ok mid)
+    is-there u =
+        let e : against letters rows o k c mid ≡ Ordering.eq = turned (answered-same _ (sym q ∙ u)) in
+        let p : (i : ℕ) → i < mid → against letters rows o k c i ≡ Ordering.gt = λ i n. (chain-total letters).alike c (row_of rows (get_or o mid 0)) (row_of rows (get_or o i 0)) e ∙ apart i n in
+        sought-same letters rows o k c mid (gone-past letters rows o k c mid (omega (arith, b.within)) p) (omega (arith, b.within)) (row_of rows (get_or o mid 0)) refl mid e

@@ -15,6 +15,9 @@ use query::NodeCounts;
 // How many clock faults are told to a caller that lends no list.
 pub const TOLD_CLOCKS: usize = 256;
 
+// The words of one record for each node that a sheet may have, as records lie in memory for callers in C.
+pub const NODE_WORDS: usize = 48;
+
 // Rewriting a sheet: the sheet on one base tick over the front of the lent bytes, and how many bytes it has; or the refusal, which
 // writes no byte, and under 10 alone each faulty node's first fault over the front of the lent list. The second clause is demand 3:
 // every run of a rewritten plain node, kept to each name's clock, is a run of the source node. A contract fixes one type of values;

@@ -414,7 +414,10 @@ impl ClockTable<'_> {
             return self.list().find(c);
         }
         let above = c.parent();
-        self.add_with_parents(above);
+        // Base stands in no row of flags: to look for it would go through all of them.
+        if !above.is_base() {
+            self.add_with_parents(above);
+        }
         self.add(c)
     }
 }

@@ -25,7 +25,6 @@ use grammar::Source;
 use index::Index;
 use lines::NamedText;
 use planned::HeldOperand;
-use query::FoundNode;
 use spelling::{SheetNames, TextWriter};
 use workspace::Working;
 
@@ -53,10 +52,10 @@ pub fn text_in(
 {
     let index = index::index_of(source, names.condact());
     let nodes = index.whole.nodes;
-    let FoundNode { layout, behind } = query::find_node(&index.source, nodes, k, working)?;
+    let found = query::find_node(&index.source, nodes, k, working)?;
     let mut holds = [HeldOperand::default(); MOST_NAMES];
-    let fault = first_faults::fault_in(&index, k, layout, j, working, &mut holds)?;
-    behind?;
+    let fault = first_faults::fault_in(&index, k, found.layout, j, working, &mut holds)?;
+    query::search_behind(&index.source, found, working)?;
     text_found(out, names, fault)
 }
 

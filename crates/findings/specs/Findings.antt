@@ -31,6 +31,12 @@ is_fault (found f) = true
 is_fault (site c) = false
 is_fault too_deep = false
 
+-- is it the clock of a `pre` or `->`?
+abbrev pub is_site : Finding → Bool
+is_site (found f) = false
+is_site (site c) = true
+is_site too_deep = false
+
 -- the findings of n rows, from row i on
 unfoldable pub findings_from : List ℕ → ℕ → ℕ → List Finding
 findings_from t i zero = []

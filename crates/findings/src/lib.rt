@@ -10,7 +10,7 @@ ghost use Rattle.findings.specs.Value.{clock_fault_of, fault_of, node_fault_of, 
 ghost use Rattle.definitions.specs.Lists.{any};
 ghost use Rattle.clock_tables.specs.Flat.{clock_in};
 ghost use Rattle.clock_tables.specs.Grown.{Grown};
-ghost use Rattle.findings.specs.Findings.{fault_in, finding_in, is_fault, findings_in};
+ghost use Rattle.findings.specs.Findings.{fault_in, finding_in, is_fault, is_site, findings_in};
 ghost use Rattle.findings.specs.Met.{Met};
 ghost use Rattle.findings.specs.Walk.{faults_left};
 
@@ -224,8 +224,9 @@ fn clock_at(t: &[u32], i: usize, j: usize) -> Clock
     clock_tables::load(t, ROW.saturating_mul(i).saturating_add(j))
 }
 
-// The fault of a row that has one.
+// The fault of a row that has one. Never inlined, or the padding of its clocks is copied byte by byte, and at each move anew.
 impl From<Row> for ClockFault {
+    #[inline(never)]
     fn from(row: Row) -> ClockFault
         ensures { clock_fault_of result ≡ row_fault row }
     {
@@ -280,24 +281,6 @@ fn fault_in(table: &[u32], i: usize) -> Found
     }
 }
 
-// The finding in row i.
-fn finding_in(table: &[u32], i: usize) -> Finding
-    ensures { finding_of result ≡ finding_in table.now (38 * i) }
-{
-    let kind = word_at(table, i, 0);
-    if kind == SITE {
-        return Finding::Site(clock_at(table, i, EXPECTED));
-    }
-    if DEEP <= kind {
-        return Finding::Deep;
-    }
-    let row = row_in(table, i);
-    Finding::Fault {
-        equation: row.equation,
-        fault: ClockFault::from(row),
-    }
-}
-
 // Is the finding in row i too deep a clock? Its first word says so.
 fn is_deep(table: &[u32], i: usize) -> bool
     ensures { result ≡ is_too_deep (finding_in table.now (38 * i)) }
@@ -310,6 +293,13 @@ fn is_fault(table: &[u32], i: usize) -> bool
     ensures { result ≡ is_fault (finding_in table.now (38 * i)) }
 {
     word_at(table, i, 0) < SITE
+}
+
+// Is the finding in row i the clock of a `pre` or `->`? Its first word says so.
+fn is_site(table: &[u32], i: usize) -> bool
+    ensures { result ≡ is_site (finding_in table.now (38 * i)) }
+{
+    word_at(table, i, 0) == SITE
 }
 
 // Findings in lent words, and how many; a count one past the rows says that there were more findings than rows.
@@ -355,13 +345,6 @@ impl Findings<'_> {
 }
 
 impl<'a> FindingList<'a> {
-    // The finding in row i.
-    fn finding_at(&self, i: usize) -> Finding
-        ensures { finding_of result ≡ finding_in self.now.words.now (38 * i) }
-    {
-        finding_in(self.words, i)
-    }
-
     // Is a clock too deep among them?
     pub fn any_deep(&self) -> bool
         ensures { result ≡ any is_too_deep (findings_in self.now.words.now self.now.count) }
@@ -393,9 +376,10 @@ impl<'a> FindingList<'a> {
     pub fn list_sites(&self, clocks: &mut ClockTable<'_>)
         ensures { Grown (λ cs. cs ++ sites (findings_in self.now.words.now self.now.count)) clocks.old clocks.new }
     {
-        // Stays (proof): two `if`s: at the end of one `if let .. && ..` (tried) no name says that the finding is no site.
         for i in 0..self.count {
-            if let Finding::Site(clock) = self.finding_at(i) {
+            // Only a site's clock is loaded.
+            if is_site(self.words, i) {
+                let clock = clock_at(self.words, i, EXPECTED);
                 if !clock.is_base() {
                     clocks.push(clock);
                 }

@@ -3,7 +3,7 @@
 
 ghost use Rattle.std.specs.Prelude.{◌≡◌, ℕ, ◌+◌, ◌≤◌, ◌<◌};
 ghost use Rattle.std.proofs.Math.Option.{some};
-ghost use Rattle.definitions.specs.Tokens.{type_token_of, definition_token_of, expr_token_of, literal_code, type_code, definition_code, expr_code, tag_of, value_of};
+ghost use Rattle.definitions.specs.Tokens.{type_token_of, definition_token_of, expr_token_of, literal_code, type_code, definition_code, expr_code, primitive_of, tag_of, value_of};
 ghost use Rattle.grammar.specs.Found.{option_of};
 ghost use Rattle.grammar.specs.Pair.{pair};
 
@@ -12,17 +12,37 @@ use definitions::{
     BinOp, DefinitionToken, ExprToken, Literal, Primitive, Token, TypeToken, UnaryOp,
 };
 
-// The first token of a definition that a tag and a value are, if they are one: "10 enum(id), 11 record(id), 12 alias(id)".
+// The token of a tag among these, its id in range: "10 enum(id), 11 record(id), 12 alias(id)".
+#[tactic(auto, unfolding(definitions::specs::Tokens::definition_token_of))]
+fn definition_token(tag: u8, value: u32) -> DefinitionToken
+    requires { (10 ≤ tag) × (tag ≤ 12) }
+    ensures { (M : ℕ) → value < M → definition_token_of M tag value ≡ some result }
+{
+    match tag {
+        tags::ENUM => DefinitionToken::Enum(value),
+        tags::RECORD => DefinitionToken::Record(value),
+        _ => DefinitionToken::Alias(value),
+    }
+}
+
+// The first token of a definition that a tag and a value are, if they are one.
 #[tactic(auto, unfolding(definitions::specs::Tokens::definition_token_of))]
 pub(crate) fn find_definition(names: u32, tag: u8, value: u32) -> Option<DefinitionToken>
     ensures { option_of result ≡ definition_token_of names tag value }
 {
     match tag {
-        tags::ENUM => (value < names).then_some(DefinitionToken::Enum(value)),
-        tags::RECORD => (value < names).then_some(DefinitionToken::Record(value)),
-        tags::ALIAS => (value < names).then_some(DefinitionToken::Alias(value)),
+        tags::ENUM..=tags::ALIAS if value < names => Some(definition_token(tag, value)),
         _ => None,
     }
+}
+
+// "20 to 31 the types Bool to Char in the Rust's order": the type at a place of that order, Bool at 0; the last is what no other is.
+#[tactic(auto, unfolding(definitions::specs::Tokens::primitive_of))]
+fn primitive_at(place: u8) -> Primitive
+    requires { place ≤ 11 }
+    ensures { primitive_of (place + 20) ≡ some result }
+{
+    Primitive::try_from(place).unwrap_or(Primitive::Char)
 }
 
 // The first token of a type that a tag and a value are, if they are one: "32 array(length), 33 named(id)", else a primitive type.
@@ -31,19 +51,19 @@ pub(crate) fn find_type(names: u32, tag: u8, value: u32) -> Option<TypeToken>
     ensures { option_of result ≡ type_token_of names tag value }
 {
     match tag {
-        tags::FIRST_TYPE..=tags::LAST_TYPE if value == 0 => {
-            let primitive = Primitive::try_from(tag - tags::FIRST_TYPE).ok()?;
-            Some(TypeToken::Basic(primitive))
-        }
+        tags::FIRST_TYPE..=tags::LAST_TYPE if value == 0 => Some(TypeToken::Basic(primitive_at(
+            tag - tags::FIRST_TYPE,
+        ))),
         tags::ARRAY_TYPE => Some(TypeToken::Array(value)),
         tags::NAMED_TYPE => (value < names).then_some(TypeToken::Named(value)),
         _ => None,
     }
 }
 
-// The first token of an expression that a tag and a value are, if they are one: "50 bool(0/1)" to "71 fold(id)".
+// The token of a tag among these, if its value is in range: "50 bool(0/1)" to "71 fold(id)".
 #[tactic(auto, unfolding(definitions::specs::Tokens::expr_token_of))]
-pub(crate) fn find_expr(names: u32, tag: u8, value: u32) -> Option<ExprToken>
+fn expr_token(names: u32, tag: u8, value: u32) -> Option<ExprToken>
+    requires { (50 ≤ tag) × (tag ≤ 71) }
     ensures { option_of result ≡ expr_token_of names tag value }
 {
     match tag {
@@ -68,7 +88,17 @@ pub(crate) fn find_expr(names: u32, tag: u8, value: u32) -> Option<ExprToken>
         tags::WHEN_NOT => (value < names).then_some(ExprToken::WhenNot(value)),
         tags::MERGE => (value < names).then_some(ExprToken::Merge(value)),
         tags::MAP => (value < names).then_some(ExprToken::Map(value)),
-        tags::FOLD => (value < names).then_some(ExprToken::Fold(value)),
+        _ => (value < names).then_some(ExprToken::Fold(value)),
+    }
+}
+
+// The first token of an expression that a tag and a value are, if they are one.
+#[tactic(auto, unfolding(definitions::specs::Tokens::expr_token_of))]
+pub(crate) fn find_expr(names: u32, tag: u8, value: u32) -> Option<ExprToken>
+    ensures { option_of result ≡ expr_token_of names tag value }
+{
+    match tag {
+        tags::BOOL..=tags::FOLD => expr_token(names, tag, value),
         _ => None,
     }
 }

@@ -15,7 +15,7 @@ use layout::{Defined, NodeLayout};
 use parts::{Sizes, TokenArrays};
 use sheet::ReadSheet;
 use spelling::{NamedSource, Spelling};
-use std::io::Write;
+use std::io::{Cursor, Write};
 use std::{fmt, io};
 
 // What a type's definition makes.
@@ -124,14 +124,21 @@ fn print_lines(to: &mut impl Write, named: NamedSource<'_>, sizes: Sizes) -> io:
     Ok(())
 }
 
-// The lines of a sheet that is read.
+// The lines of a sheet that is read, written at once: 4,096 bytes are enough for any, and nothing here keeps back what it is given.
 fn report(to: &mut impl Write, read: ReadSheet<'_>) -> io::Result<()> {
     let ReadSheet { sheet, source } = read;
     let spelling = Spelling {
         starts: &spelling::starts_of(sheet),
         letters: sheet.parts.letters(),
     };
-    print_lines(to, NamedSource { spelling, source }, sheet.parts.sizes)
+    let mut lines = Cursor::new([0u8; 4096]);
+    print_lines(
+        &mut lines,
+        NamedSource { spelling, source },
+        sheet.parts.sizes,
+    )?;
+    let n = lines.position() as usize;
+    to.write_all(arguments::front(lines.get_ref(), n))
 }
 
 // The sheet's lines, or what it is refused for.

@@ -118,3 +118,14 @@ module _ (v : Answer Letters) (aside aside' lent : List ℕ) where
         let p : PutText text 0 lent q after = rw y at s.2 in
         let g = le-leb (length text) (length lent) (omega (arith, enough, put_text.2.long)) in
         as-answered after (Ok q) (rw g (record { answer = ap Ok p.long; bytes = p.bytes ∙ over-front text lent }))
+
+    -- and it has as many bytes as were measured
+    pub put-same : (a : Result ℕ Refusal) (after : List ℕ) → TextStands v lent after a → a ≡ Ok m
+    unfolding TextStands
+    put-same (Err r) after s =
+        let x : accepted put_text.0 ≡ refused r = sym put_text.1 ∙ s in
+        absurd cc
+    put-same (Ok q) after s =
+        let x : accepted s.0 ≡ accepted put_text.0 = sym s.1 ∙ put_text.1 in
+        let y : s.0 ≡ put_text.0 = cc in
+        ap Ok (s.2.long ∙ (ap length y ∙ sym put_text.2.long))

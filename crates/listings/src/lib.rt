@@ -150,7 +150,8 @@ pub fn lend_put<F: Fn(&mut [u8], &mut Working<'_>) -> Result<usize, Refusal>>(
     if out.len() < m {
         return Err(Refusal::Lent(m));
     }
-    put(out, working)
+    put(out, working)?;
+    Ok(m)
 }
 
 // The listings of these nodes, over the front of the lent bytes, if these are enough.

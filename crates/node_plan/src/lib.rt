@@ -104,7 +104,7 @@ fn equation(planning: &Planning<'_>, notes: &mut Notes<'_, '_>, at: usize) -> Re
         return Ok(end);
     }
     let c = clock_tables::get(planning.sites, at);
-    let called = typing::called_after(index, c, left.end);
+    let called = typing::shape_after(index, c, left.end).called();
     flagged_fault(planning, left, called)?;
     let gated = gates_right(called, index.condact, left.count);
     flag_equation(notes, c, left.count, gated, at);

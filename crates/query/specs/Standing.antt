@@ -2,7 +2,8 @@
 use Rattle.std.specs.Prelude.{ℕ, ◌+◌, ◌≤◌, ◌<◌, ◌≡◌, ◌⊎◌, List, ◌∷◌, length, take, Result, Ok, Err}
 use Rattle.definitions.specs.declared.Refusal.{Refusal}
 use Rattle.definitions.specs.Tree.{Node}
-use Rattle.definitions.specs.Reading.{got}
+use Rattle.definitions.specs.Reading.{got, times}
+use Rattle.definitions.specs.Grammar as grammar
 use Rattle.definitions.specs.Grammar.{sheet}
 use Rattle.definitions.specs.Refusals.{Answer, accepted, refused, ◌>>=◌}
 use Rattle.definitions.specs.InferClocks.{deep, formed, Clocking, clocking}
@@ -13,7 +14,6 @@ use Rattle.grammar.specs.Read.{tokens_of}
 use Rattle.spelling.specs.declared.names.Spelling.{Spelling}
 use Rattle.spelling.specs.Places.{letters_in}
 use Rattle.layout.specs.Laid.{LaidNode}
-use Rattle.infer_clocks.specs.Clocked.{Deeply}
 use Rattle.lines.specs.declared.ToldNode.{ToldNode}
 use Rattle.lines.specs.ToldClocks.{NodeWithClocks}
 use Rattle.query.specs.declared.FoundNode.{FoundNode}
@@ -30,7 +30,7 @@ pub record Standing (spelling : Spelling) (source : Source) (r : Input) : Type 0
 abbrev pub first_from : ℕ → List Node → Answer ClockedNode
 first_from k ns = clockings k ns >>= λ l. item_at l 0
 
--- node k of a sheet laid out, no clock before it being too deep; and the nodes behind it, or 9 at one of them
+-- node k of a sheet laid out, no clock before it being too deep; and the nodes behind it: the number of the first, and how many are read there
 pub record FoundAt (source : Source) (r : Input) (k : ℕ) (f : FoundNode) : Type 0 where
   pub few : k < length r.sheet.nodes
   pub node : Node
@@ -39,9 +39,10 @@ pub record FoundAt (source : Source) (r : Input) (k : ℕ) (f : FoundNode) : Typ
   pub last : ℕ
   pub laid : LaidNode source.names (tokens_of source) node end f.layout
   pub asked : node_at r k ≡ first_from k (node ∷ rest)
-  pub behind : Deeply last f.behind (clockings (k + 1) rest)
+  pub next : f.next ≡ k + 1
+  pub behind : times f.behind (grammar.node source.names) (tokens_of source) f.layout.end ≡ got rest last
 
--- the same; or 8, as there is no node k; or 9 at a node before it: 9 at one behind it stands in `behind`
+-- the same; or 8, as there is no node k; or 9 at a node before it: 9 at one behind it is told by `search_behind`
 unfoldable pub NodeFound : Source → Input → ℕ → Result FoundNode Refusal → Type 0
 NodeFound source r k (Err e) = (node_at r k ≡ refused e) × (((length r.sheet.nodes ≤ k) × (e ≡ Refusal.Missing)) ⊎ (clockings 0 (take k r.sheet.nodes) ≡ refused e))
 NodeFound source r k (Ok f) = FoundAt source r k f

@@ -26,7 +26,7 @@ ghost use Rattle.infer_clocks.specs.Clocked.{Deeply, SitesTold, ChainRoom};
 ghost use Rattle.workspace.specs.Room.{SameRoom, ChainsStay, Roomy, Ample, RoomToList};
 ghost use Rattle.lines.specs.ToldClocks.{NodeWithClocks};
 ghost use Rattle.lines.specs.Listed.{Lists};
-ghost use Rattle.query.specs.Standing.{ClockedAs, NodeFound, NodeTold};
+ghost use Rattle.query.specs.Standing.{ClockedAs, FoundAt, NodeFound, NodeTold};
 ghost use Rattle.query.specs.Listed.{TextStands, listings_text};
 ghost use Rattle.query.specs.Words.{clocks_over, found_counts, Written};
 
@@ -111,12 +111,12 @@ pub fn clock_laid(
     })
 }
 
-// A node that was asked for: its layout, and where the nodes behind it end, or refusal 9 at the first of them in which too deep a clock is
-// formed.
+// A node that was asked for: its layout, and of the nodes behind it the number of the first and how many there are.
 #[derive(Clone, Copy)]
 pub struct FoundNode {
     pub layout: NodeLayout,
-    pub behind: Result<usize, Refusal>,
+    pub next: u32,
+    pub behind: u32,
 }
 
 // Node k of a sheet, whose nodes stand there; or 8, or refusal 9 at the first before it.
@@ -136,9 +136,25 @@ pub fn find_node(
     }
     let before = k as u32;
     let at = deep_among(source, 0, before, nodes.at, working)?;
-    let layout = layout::node_at(source, at);
-    let behind = deep_among(source, before + 1, n - before - 1, layout.end, working);
-    Ok(FoundNode { layout, behind })
+    Ok(FoundNode {
+        layout: layout::node_at(source, at),
+        next: before + 1,
+        behind: n - before - 1,
+    })
+}
+
+// Where the nodes behind a found node end; or refusal 9 at the first of them in which too deep a clock is formed. Apart from finding it, so
+// that these need not be clocked where the found node itself is refused.
+pub fn search_behind(
+    source: &Source<'_>,
+    found: FoundNode,
+    working: &mut Working<'_>,
+) -> Result<usize, Refusal>
+    ensures same_room { SameRoom working.old working.new }
+    ensures others_stay { ChainsStay working.old working.new }
+    ensures behind { (i : Input) (k : ℕ) (f : FoundAt source.now i k found) → Roomy source.now working.old → Deeply f.last result (clockings (k + 1) f.rest) }
+{
+    deep_among(source, found.next, found.behind, found.layout.end, working)
 }
 
 // Node k laid out and clocked; refusal 8 is told before 9, and 9 in node order. The node is clocked last, so that its clocks stand in the
@@ -153,8 +169,9 @@ pub fn clock_at(
     ensures node_told { (i : Input) (q : ℕ) → sheet source.now.names (tokens_of source.now) 0 ≡ got i.sheet q → Roomy source.now working.old → NodeTold source.now working.new.table.now working.new.sites.now k result (node_at i k) }
 {
     let whole = layout::sheet_at(source);
-    let FoundNode { layout, behind } = find_node(source, whole.nodes, k, working)?;
-    let told = clock_laid(source, layout, k, working)?;
+    let found = find_node(source, whole.nodes, k, working)?;
+    let behind = search_behind(source, found, working);
+    let told = clock_laid(source, found.layout, k, working)?;
     behind?;
     Ok(told)
 }

@@ -66,44 +66,67 @@ pub fn put_refused(text: &mut TextWriter<'_>, r: Refusal)
     text.put_number(place(r));
 }
 
-// What a refusal means, and what to do.
+// What a refusal means, and what to do. Each text is put where it is told apart: lent as slices they would be a table of pointers, which
+// is memory that a program has besides its stack.
 #[tactic(auto, unfolding(definitions::specs::Lists::bytes))]
-fn reason(r: Refusal) -> &'static [u8]
-    ensures { result.now ≡ reason_of r }
+fn put_why(text: &mut TextWriter<'_>, r: Refusal)
+    ensures { Wrote (reason_of r) text.old text.new }
 {
     match r {
-        Refusal::Short => b"the input has fewer than 12 bytes: hand in a whole sheet",
+        Refusal::Short => text.put_all(b"the input has fewer than 12 bytes: hand in a whole sheet"),
         Refusal::Size(_) => {
-            b"a size is outside its limit (place 0: 1,024 names, 1: 16,384 letters, 2: 2 to 4,096 tokens): split the sheet, or make one of a text with tools/sheet read"
+            text.put_all(
+                b"a size is outside its limit (place 0: 1,024 names, 1: 16,384 letters, 2: 2 to 4,096 tokens): split the sheet, or make one of a text with tools/sheet read",
+            )
         }
         Refusal::Length => {
-            b"the length is not 12 + names + letters + 5 x tokens: hand in the whole sheet and nothing more"
+            text.put_all(
+                b"the length is not 12 + names + letters + 5 x tokens: hand in the whole sheet and nothing more",
+            )
         }
         Refusal::Name(_) => {
-            b"this name, counted from 0, repeats an earlier one or is not 1 to 32 letters, digits and _, no digit first; past the last name: the lengths do not sum to the letters"
+            text.put_all(
+                b"this name, counted from 0, repeats an earlier one or is not 1 to 32 letters, digits and _, no digit first; past the last name: the lengths do not sum to the letters",
+            )
         }
         Refusal::Token(_) => {
-            b"this token, counted from 0, is not allowed there or its value is out of range; past the last token: the tokens end early"
+            text.put_all(
+                b"this token, counted from 0, is not allowed there or its value is out of range; past the last token: the tokens end early",
+            )
         }
         Refusal::Limit(_) => {
-            b"at this token, counted from 0, a count, array length or depth is outside its limit: rewrite --help lists the limits"
+            text.put_all(
+                b"at this token, counted from 0, a count, array length or depth is outside its limit: rewrite --help lists the limits",
+            )
         }
         Refusal::Cycle(_) => {
-            b"this type, counted from 0, reaches itself through fields, targets or elements: break the circle"
+            text.put_all(
+                b"this type, counted from 0, reaches itself through fields, targets or elements: break the circle",
+            )
         }
         Refusal::Missing => {
-            b"there is no such node, or the node has no such fault: both are counted from 0; inspect lists the nodes, clocks and rewrite the faults"
+            text.put_all(
+                b"there is no such node, or the node has no such fault: both are counted from 0; inspect lists the nodes, clocks and rewrite the faults",
+            )
         }
         Refusal::Deep(_) => {
-            b"in this node, counted from 0, a clock comes to more than eight conditions: sample it by fewer"
+            text.put_all(
+                b"in this node, counted from 0, a clock comes to more than eight conditions: sample it by fewer",
+            )
         }
         Refusal::Faulty(_) => {
-            b"some node has a fault: mend the first fault of each faulty node, listed below, and rewrite again"
+            text.put_all(
+                b"some node has a fault: mend the first fault of each faulty node, listed below, and rewrite again",
+            )
         }
         Refusal::Large => {
-            b"the rewritten sheet would pass a limit (1,024 names, 16,384 letters, 8,192 tokens): split the sheet"
+            text.put_all(
+                b"the rewritten sheet would pass a limit (1,024 names, 16,384 letters, 8,192 tokens): split the sheet",
+            )
         }
-        Refusal::Lent(_) => b"the bytes lent are too few: lend as many as the place says",
+        Refusal::Lent(_) => text.put_all(
+            b"the bytes lent are too few: lend as many as the place says",
+        ),
     }
 }
 
@@ -113,6 +136,6 @@ pub fn put_reason(text: &mut TextWriter<'_>, r: Refusal)
 {
     put_refused(text, r);
     text.put_all(b": ");
-    text.put_all(reason(r));
+    put_why(text, r);
     text.put(b'\n');
 }

@@ -6,7 +6,7 @@ ghost use Rattle.std.specs.Prelude.{◌≤◌};
 use arguments::Asked;
 use definitions::Refusal;
 use std::io;
-use std::io::Write;
+use std::io::{Cursor, Write};
 
 const HELP: &[u8] =
     b"rewrite [BYTES]: rewrites the sheet on standard input to run on one base tick, to standard output.
@@ -52,10 +52,17 @@ fn show_faults(errors: &mut impl Write, sheet: &[u8]) -> io::Result<()> {
     Ok(())
 }
 
+// `faults COUNT`, written at once.
+fn show_count(errors: &mut impl Write, count: usize) -> io::Result<()> {
+    let mut line = Cursor::new([0u8; 64]);
+    writeln!(line, "faults {count}")?;
+    errors.write_all(arguments::front(line.get_ref(), line.position() as usize))
+}
+
 fn refuse(errors: &mut impl Write, sheet: &[u8], r: Refusal) -> io::Result<()> {
     arguments::refuse(errors, r)?;
     if let Refusal::Faulty(count) = r {
-        writeln!(errors, "faults {count}")?;
+        show_count(errors, count)?;
         show_faults(errors, sheet)?;
     }
     Ok(())

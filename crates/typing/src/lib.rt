@@ -1,4 +1,4 @@
-// The types of names and operands, and what an expression calls after rewriting.
+// The types of names and operands, and what an expression is after rewriting.
 #![tactic(auto)]
 
 ghost use Rattle.std.specs.Prelude.{◌≡◌, List, ◌++◌, ℕ, ◌≤◌, ◌<◌, length, get_or, Some};
@@ -16,7 +16,7 @@ ghost use Rattle.clock_tables.specs.Value.{value_of};
 ghost use Rattle.clock_tables.specs.Words.{place_of};
 ghost use Rattle.index.specs.Indexed.{NodesIn};
 ghost use Rattle.stateless.specs.Yield.{shape_after};
-ghost use Rattle.typing.specs.After.{called_by};
+ghost use Rattle.typing.specs.After.{after_of, called_by};
 
 use clock_tables::Clock;
 use definitions::{ExprToken, Literal, Primitive, TypeToken};
@@ -139,7 +139,27 @@ pub fn type_of(source: &Source<'_>, types: &[u32], at: usize) -> Option<TypeFoun
     }
 }
 
-// ---- What an expression of an accepted sheet calls after rewriting, if it is a call then.
+// ---- What an expression of an accepted sheet is after rewriting: a bare name, a call and of what, or anything else.
+
+// A bare name; a call of this node; anything else.
+#[derive(Clone, Copy)]
+pub enum After {
+    Bare,
+    Other,
+    Calls(u32),
+}
+
+impl After {
+    // What is called, if it is a call.
+    pub fn called(self) -> Option<u32>
+        ensures { result ≡ called_by (after_of self) }
+    {
+        match self {
+            After::Calls(f) => Some(f),
+            _ => None,
+        }
+    }
+}
 
 // What a call of f on this clock calls: on a clock an operator's call is gated.
 fn call_after(index: &Index<'_>, c: Clock, f: u32) -> u32
@@ -154,21 +174,22 @@ fn call_after(index: &Index<'_>, c: Clock, f: u32) -> u32
     f
 }
 
-// What the expression that stands there calls on this clock, if it is a call then: a `when` goes, up to its operand.
-pub fn called_after(index: &Index<'_>, c: Clock, at: usize) -> Option<u32>
-    ensures { (e : Expr) (q : ℕ) (types : List TypeDef) (l : List Node) (node : Node) → tree index.now.source.names (tokens_of index.now.source) at ≡ got e q → NodesIn index.now l → result ≡ called_by (shape_after types l node index.now.condact (value_of c) e) }
+// What the expression that stands there is on this clock: a `when` goes, up to its operand.
+pub fn shape_after(index: &Index<'_>, c: Clock, at: usize) -> After
+    ensures { (e : Expr) (q : ℕ) (types : List TypeDef) (l : List Node) (node : Node) → tree index.now.source.names (tokens_of index.now.source) at ≡ got e q → NodesIn index.now l → after_of result ≡ shape_after types l node index.now.condact (value_of c) e }
 {
     let v = operands::view_at(&index.source, at);
     if v.operands.rest.next <= at {
-        return None;
+        return After::Other;
     }
     let place = v.operands.rest.place(index.source.tags);
     match v.role {
+        Role::Name(_) => After::Bare,
         Role::Sample(_) => {
             let up = c.parent();
-            called_after(index, up, place)
+            shape_after(index, up, place)
         }
-        Role::Call(f) => Some(call_after(index, c, f)),
-        _ => None,
+        Role::Call(f) => After::Calls(call_after(index, c, f)),
+        _ => After::Other,
     }
 }

@@ -418,15 +418,18 @@ fn from_sheet(line: &[u8]) -> &[u8] {
     one
 }
 
-// What an answer says that reading is refused for: `refused NUMBER PLACE` with a number up to 7.
+// A place where an answer names none, which is then answered otherwise.
+const NO_PLACE: usize = 1000;
+
+// What an answer says that reading is refused for: `refused NUMBER PLACE` with a number up to 7; `refused 0 0` says nothing.
 fn listed(answer: &[u8]) -> Option<NumberedPlace> {
     if field(answer) != b"refused".as_slice() {
         return None;
     }
     let numbers = next(answer);
     let number_listed = number(numbers)?;
-    let place = number(next(numbers))?;
-    if 7 < number_listed {
+    let place = number(next(numbers)).unwrap_or(NO_PLACE);
+    if 7 < number_listed || (number_listed == 0 && place == 0) {
         return None;
     }
     Some(NumberedPlace {
@@ -439,7 +442,8 @@ fn listed(answer: &[u8]) -> Option<NumberedPlace> {
 fn check_reading(line: &[u8], refused: bool) -> Verdict {
     let rest = from_sheet(line);
     let want = listed(next(rest));
-    if want.is_some() == refused {
+    let is_refusal = want.is_some_and(|told| told.number != 0);
+    if is_refusal == refused {
         return Some(holds_of_sheet(rest, |listed| reading(listed.sheet) == want));
     }
     None

@@ -3,7 +3,6 @@ use Prim.Native.Nat.{◌<◌}
 use mathlib.Core.Path.{refl}
 use native.Mathlib.Omega.{arith}
 use Rattle.std.proofs.lemmas.Result.{err_from_is_err_and}
-use Rattle.workspace.proofs.Kept.{roomy-kept}
 use Rattle.query.proofs.Nodes.{asked-deep, asked-there, found-none, found-there}
 use Rattle.query.proofs.find_node.Goals as goal
 
@@ -20,7 +19,7 @@ pub returns-clause-node_found : goal.returns-clause-node_found
 returns-clause-node_found c = λ i s r.
     let few : c.args.k < c.args.nodes.count = omega (arith, c.if-n-k.false) in
     let x = asked-there _ _ i c.args.k c.args.nodes.count _ _ _ few refl s.items _ (λ ns p h. c.in_ok-at.ensures.deeply ns p h r) _ refl in
-    let l = c.node_at-layout.ensures x.0 x.1 x.3 in
+    let l = c.node_at.ensures x.0 x.1 x.3 in
     found-there _ i _ _ (record {
       few = omega (arith, few, s.many);
       node = x.0;
@@ -29,5 +28,6 @@ returns-clause-node_found c = λ i s r.
       last = c.args.nodes.end;
       laid = l;
       asked = x.5;
-      behind = c.deep_among-behind.ensures.deeply x.2 _ (rw l.ends x.4) (roomy-kept c.in_ok-at.ensures.same_room r);
+      next = refl;
+      behind = rw l.ends x.4;
     })

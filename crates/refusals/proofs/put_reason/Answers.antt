@@ -5,4 +5,4 @@ use Rattle.refusals.proofs.put_reason.Goals as goal
 
 pub returns : goal.returns
 unfolding bytes
-returns c = wrote_then c.put_refused.ensures (wrote_then c.put_all.ensures (wrote_then (rw c.reason.ensures at c.put_all-2.ensures) c.put.ensures))
+returns c = wrote_then c.put_refused.ensures (wrote_then c.put_all.ensures (wrote_then c.put_why.ensures c.put.ensures))

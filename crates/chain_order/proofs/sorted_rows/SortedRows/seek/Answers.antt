@@ -1,17 +1,23 @@
--- `chain_order::sorted_rows::SortedRows::seek` meets its contract. Assumes nothing.
-use Prim.Native.Nat.{◌-◌}
-use mathlib.Core.Path.{◌≡◌}
+-- `chain_order::sorted_rows::SortedRows::seek` meets its contract. The row goes past the first `low` rows and before row `high`. Assumes nothing.
+use Prim.Native.Nat.{◌-◌, ◌+◌, ◌/◌}
 use native.Mathlib.Omega.{arith}
-use Rattle.std.proofs.Common.{rules, tests}
-use Rattle.std.proofs.lemmas.Fn.{always_returns_same}
-use Rattle.spelling.specs.Places.{letters_in}
-use Rattle.chain_order.specs.Order.{row_of}
-use Rattle.chain_order.proofs.Halves.{asked, sought}
+use Rattle.chain_order.proofs.Halves.{first-half, last-half, is-there, goes-here}
 use Rattle.chain_order.proofs.sorted_rows.SortedRows.seek.Goals as goal
 
+pub loop-low-preserved-in-Less : goal.loop-low-preserved-in-Less
+loop-low-preserved-in-Less c =
+    let l = c.loop-low in
+    last-half l.invariant c.args.self.now.sorted (l.low + (l.high - l.low) / 2) (omega arith) (omega (arith, c.loop-low-test.true)) c.row_order.ensures c.in-Less.is
+
+pub loop-low-preserved : goal.loop-low-preserved
+loop-low-preserved c =
+    let l = c.loop-low in
+    first-half l.invariant c.args.self.now.sorted (l.low + (l.high - l.low) / 2) (omega arith) (omega (arith, c.loop-low-test.true)) c.row_order.ensures c.in-Greater.is
+
+pub returns-in-Equal : goal.returns-in-Equal
+returns-in-Equal c =
+    let l = c.loop-low in
+    is-there l.invariant c.args.self.now.sorted (l.low + (l.high - l.low) / 2) (omega arith) (omega (arith, c.loop-low-test.true)) c.row_order.ensures c.in-Equal.is
+
 pub returns : goal.returns
-returns c =
-    let s = c.args.self.now in
-    let e : s.count - 0 ≡ s.count = omega arith in
-    sought (letters_in s.named.spelling) s.named.rows.now s.order.now s.count (row_of s.named.rows.now c.args.x) s.sorted s.within c.binary_search_by.result (rw e at c.binary_search_by.ensures.bound)
-    (rw e at (c.binary_search_by.ensures.position (asked (letters_in s.named.spelling) s.named.rows.now s.order.now s.count (row_of s.named.rows.now c.args.x)) (always_returns_same _ _ _ (λ x r q k. search (rules, tests)))))
+returns c = goes-here c.loop-low.invariant c.loop-low-test.false

@@ -17,7 +17,7 @@ use parts::TokenArrays;
 use query::NodeCounts;
 use spelling::{Spelling, TextWriter};
 use std::io;
-use std::io::Write;
+use std::io::{Cursor, Write};
 
 // What is said of a line: whether it is answered as listed; nothing, if it is of another kind.
 type Verdict = Option<bool>;
@@ -465,13 +465,20 @@ fn check_asked<F: Fn(&[u8]) -> Option<bool>>(line: &[u8], name: &[u8], check: F)
     }
 }
 
+// `line N is answered otherwise`, written at once.
+fn tell_line(output: &mut impl Write, number: usize) -> io::Result<()> {
+    let mut line = Cursor::new([0u8; 64]);
+    writeln!(line, "line {number} is answered otherwise")?;
+    output.write_all(arguments::front(line.get_ref(), line.position() as usize))
+}
+
 // The tally with one line more, which is told where it is answered otherwise.
 fn add(output: &mut impl Write, t: Tally, v: Verdict, number: usize) -> io::Result<Tally> {
     let Some(is_listed) = v else {
         return Ok(t);
     };
     if !is_listed {
-        writeln!(output, "line {number} is answered otherwise")?;
+        tell_line(output, number)?;
     }
     Ok(Tally {
         all: t.all.saturating_add(1),
@@ -495,7 +502,7 @@ fn replay<W: Write, F: Fn(&[u8]) -> Verdict>(
     Ok(t)
 }
 
-// `N questions, N as listed, N otherwise`, behind what they are about.
+// `N questions, N as listed, N otherwise`, behind what they are about, written at once.
 fn report<W: Write, F: Fn(&[u8]) -> Verdict>(
     output: &mut W,
     list: &[u8],
@@ -506,11 +513,13 @@ fn report<W: Write, F: Fn(&[u8]) -> Verdict>(
 {
     let t = replay(output, list, check)?;
     let listed = t.all.saturating_sub(t.other);
+    let mut line = Cursor::new([0u8; 256]);
     writeln!(
-        output,
+        line,
         "{about}{} questions, {listed} as listed, {} otherwise",
         t.all, t.other
-    )
+    )?;
+    output.write_all(arguments::front(line.get_ref(), line.position() as usize))
 }
 
 // Sheets that the list refuses under 1 to 7, the other sheets, and the three questions.

@@ -12,6 +12,8 @@ use Rattle.definitions.specs.Lists.{choose, any}
 use Rattle.definitions.specs.Clock.{Clock, is_base}
 use Rattle.std.proofs.Math.ListN.{get_elem?}
 use lib.Dec.{eqb, ltb}
+use borrow.Author.Tests.{ne_eqb}
+use Rattle.std.proofs.lemmas.Bool.{le-ltb}
 use Rattle.std.proofs.Common.{rules, tests}
 use Rattle.std.specs.Prelude.{Option, Some, None, Result, Ok, Err, is_ok}
 use Rattle.std.specs.Result.{MatchResult}
@@ -20,8 +22,10 @@ use Rattle.std.specs.Option.{option_map}
 use Rattle.definitions.specs.InferClocks.{NodeFault, Finding, found, site, too_deep, is_too_deep, clock_faults, sites}
 use Rattle.clock_tables.specs.Flat.{clock_in}
 use Rattle.clock_tables.proofs.FlatLaws.{Within, clock-same}
+use Rattle.clock_tables.specs.declared.clock.Clock as clock
+use Rattle.findings.specs.declared.Finding as value
 use Rattle.findings.specs.declared.Found.{Found}
-use Rattle.findings.specs.Value.{node_fault_of, found_of}
+use Rattle.findings.specs.Value.{node_fault_of, found_of, finding_of}
 use Rattle.clock_tables.specs.declared.ClockTable.{ClockTable}
 use Rattle.clock_tables.specs.Grown.{Grown}
 use Rattle.findings.specs.Findings.{fault_in, finding_as, finding_in, is_fault, is_site, findings_from, findings_in, FindingsHeld}
@@ -45,10 +49,17 @@ module _ (t : List ℕ) where
   in-last n = let e : 0 + n ≡ n = omega arith in rw (add-one n) (from_last 0 n ∙ rw e)
 
 -- ---- a row by its kind
--- too deep a clock is a kind past the others
-pub deep-row : (t : List ℕ) (b k : ℕ) (r : Bool) → k ≡ get_or t (b + 0) 0 → (r ≡ true → 6 ≤ k) → (r ≡ false → k < 6) → r ≡ is_too_deep (finding_in t b)
-deep-row t b k true e h g = let m = h refl in search (rules, tests)
-deep-row t b k false e h g = let m = g refl in search (rules, tests)
+-- a kind past the others says too deep a clock
+pub deep-row : (t : List ℕ) (b k : ℕ) → k ≡ get_or t (b + 0) 0 → 6 ≤ k → too_deep ≡ finding_in t b
+deep-row t b k e h =
+    let z : b + 0 ≡ b = omega arith in
+    let f : k ≡ get_or t b 0 = rw z at e in
+    rw (le-ltb (get_or t b 0) 5 (omega (arith, f, h)), ne_eqb (get_or t b 0) 5 (λ q. omega (arith, f, h, q))) refl
+
+-- and no other kind does
+pub deep-kind : (t : List ℕ) (b k : ℕ) (r : Bool) → k ≡ get_or t (b + 0) 0 → (r ≡ true → 6 ≤ k) → (r ≡ false → k < 6) → r ≡ is_too_deep (finding_in t b)
+deep-kind t b k true e h g = ap is_too_deep (deep-row t b k e (h refl))
+deep-kind t b k false e h g = let m = g refl in search (rules, tests)
 
 -- a site's clock is the second of its row
 pub site-row : (t : List ℕ) (b : ℕ) (d : Clock) → d ≡ clock_in t (b + 21) → is_site (finding_in t b) ≡ true → site d ≡ finding_in t b
@@ -179,11 +190,17 @@ module _ (t : List ℕ) where
   any-row i (suc n) = ap (λ (b : Bool). is_too_deep (finding_in t (38 * i)) || b) (any-row (i + 1) n)
 
 -- ---- a finding that is no site
-pub not-site : (f : Finding) → is_site f ≡ false → sites (f ∷ []) ≡ []
+pub no-sites : (f : Finding) → is_site f ≡ false → sites (f ∷ []) ≡ []
 unfolding sites
-not-site (found f) h = refl
-not-site (site c) h = absurd (true≢false h)
-not-site too_deep h = refl
+no-sites (found f) h = refl
+no-sites (site c) h = absurd (true≢false h)
+no-sites too_deep h = refl
+
+-- the same of one by value
+pub not-site : (x : value.Finding) → ((c : clock.Clock) → x ≡ value.Finding.Site c → ⊥) → sites (finding_of x ∷ []) ≡ []
+not-site (value.Finding.Fault i f) h = no-sites _ refl
+not-site (value.Finding.Site c) h = absurd (h c refl)
+not-site value.Finding.Deep h = no-sites _ refl
 
 -- ---- one row more
 module _ (t : List ℕ) (i : ℕ) where

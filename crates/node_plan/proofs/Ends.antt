@@ -138,8 +138,8 @@ module _ (A : Arrays) (condact : ℕ) (same : length A.values ≡ length A.tags)
     }
 
     -- ---- the flag of its clock d, v being what its right side calls and o what it meets
-    module _ (d : Clock) (row : d ≡ clock_in A.sites (17 * p)) (k : is_base (clock_in A.sites (17 * p)) ≡ false) (after : Shape) (v : code.Option ℕ) (called : v ≡ called_by after)
-        (shaped : (e : Expr) (q : ℕ) (types : List TypeDef) (ns : List Node) (node : Node) → tree A.names (tokens A.tags A.values) l.end ≡ got e q → NodesStand A.names A.tags A.values A.places A.nodes ns → after ≡ shape_after types ns node condact d e) (o : Option Fault)
+    module _ (d : Clock) (row : d ≡ clock_in A.sites (17 * p)) (k : is_base (clock_in A.sites (17 * p)) ≡ false) (v : code.Option ℕ)
+        (shaped : (e : Expr) (q : ℕ) (types : List TypeDef) (ns : List Node) (node : Node) → tree A.names (tokens A.tags A.values) l.end ≡ got e q → NodesStand A.names A.tags A.values A.places A.nodes ns → v ≡ called_by (shape_after types ns node condact d e)) (o : Option Fault)
         (meets : (xs : List ℕ) (u : Shape) (types : List TypeDef) (ns : List Node) (node : Node) → v ≡ called_by u → Spans (name A.names) (tokens A.tags A.values) xs l → Typed A types node → o ≡ flagged_fault types ns node condact xs u) where
       clock-is : (c : Clock) (e : Equation) (q : ℕ) → EquationSited A.names A.tags A.values A.sites c e p q → d ≡ c
       clock-is c e q S = row ∙ S.row
@@ -148,7 +148,7 @@ module _ (A : Arrays) (condact : ℕ) (same : length A.values ≡ length A.tags)
       shape_is T c e q K S =
           let t = seen_at e.right refl refl refl S.right in
           let h = subst (λ (u : ℕ). tree A.names (tokens A.tags A.values) u ≡ got e.right q) (sym (stands_at c e q S)) t.1.stands in
-          called ∙ ap called_by (shaped e.right q T.types T.nodes T.node h K.standing ∙ ap (λ (u : Clock). shape_after T.types T.nodes T.node condact u e.right) (clock-is c e q S))
+          shaped e.right q T.types T.nodes T.node h K.standing ∙ ap (λ (u : Clock). called_by (shape_after T.types T.nodes T.node condact u e.right)) (clock-is c e q S)
 
       fault-is : (T : Setting) (end : ℕ) (lay : NodeLayout) → LaidNode A.names (tokens A.tags A.values) T.node end lay → (c : Clock) (e : Equation) (q : ℕ) → Known A T → EquationSited A.names A.tags A.values A.sites c e p q →
           choose (is_base c) none (flagged_fault T.types T.nodes T.node condact e.left (shape_after T.types T.nodes T.node condact c e.right)) ≡ o

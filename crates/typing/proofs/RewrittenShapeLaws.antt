@@ -14,10 +14,17 @@ use Rattle.operands.specs.declared.Role.{Role}
 use Rattle.operands.specs.Role.{role_of_expr}
 use Rattle.defaults.specs.Has.{is_some}
 use Rattle.stateless.specs.Yield.{shape_after}
+use Rattle.std.specs.declared.option.Option.TheVariants.{None}
+use Rattle.typing.specs.After.{called_by}
 
 -- the roles other than those of a name, a `when` and a call
 record Still (ρ : Role) : Type 0 where
   name : (x : ℕ) → ρ ≡ Role.Name x → ⊥
+  sample : (k : Condition) → ρ ≡ Role.Sample k → ⊥
+  call : (f : ℕ) → ρ ≡ Role.Call f → ⊥
+
+-- the roles other than those of a `when` and a call
+record CallsNothing (ρ : Role) : Type 0 where
   sample : (k : Condition) → ρ ≡ Role.Sample k → ⊥
   call : (f : ℕ) → ρ ≡ Role.Call f → ⊥
 
@@ -75,3 +82,18 @@ module _ (types : List TypeDef) (l : List Node) (node : Node) (k : ℕ) (c : Clo
 
   pub other_after : (e : Expr) (v : Role) → v ≡ role_of_expr e → ((x : ℕ) → v ≡ Role.Name x → ⊥) → ((x : Condition) → v ≡ Role.Sample x → ⊥) → ((f : ℕ) → v ≡ Role.Call f → ⊥) → other ≡ shape_after types l node k c e
   other_after e v i n s f = still_after e (record { name = λ x z. n x (i ∙ z); sample = λ x z. s x (i ∙ z); call = λ x z. f x (i ∙ z) })
+
+  -- all else calls nothing
+  nothing_after : (e : Expr) → CallsNothing (role_of_expr e) → None ≡ called_by (shape_after types l node k c e)
+  unfolding role_of_expr shape_after
+  nothing_after (Expr.const x w) h = refl
+  nothing_after (Expr.var x) h = refl
+  nothing_after (Expr.op o es) h = refl
+  nothing_after (Expr.pre a) h = refl
+  nothing_after (Expr.arrow a b) h = refl
+  nothing_after (Expr.call f es) h = absurd (h.call f refl)
+  nothing_after (Expr.when x a) h = absurd (h.sample x refl)
+  nothing_after (Expr.merge x a b) h = refl
+
+  pub none_after : (e : Expr) (v : Role) → v ≡ role_of_expr e → ((x : Condition) → v ≡ Role.Sample x → ⊥) → ((f : ℕ) → v ≡ Role.Call f → ⊥) → None ≡ called_by (shape_after types l node k c e)
+  none_after e v i s f = nothing_after e (record { sample = λ x z. s x (i ∙ z); call = λ x z. f x (i ∙ z) })
